@@ -6,7 +6,7 @@ use Rattle.erl_term.specs.Value.{Value, Values}
 use Rattle.erl_term.specs.Value.Value.{list, tuple}
 use Rattle.erl_term.specs.Value.Values.{no_values, value}
 use Rattle.rel_files.specs.Parts.{list_in, pair_in, three, is_word}
-use Rattle.rel_files.specs.Sketch.{name_in, names_of, version_or_empty}
+use Rattle.rel_files.specs.Sketch.{name_in, names_in, version_or_empty}
 
 -- the pairs, where each is one
 abbrev pub pairs_in : Values → Option (List (Value × Value))
@@ -38,14 +38,10 @@ value_at key pairs = option_map (λ (p : Value × Value). p.1) (find (λ (p : Va
 abbrev pub vsn_in : List (Value × Value) → Option (List ℕ)
 vsn_in pairs = option_and_then version_or_empty (value_at (codes "vsn") pairs)
 
--- [Module]
-abbrev pub modules_in : Value → Option (List (List ℕ))
-modules_in v = option_and_then names_of (list_in v)
-
 -- its modules; none where the key is missing
 abbrev pub modules_at : Option Value → Option (List (List ℕ))
 modules_at None = Some []
-modules_at (Some v) = modules_in v
+modules_at (Some v) = names_in v
 
 -- Module of {Module, Args}
 abbrev pub module_in : Value → Option (List ℕ)

@@ -5,8 +5,8 @@ ghost use Rattle.app_file.specs.InMemory.{specification_of};
 
 use erl_term::Term;
 
-/// How many modules an application has at most.
-pub const MOST_MODULES: usize = 1_024;
+// How many modules an application has at most.
+const MOST_MODULES: usize = 1_024;
 
 /// An application: what a `.app` file says.
 pub struct App {

@@ -3,14 +3,15 @@ ghost use Rattle.std.specs.Prelude.{◌≡◌, IfOk, MatchOption, map, string_by
 ghost use Rattle.std.specs.Option.{option_map};
 ghost use Rattle.erl_term.specs.Value.{value_of};
 ghost use Rattle.rel_files.specs.Name.{AreDistinct, IsFirstTwice};
-ghost use Rattle.app_file.specs.Parts.{entries_in, vsn_in, modules_in, modules_at, names_none, top_in, top_at, module_in, contents, contents_in};
+ghost use Rattle.rel_files.specs.Sketch.{names_in};
+ghost use Rattle.app_file.specs.Parts.{entries_in, vsn_in, modules_at, names_none, top_in, top_at, module_in, contents, contents_in};
 ghost use Rattle.app_file.specs.InMemory.{contents_of};
 
 use crate::pairs::{pairs_in, value_at};
 use erl_term::Term;
 use rel_files::duplicates::first_name_twice;
 use rel_files::parts::{is_word, list_in, pair_in, three};
-use rel_files::text::{name_in, names_of, version_or_empty};
+use rel_files::text::{name_in, names_in, version_or_empty};
 use std::alloc::{AllocError, Global};
 
 // The name of an application, and its keys with their values.
@@ -81,24 +82,13 @@ fn entries_in(alloc: Global, term: &Term) -> Result<Option<Entries<'_>>, AllocEr
     }
 }
 
-// `[Module]`.
-fn modules_in(alloc: Global, term: &Term) -> Result<Option<Vec<String>>, AllocError>
-    ensures { IfOk result (λ modules.
-        option_map (λ v. map string_bytes v.items) modules ≡ modules_in (value_of term.now)) }
-{
-    match list_in(term) {
-        Some(items) => names_of(alloc, items),
-        None => Ok(None),
-    }
-}
-
 // The modules of the key's value; none where the key is missing.
 fn modules_at(alloc: Global, term: Option<&Term>) -> Result<Option<Vec<String>>, AllocError>
     ensures { IfOk result (λ modules. option_map (λ v. map string_bytes v.items) modules
         ≡ modules_at (option_map (λ v. value_of v.now) term.entry)) }
 {
     match term {
-        Some(term) => modules_in(alloc, term),
+        Some(term) => names_in(alloc, term),
         None => Ok(Some(Vec::new(alloc))),
     }
 }

@@ -15,5 +15,5 @@ pub mod laws;
 mod pairs;
 mod reader;
 
-pub use app::{App, MOST_MODULES};
+pub use app::App;
 pub use reader::{app_of_term, read_app};

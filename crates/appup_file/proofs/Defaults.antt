@@ -6,10 +6,10 @@ use Rattle.std.proofs.lemmas.Slice.Eq.{bytes_eq-Decides}
 use Rattle.erl_term.specs.Value.{Value, Values}
 use Rattle.erl_term.specs.Value.Value.{atom, tuple}
 use Rattle.erl_term.specs.Value.Values.{no_values, value}
-use Rattle.rel_files.specs.Sketch.{name_in}
+use Rattle.rel_files.specs.Sketch.{name_in, names_in}
 use Rattle.relup_instruction.specs.Form.{one, timeout_term}
 use Rattle.relup_instruction.specs.declared.instruction.Timeout.TheVariants.{Default}
-use Rattle.relup_instruction.specs.Parts.{one_in, modules_in, over_modules, single_in, tagged_in, instruction_in}
+use Rattle.relup_instruction.specs.Parts.{one_in, over_modules, single_in, tagged_in, instruction_in}
 use Rattle.appup_file.specs.Instruction.{ChangeForm, UpdateForm, AppupInstruction}
 use Rattle.appup_file.specs.Instruction.AppupInstruction.{update, load_module, add_module, delete_module, add_application, low_level}
 use Rattle.appup_file.specs.Form.{update_members, dynamic, brutal, nothing, full_change, full_update, supervisor_members, full_load, full_dependent, full_added, full_members, in_full}
@@ -105,19 +105,19 @@ silent f none (Some a) = none a
 
 -- the five words begin no low-level instruction
 no_update : (vs : Values) → tagged_in (codes "update") vs ≡ None
-no_update vs = silent (single_in (codes "update")) (λ v. silent (over_modules (codes "update")) (λ ns. refl) (modules_in v)) (one_in vs)
+no_update vs = silent (single_in (codes "update")) (λ v. silent (over_modules (codes "update")) (λ ns. refl) (names_in v)) (one_in vs)
 
 no_load_module : (vs : Values) → tagged_in (codes "load_module") vs ≡ None
-no_load_module vs = silent (single_in (codes "load_module")) (λ v. silent (over_modules (codes "load_module")) (λ ns. refl) (modules_in v)) (one_in vs)
+no_load_module vs = silent (single_in (codes "load_module")) (λ v. silent (over_modules (codes "load_module")) (λ ns. refl) (names_in v)) (one_in vs)
 
 no_add_module : (vs : Values) → tagged_in (codes "add_module") vs ≡ None
-no_add_module vs = silent (single_in (codes "add_module")) (λ v. silent (over_modules (codes "add_module")) (λ ns. refl) (modules_in v)) (one_in vs)
+no_add_module vs = silent (single_in (codes "add_module")) (λ v. silent (over_modules (codes "add_module")) (λ ns. refl) (names_in v)) (one_in vs)
 
 no_delete_module : (vs : Values) → tagged_in (codes "delete_module") vs ≡ None
-no_delete_module vs = silent (single_in (codes "delete_module")) (λ v. silent (over_modules (codes "delete_module")) (λ ns. refl) (modules_in v)) (one_in vs)
+no_delete_module vs = silent (single_in (codes "delete_module")) (λ v. silent (over_modules (codes "delete_module")) (λ ns. refl) (names_in v)) (one_in vs)
 
 no_add_application : (vs : Values) → tagged_in (codes "add_application") vs ≡ None
-no_add_application vs = silent (single_in (codes "add_application")) (λ v. silent (over_modules (codes "add_application")) (λ ns. refl) (modules_in v)) (one_in vs)
+no_add_application vs = silent (single_in (codes "add_application")) (λ v. silent (over_modules (codes "add_application")) (λ ns. refl) (names_in v)) (one_in vs)
 
 quiet : (s w : List ℕ) → ((vs : Values) → tagged_in w vs ≡ None) → s ≡ w → (vs ws : Values) → tagged_in s vs ≡ tagged_in s ws
 quiet s w none is vs ws = ap (λ (r : List ℕ). tagged_in r vs) is ∙ (none vs ∙ (sym (none ws) ∙ ap (λ (r : List ℕ). tagged_in r ws) (sym is)))

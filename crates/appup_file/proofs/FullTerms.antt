@@ -8,7 +8,7 @@ use Rattle.erl_term.specs.Value.Values.{no_values, value}
 use Rattle.rel_files.specs.declared.release.StartType.{StartType}
 use Rattle.rel_files.specs.Name.{IsName}
 use Rattle.rel_files.specs.Form.{start_word}
-use Rattle.rel_files.specs.Sketch.{name_in}
+use Rattle.rel_files.specs.Sketch.{name_in, names_in}
 use Rattle.rel_files.proofs.Endings.{start_of-start_word}
 use Rattle.relup_instruction.specs.declared.instruction.Direction.{Direction}
 use Rattle.relup_instruction.specs.declared.instruction.Direction.TheVariants.{Up, Down}
@@ -17,8 +17,8 @@ use Rattle.relup_instruction.specs.declared.instruction.PurgeMode.{PurgeMode}
 use Rattle.relup_instruction.specs.Instruction.{Instruction}
 use Rattle.relup_instruction.specs.Instruction.Instruction.{load_object_code, point_of_no_return, suspend, load, code_change, resume, remove, purge, stop, start, apply, sync_nodes, restart_new_emulator, restart_emulator}
 use Rattle.relup_instruction.specs.Form.{one, command, atoms_term, purge_word, timeout_term, mode_members, instruction_term, IsTimeout}
-use Rattle.relup_instruction.specs.Parts.{modules_in, purge_mode_in}
-use Rattle.relup_instruction.proofs.Pieces.{modules_in-atoms, purge_mode_of-word, timeout_in-term}
+use Rattle.relup_instruction.specs.Parts.{purge_mode_in}
+use Rattle.relup_instruction.proofs.Pieces.{names_in-atoms, purge_mode_of-word, timeout_in-term}
 use Rattle.relup_instruction.proofs.InstructionLemmas.{instruction_in-term}
 use Rattle.appup_file.specs.declared.instruction.ModType.{ModType}
 use Rattle.appup_file.specs.declared.instruction.ModType.TheVariants.{Static, Dynamic}
@@ -57,18 +57,18 @@ full_update_in u timed names =
     ∙ ap (λ (o : Option PurgeMode). option_and_then (with_ending c d) (option_and_then (with_post q) (option_map (λ (x : PurgeMode). record u2 { pre = x }) o))) (purge_mode_of-word u.pre)
     ∙ ap (λ (o : Option PurgeMode). option_and_then (with_ending c d) (option_map (λ (x : PurgeMode). record u3 { post = x }) o)) (purge_mode_of-word u.post)
     ∙ ap (λ (o : Option ChangeForm). option_and_then (with_dep_mods d) (option_map (λ (x : ChangeForm). record u4 { change = x }) o)) (change_in-term u.change)
-    ∙ ap (option_map (λ (ns : List (List ℕ)). record u5 { dep_mods = ns })) (modules_in-atoms u.dep_mods names)
+    ∙ ap (option_map (λ (ns : List (List ℕ)). record u5 { dep_mods = ns })) (names_in-atoms u.dep_mods names)
 
 abbrev pub loaded : List ℕ → PurgeMode → PurgeMode → List (List ℕ) → LoadForm
 loaded name pre post ns = record { name = name; pre = pre; post = post; dep_mods = ns }
 
 full_load_in : (l : LoadForm) → AllByRecursion IsName l.dep_mods → purged_load l.name (atom (purge_word l.pre)) (atom (purge_word l.post)) (atoms_term l.dep_mods) ≡ Some l
 full_load_in l names =
-    let d : Option (List (List ℕ)) = modules_in (atoms_term l.dep_mods) in
+    let d : Option (List (List ℕ)) = names_in (atoms_term l.dep_mods) in
     let q : Option PurgeMode = purge_mode_in (atom (purge_word l.post)) in
     ap (option_and_then (λ (m : PurgeMode). option_and_then (λ (n : PurgeMode). option_map (loaded l.name m n) d) q)) (purge_mode_of-word l.pre)
     ∙ ap (option_and_then (λ (n : PurgeMode). option_map (loaded l.name l.pre n) d)) (purge_mode_of-word l.post)
-    ∙ ap (option_map (loaded l.name l.pre l.post)) (modules_in-atoms l.dep_mods names)
+    ∙ ap (option_map (loaded l.name l.pre l.post)) (names_in-atoms l.dep_mods names)
 
 abbrev pub depending : List ℕ → List (List ℕ) → DependentForm
 depending name ns = record { name = name; dep_mods = ns }
@@ -118,10 +118,10 @@ full (load_module l) h =
     (ap (option_map load_module) (full_load_in l h.1))
 full (add_module d) h =
     named_read (codes "add_module") d.name (one (atoms_term d.dep_mods)) (add_module d) h.0
-    (ap (λ (o : Option (List (List ℕ))). option_map add_module (option_map (depending d.name) o)) (modules_in-atoms d.dep_mods h.1))
+    (ap (λ (o : Option (List (List ℕ))). option_map add_module (option_map (depending d.name) o)) (names_in-atoms d.dep_mods h.1))
 full (delete_module d) h =
     named_read (codes "delete_module") d.name (one (atoms_term d.dep_mods)) (delete_module d) h.0
-    (ap (λ (o : Option (List (List ℕ))). option_map delete_module (option_map (depending d.name) o)) (modules_in-atoms d.dep_mods h.1))
+    (ap (λ (o : Option (List (List ℕ))). option_map delete_module (option_map (depending d.name) o)) (names_in-atoms d.dep_mods h.1))
 full (add_application a) h =
     named_read (codes "add_application") a.name (one (atom (start_word a.start))) (add_application a) h
     (ap (λ (o : Option StartType). option_map add_application (option_map (added a.name) o)) (start_of-start_word a.start))

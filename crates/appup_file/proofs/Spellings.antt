@@ -10,16 +10,16 @@ use Rattle.erl_term.specs.Value.Values.{no_values, value}
 use Rattle.rel_files.specs.declared.release.StartType.TheVariants.{Permanent}
 use Rattle.rel_files.specs.Name.{IsName}
 use Rattle.rel_files.specs.Form.{start_word}
-use Rattle.rel_files.specs.Parts.{pair_in, is_word}
-use Rattle.rel_files.specs.Sketch.{name_in, start_of}
+use Rattle.rel_files.specs.Parts.{pair_in, is_word, word_in}
+use Rattle.rel_files.specs.Sketch.{name_in, start_of, names_in}
 use Rattle.rel_files.proofs.Endings.{from_start}
 use Rattle.rel_files.proofs.Options.{mapped, chained, passed}
 use Rattle.relup_instruction.specs.declared.instruction.Timeout.{Timeout}
 use Rattle.relup_instruction.specs.declared.instruction.Timeout.TheVariants.{Default}
 use Rattle.relup_instruction.specs.declared.instruction.PurgeMode.{PurgeMode}
 use Rattle.relup_instruction.specs.Form.{one, pair_term, atoms_term, purge_word, timeout_term, IsTimeout}
-use Rattle.relup_instruction.specs.Parts.{word_in, modules_in, purge_mode_in, timeout_in, instruction_in}
-use Rattle.relup_instruction.proofs.Pieces.{choose, from_pair, from_word, from_name, from_modules, from_purge_mode, from_timeout}
+use Rattle.relup_instruction.specs.Parts.{purge_mode_in, timeout_in, instruction_in}
+use Rattle.relup_instruction.proofs.Pieces.{choose, from_pair, from_word, from_name, from_names_in, from_purge_mode, from_timeout}
 use Rattle.relup_instruction.proofs.InstructionLemmas.{from_instruction}
 use Rattle.appup_file.specs.declared.instruction.ModType.{ModType}
 use Rattle.appup_file.specs.declared.instruction.ModType.TheVariants.{Static, Dynamic}
@@ -75,7 +75,7 @@ from_typed name k t c p q d u e =
     let q' = mapped (λ (x : PurgeMode). record u3.0 { post = x }) (purge_mode_in q) u4.0 u3.2 in
     let u5 = chained (with_dep_mods d) (with_change c u4.0) u u4.2 in
     let c' = mapped (λ (x : ChangeForm). record u4.0 { change = x }) (change_in c) u5.0 u5.1 in
-    let d' = mapped (λ (x : List (List ℕ)). record u5.0 { dep_mods = x }) (modules_in d) u u5.2 in
+    let d' = mapped (λ (x : List (List ℕ)). record u5.0 { dep_mods = x }) (names_in d) u u5.2 in
     let same =
     ap (λ (x : UpdateForm). record x { dep_mods = d'.0 })
     (ap (λ (x : UpdateForm). record x { change = c'.0 })
@@ -87,7 +87,7 @@ from_typed name k t c p q d u e =
     let ct = from_change c c'.0 c'.1 in
     let pt = from_purge_mode p p'.0 p'.1 in
     let qt = from_purge_mode q q'.0 q'.1 in
-    let dt = from_modules d d'.0 d'.1 in
+    let dt = from_names_in d d'.0 d'.1 in
     subst (IsWritten name (update_members k t c p q d)) same ((λ j. update_members (kt j) (tt'.0 j) (ct j) (pt j) (qt j) (dt.0 j)), refl, tt'.1, dt.1)
 
 -- what stands behind a name is, with defaults, all that is written of an instruction
@@ -134,12 +134,12 @@ from_update name (value k (value t (value c (value p (value q (value d (value x 
 
 of_purged : (name : List ℕ) (p q d : Value) (l : LoadForm) → IsName name → purged_load name p q d ≡ Some l → IsNamed (codes "load_module") name (purge_members p q d) (load_module l)
 of_purged name p q d l h e =
-    let p' = chained (λ (m : PurgeMode). option_and_then (λ (n : PurgeMode). option_map (loaded name m n) (modules_in d)) (purge_mode_in q)) (purge_mode_in p) l e in
-    let q' = chained (λ (n : PurgeMode). option_map (loaded name p'.0 n) (modules_in d)) (purge_mode_in q) l p'.2 in
-    let d' = mapped (loaded name p'.0 q'.0) (modules_in d) l q'.2 in
+    let p' = chained (λ (m : PurgeMode). option_and_then (λ (n : PurgeMode). option_map (loaded name m n) (names_in d)) (purge_mode_in q)) (purge_mode_in p) l e in
+    let q' = chained (λ (n : PurgeMode). option_map (loaded name p'.0 n) (names_in d)) (purge_mode_in q) l p'.2 in
+    let d' = mapped (loaded name p'.0 q'.0) (names_in d) l q'.2 in
     let pt = from_purge_mode p p'.0 p'.1 in
     let qt = from_purge_mode q q'.0 q'.1 in
-    let dt = from_modules d d'.0 d'.1 in
+    let dt = from_names_in d d'.0 d'.1 in
     let P : LoadForm → Type 0 = λ m. IsNamed (codes "load_module") name (purge_members p q d) (load_module m) in
     subst P d'.2 ((λ j. named (codes "load_module") name (purge_members (pt j) (qt j) (dt.0 j))), (h, dt.1))
 
@@ -157,8 +157,8 @@ IsDependent name vs d = (vs ≡ one (atoms_term d.dep_mods)) × (d.name ≡ name
 from_dependent : (name : List ℕ) (vs : Values) (d : DependentForm) → dependent_in name vs ≡ Some d → IsDependent name (full_dependent vs) d
 from_dependent name no_values d e = let same : depending name [] ≡ d = cc in subst (IsDependent name (one nothing)) same (refl, refl, tt)
 from_dependent name (value v no_values) d e =
-    let ns = mapped (depending name) (modules_in v) d e in
-    let read = from_modules v ns.0 ns.1 in
+    let ns = mapped (depending name) (names_in v) d e in
+    let read = from_names_in v ns.0 ns.1 in
     subst (IsDependent name (one v)) ns.2 (ap one read.0, refl, read.1)
 from_dependent name (value v (value w vs)) d e = absurd cc
 

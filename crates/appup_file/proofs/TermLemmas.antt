@@ -7,11 +7,12 @@ use Rattle.erl_term.specs.Value.Value.{list, bin}
 use Rattle.rel_files.specs.Parts.{list_in, pair_in}
 use Rattle.rel_files.proofs.Options.{mapped, chained}
 use Rattle.relup_instruction.specs.Form.{pair_term}
-use Rattle.relup_instruction.specs.Parts.{all_in, version_in}
+use Rattle.relup_instruction.specs.Parts.{all_in}
 use Rattle.relup_instruction.proofs.Pieces.{from_list, from_pair, version_in-text, from_version}
 use Rattle.relup_instruction.proofs.InstructionLemmas.{list_of_values}
 use Rattle.relup_file.specs.Parts.{outer_in}
 use Rattle.relup_file.proofs.RelupLemmas.{outer_in-term, from_outer_in}
+use Rattle.rel_files.specs.Sketch.{version_in}
 use Rattle.appup_file.specs.Instruction.{AppupInstruction, VersionForm, AppupEntryForm, AppupForm}
 use Rattle.appup_file.specs.Instruction.VersionForm.{text, pattern}
 use Rattle.appup_file.specs.Form.{Spells, IsOther, IsEntryTerm, IsAppupTerm}

@@ -7,11 +7,11 @@ use Rattle.erl_term.specs.Value.Value.{atom, list, tuple, bin}
 use Rattle.erl_term.specs.Value.Values.{no_values, value}
 use Rattle.rel_files.specs.declared.release.StartType.{StartType}
 use Rattle.rel_files.specs.declared.release.StartType.TheVariants.{Permanent}
-use Rattle.rel_files.specs.Parts.{list_in, pair_in, is_word}
-use Rattle.rel_files.specs.Sketch.{name_in, start_of}
+use Rattle.rel_files.specs.Parts.{list_in, pair_in, is_word, word_in}
+use Rattle.rel_files.specs.Sketch.{name_in, start_of, version_in, names_in}
 use Rattle.relup_instruction.specs.declared.instruction.Timeout.TheVariants.{Default}
 use Rattle.relup_instruction.specs.declared.instruction.PurgeMode.TheVariants.{Brutal}
-use Rattle.relup_instruction.specs.Parts.{all_in, word_in, version_in, modules_in, purge_mode_in, timeout_in, instruction_in}
+use Rattle.relup_instruction.specs.Parts.{all_in, purge_mode_in, timeout_in, instruction_in}
 use Rattle.relup_file.specs.Parts.{Outer, outer_in}
 use Rattle.appup_file.specs.declared.instruction.ModType.{ModType}
 use Rattle.appup_file.specs.declared.instruction.ModType.TheVariants.{Static, Dynamic}
@@ -46,7 +46,7 @@ abbrev pub with_change : Value → UpdateForm → Option UpdateForm
 with_change v u = option_map (λ c. record u { change = c }) (change_in v)
 
 abbrev pub with_dep_mods : Value → UpdateForm → Option UpdateForm
-with_dep_mods v u = option_map (λ ns. record u { dep_mods = ns }) (modules_in v)
+with_dep_mods v u = option_map (λ ns. record u { dep_mods = ns }) (names_in v)
 
 abbrev pub with_pre : Value → UpdateForm → Option UpdateForm
 with_pre v u = option_map (λ m. record u { pre = m }) (purge_mode_in v)
@@ -101,7 +101,7 @@ update_in name vs = option_map update (update_row vs (plain name))
 -- DepMods, none where they are not written
 abbrev pub dep_mods_in : Values → Option (List (List ℕ))
 dep_mods_in no_values = Some []
-dep_mods_in (value d no_values) = modules_in d
+dep_mods_in (value d no_values) = names_in d
 dep_mods_in vs = None
 
 -- a module that is loaded, with default purge words
@@ -110,12 +110,12 @@ plain_load name ns = record { name = name; pre = Brutal; post = Brutal; dep_mods
 
 abbrev pub purged_load : List ℕ → Value → Value → Value → Option LoadForm
 purged_load name p q d =
-    option_and_then (λ pre. option_and_then (λ post. option_map (λ ns. record { name = name; pre = pre; post = post; dep_mods = ns }) (modules_in d)) (purge_mode_in q)) (purge_mode_in p)
+    option_and_then (λ pre. option_and_then (λ post. option_map (λ ns. record { name = name; pre = pre; post = post; dep_mods = ns }) (names_in d)) (purge_mode_in q)) (purge_mode_in p)
 
 -- what is written behind the module of a load_module
 abbrev pub load_in : List ℕ → Values → Option LoadForm
 load_in name no_values = Some (plain_load name [])
-load_in name (value d no_values) = option_map (plain_load name) (modules_in d)
+load_in name (value d no_values) = option_map (plain_load name) (names_in d)
 load_in name (value p (value q (value d no_values))) = purged_load name p q d
 load_in name vs = None
 

@@ -7,8 +7,8 @@ ghost use Rattle.appup_file.specs.Parts.{start_in, added_in, app_in};
 
 use crate::{AddedApp, AppupInstr};
 use erl_term::Term;
+use rel_files::parts::word_in;
 use rel_files::{StartType, start_of};
-use relup_instruction::members::word_in;
 use std::alloc::{AllocError, Global};
 
 // A start type, permanent where none is written.

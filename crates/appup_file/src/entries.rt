@@ -10,8 +10,8 @@ use crate::steps::row_in;
 use crate::{Appup, AppupEntry, OtherVersion};
 use erl_term::Term;
 use rel_files::parts::{list_in, pair_in};
+use rel_files::text::version_in;
 use relup_file::outline::outer_in;
-use relup_instruction::members::version_in;
 use std::alloc::{AllocError, Global};
 
 // The text of a version, or a binary.

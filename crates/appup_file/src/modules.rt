@@ -2,14 +2,15 @@
 ghost use Rattle.std.specs.Prelude.{◌≡◌, IfOk, map, string_bytes};
 ghost use Rattle.std.specs.Option.{option_map};
 ghost use Rattle.erl_term.specs.Value.{members_of, value_of};
-ghost use Rattle.relup_instruction.specs.Parts.{modules_in};
+ghost use Rattle.rel_files.specs.Sketch.{names_in};
 ghost use Rattle.appup_file.specs.Instruction.{load_of, dependent_of};
 ghost use Rattle.appup_file.specs.Parts.{dep_mods_in, plain_load, purged_load, load_in, dependent_in};
 
 use crate::{Dependent, ModuleLoad};
 use erl_term::Term;
+use rel_files::text::names_in;
 use relup_instruction::PurgeMode;
-use relup_instruction::members::{modules_in, purge_mode_in};
+use relup_instruction::members::purge_mode_in;
 use std::alloc::{AllocError, Global};
 
 // The modules on which it depends, none where they are not written.
@@ -19,7 +20,7 @@ fn dep_mods_in(alloc: Global, row: &[Term]) -> Result<Option<Vec<String>>, Alloc
 {
     match row {
         [] => Ok(Some(Vec::new(alloc))),
-        [dep_mods] => modules_in(alloc, dep_mods),
+        [dep_mods] => names_in(alloc, dep_mods),
         _ => Ok(None),
     }
 }
@@ -54,7 +55,7 @@ fn purged_load(
     let Some(post) = purge_mode_in(post) else {
         return Ok(None);
     };
-    let Some(dep_mods) = modules_in(alloc, dep_mods)? else {
+    let Some(dep_mods) = names_in(alloc, dep_mods)? else {
         return Ok(None);
     };
     Ok(Some(ModuleLoad {
@@ -71,9 +72,9 @@ fn unpurged_load(
     dep_mods: &Term,
 ) -> Result<Option<ModuleLoad>, AllocError>
     ensures { IfOk result (λ o. option_map load_of o
-        ≡ option_map (plain_load name.now) (modules_in (value_of dep_mods.now))) }
+        ≡ option_map (plain_load name.now) (names_in (value_of dep_mods.now))) }
 {
-    match modules_in(alloc, dep_mods)? {
+    match names_in(alloc, dep_mods)? {
         Some(dep_mods) => Ok(Some(ModuleLoad::plain(alloc, name, dep_mods)?)),
         None => Ok(None),
     }

@@ -7,8 +7,9 @@ ghost use Rattle.appup_file.specs.Parts.{advanced_in, change_in, mod_type_of, mo
 
 use crate::{AppupInstr, ModType, StateChange, Update};
 use erl_term::Term;
-use rel_files::parts::{is_word, pair_in};
-use relup_instruction::members::{modules_in, purge_mode_in, timeout_in, word_in};
+use rel_files::parts::{is_word, pair_in, word_in};
+use rel_files::text::names_in;
+use relup_instruction::members::{purge_mode_in, timeout_in};
 use relup_instruction::{PurgeMode, Timeout};
 use std::alloc::{AllocError, Global};
 
@@ -88,7 +89,7 @@ impl Update {
         ensures { IfOk result (λ o.
             option_map update_of o ≡ with_dep_mods (value_of term.now) (update_of self)) }
     {
-        match modules_in(alloc, term)? {
+        match names_in(alloc, term)? {
             Some(dep_mods) => {
                 self.dep_mods = dep_mods;
                 Ok(Some(self))

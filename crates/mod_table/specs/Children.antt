@@ -5,7 +5,7 @@ use Rattle.std.specs.Str.{bytes_eq}
 use Rattle.erl_term.specs.Value.{Value, Values}
 use Rattle.erl_term.specs.Value.Value.{int, atom, list, tuple}
 use Rattle.erl_term.specs.Value.Values.{no_values, value}
-use Rattle.rel_files.specs.Parts.{three}
+use Rattle.rel_files.specs.Parts.{triple_in, word_in}
 use Rattle.rel_files.specs.Sketch.{name_in}
 use Rattle.mod_table.specs.declared.child.Restart.{Restart}
 use Rattle.mod_table.specs.declared.child.Restart.TheVariants.{Permanent, Transient, Temporary}
@@ -13,15 +13,9 @@ use Rattle.mod_table.specs.declared.child.ChildKind.{ChildKind}
 use Rattle.mod_table.specs.declared.child.ChildKind.TheVariants.{Worker, Supervisor}
 use Rattle.mod_table.specs.Table.{ChildSpec}
 
--- the text of an atom
-abbrev pub atom_in : Value → Option (List ℕ)
-atom_in (atom s) = Some s
-atom_in v = None
-
 -- M of {M, F, A}
 abbrev pub start_in : Value → Option (List ℕ)
-start_in (tuple vs) = option_and_then (λ m. name_in m.0) (three vs)
-start_in v = None
+start_in v = option_and_then (λ m. name_in m.0) (triple_in v)
 
 abbrev pub restart_of : List ℕ → Option Restart
 restart_of s =
@@ -31,7 +25,7 @@ restart_of s =
     else None
 
 abbrev pub restart_in : Value → Option Restart
-restart_in v = option_and_then restart_of (atom_in v)
+restart_in v = option_and_then restart_of (word_in v)
 
 -- brutal_kill, infinity or a number from 0
 abbrev pub is_shutdown : Value → Bool
@@ -46,7 +40,7 @@ kind_of s =
     else None
 
 abbrev pub kind_in : Value → Option ChildKind
-kind_in v = option_and_then kind_of (atom_in v)
+kind_in v = option_and_then kind_of (word_in v)
 
 -- whether it is the list of this atom alone
 abbrev pub is_only : List ℕ → Values → Bool
@@ -78,7 +72,7 @@ abbrev pub child_of_parts : ChildParts → Option ChildSpec
 child_of_parts p =
     option_and_then (λ id. option_and_then (λ start. option_and_then (λ restart. option_and_then (λ kind.
     if is_shutdown p.shutdown && lists_only start p.modules then Some (record { id = id; start = start; restart = restart; kind = kind }) else None)
-    (kind_in p.kind)) (restart_in p.restart)) (start_in p.start)) (atom_in p.id)
+    (kind_in p.kind)) (restart_in p.restart)) (start_in p.start)) (word_in p.id)
 
 abbrev pub child_in : Value → Option ChildSpec
 child_in v = option_and_then child_of_parts (child_parts v)

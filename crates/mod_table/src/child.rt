@@ -2,11 +2,12 @@
 ghost use Rattle.std.specs.Prelude.{◌≡◌, IfOk, map};
 ghost use Rattle.std.specs.Option.{option_map};
 ghost use Rattle.erl_term.specs.Value.{members_of, value_of};
-ghost use Rattle.mod_table.specs.Children.{atom_in, start_in, restart_of, restart_in, is_shutdown, kind_of, kind_in, is_only, lists_only, child_members, child_parts, child_of_parts, child_in, children_in};
+ghost use Rattle.rel_files.specs.Parts.{word_in};
+ghost use Rattle.mod_table.specs.Children.{start_in, restart_of, restart_in, is_shutdown, kind_of, kind_in, is_only, lists_only, child_members, child_parts, child_of_parts, child_in, children_in};
 ghost use Rattle.mod_table.specs.InMemory.{child_of};
 
 use erl_term::Term;
-use rel_files::parts::{is_word, three};
+use rel_files::parts::{is_word, triple_in, word_in};
 use rel_files::text::name_in;
 use std::alloc::{AllocError, Global};
 
@@ -49,23 +50,11 @@ struct ChildParts<'a> {
     modules: &'a Term,
 }
 
-fn atom_in(term: &Term) -> Option<&str>
-    ensures { option_map (λ name. name.now) result ≡ atom_in (value_of term.now) }
-{
-    match term {
-        Term::Atom(name) => Some(name.as_str()),
-        _ => None,
-    }
-}
-
 // `M` of `{M, F, A}`.
 fn start_in(term: &Term) -> Option<&str>
     ensures { option_map (λ name. name.now) result ≡ start_in (value_of term.now) }
 {
-    let Term::Tuple(members) = term else {
-        return None;
-    };
-    let (module, _, _) = three(members)?;
+    let (module, _, _) = triple_in(term)?;
     name_in(module)
 }
 
@@ -182,7 +171,7 @@ impl Child {
           modules = value_of parts.entry.modules.now;
         })) }
     {
-        let Some(id) = atom_in(parts.id) else {
+        let Some(id) = word_in(parts.id) else {
             return Ok(None);
         };
         let Some(module) = start_in(parts.start) else {
@@ -209,13 +198,13 @@ impl Child {
 fn restart_in(term: &Term) -> Option<Restart>
     ensures { result ≡ restart_in (value_of term.now) }
 {
-    restart_of(atom_in(term)?)
+    restart_of(word_in(term)?)
 }
 
 fn kind_in(term: &Term) -> Option<ChildKind>
     ensures { result ≡ kind_in (value_of term.now) }
 {
-    kind_of(atom_in(term)?)
+    kind_of(word_in(term)?)
 }
 
 // The children, if each is one.

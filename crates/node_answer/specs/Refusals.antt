@@ -9,30 +9,30 @@ use Rattle.rel_unpack.specs.Refusal as of_files
 use Rattle.rel_unpack.specs.Refusal.{Trouble, trouble_of, trouble_text}
 
 -- why a command is refused
-pub data Refusal : Type 0 where
-  no_such_release : Refusal
-  existing_release : Refusal
-  already_installed : Refusal
-  bad_status : Status → Refusal
-  permanent : Refusal
-  is_running : Refusal
-  lib_differs : List ℕ → Refusal
-  bad_file : List ℕ → Trouble → Refusal
-  missing_file : List ℕ → Refusal
-  vsn_mismatch : List ℕ → Refusal
-  no_table : List ℕ → Refusal
-  too_many : Refusal
-  no_matching_relup : Refusal
-  script_refused : Failure → Refusal
-  must_reboot : Failure → Refusal
-  device : Refusal
-  full : Refusal
-  dead : Refusal
-  no_memory : Refusal
-  exists : Refusal
+pub data NodeRefusal : Type 0 where
+  no_such_release : NodeRefusal
+  existing_release : NodeRefusal
+  already_installed : NodeRefusal
+  bad_status : Status → NodeRefusal
+  permanent : NodeRefusal
+  is_running : NodeRefusal
+  lib_differs : List ℕ → NodeRefusal
+  bad_file : List ℕ → Trouble → NodeRefusal
+  missing_file : List ℕ → NodeRefusal
+  vsn_mismatch : List ℕ → NodeRefusal
+  no_table : List ℕ → NodeRefusal
+  too_many : NodeRefusal
+  no_matching_relup : NodeRefusal
+  script_refused : Failure → NodeRefusal
+  must_reboot : Failure → NodeRefusal
+  device : NodeRefusal
+  full : NodeRefusal
+  dead : NodeRefusal
+  no_memory : NodeRefusal
+  exists : NodeRefusal
 
 -- the line that tells a refusal: its number, its name and its detail
-abbrev pub refusal_line : Refusal → List ℕ
+abbrev pub refusal_line : NodeRefusal → List ℕ
 refusal_line no_such_release = codes "error handler 1 NoSuchRelease\n"
 refusal_line existing_release = codes "error handler 2 ExistingRelease\n"
 refusal_line already_installed = codes "error handler 3 AlreadyInstalled\n"
@@ -55,7 +55,7 @@ refusal_line no_memory = codes "error handler 19 NoMemory\n"
 refusal_line exists = codes "error handler 20 Exists\n"
 
 -- a refusal without where it lies in memory
-abbrev pub refusal_of : HandlerError → Refusal
+abbrev pub refusal_of : HandlerError → NodeRefusal
 refusal_of handler.NoSuchRelease = no_such_release
 refusal_of handler.ExistingRelease = existing_release
 refusal_of handler.AlreadyInstalled = already_installed
@@ -76,7 +76,7 @@ refusal_of handler.NoMemory = no_memory
 refusal_of handler.Exists = exists
 
 -- what is told of a release that isn't taken for its files
-abbrev pub refusal_for : of_files.Refusal → Refusal
+abbrev pub refusal_for : of_files.Refusal → NodeRefusal
 refusal_for (of_files.missing_file path) = missing_file path
 refusal_for (of_files.bad_file path trouble) = bad_file path trouble
 refusal_for (of_files.vsn_mismatch path) = vsn_mismatch path

@@ -8,7 +8,7 @@ ghost use Rattle.relup_script.specs.Search.{found_of};
 ghost use Rattle.script_progress.specs.Fault.Cause.{no_memory};
 ghost use Rattle.node_answer.specs.Lines.{checked_line, installed_text, names_value};
 ghost use Rattle.node_answer.specs.Refusals.{refusal_line};
-ghost use Rattle.node_answer.specs.Refusals.Refusal.{must_reboot, script_refused};
+ghost use Rattle.node_answer.specs.Refusals.NodeRefusal.{must_reboot, script_refused};
 
 use erl_term::{Term, print};
 use node_listing::{atom_term, text_term};

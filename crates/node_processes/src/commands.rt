@@ -1,5 +1,5 @@
 //! What commands on processes answer.
-ghost use Rattle.std.specs.Prelude.{◌≡◌, string_bytes, IfOk};
+ghost use Rattle.std.specs.Prelude.{◌≡◌, string_bytes, IfOk, OnErr};
 ghost use Rattle.proc_table.specs.Waits.{IsAnswer};
 ghost use Rattle.node_processes.specs.Answers.{call_line, called, modules_line, peek_line, processes_line};
 ghost use Rattle.node_processes.specs.Floods.{counts_line, flood_line, flooded};
@@ -98,8 +98,8 @@ impl Processes {
     }
 
     /// Calls a process so often with one input, from threads. The answer tells how often each outcome came, and how often the
-    /// process was down; or that the application has no such process. Where memory is refused, some of the calls may have been
-    /// made: nothing more is said of the processes then.
+    /// process was down; or that the application has no such process. Where memory is refused, some calls of the process may have
+    /// been made.
     pub fn flood<R: Threads + Wait + Sync>(
         &mut self,
         rt: &R,
@@ -115,6 +115,8 @@ impl Processes {
             ≡ flooded app.now id.now input times (processes_in self.old)) }
         ensures told { IfOk result (λ text. string_bytes text
             ≡ flood_line app.now id.now input times (processes_in self.old)) }
+        ensures kept { OnErr result ((self.new.tree ≡ self.old.tree)
+            × (self.new.loaded ≡ self.old.loaded)) }
     {
         match self.tree.find(app, id) {
             Some(pid) => {

@@ -198,7 +198,7 @@ fn running_of(releases: &[ListedRelease]) -> Option<&ListedRelease>
     current_of(releases).or(permanent_of(releases))
 }
 
-// The release that was installed and isn't permanent.
+// The release that runs until the next boot and isn't permanent.
 fn current_of(releases: &[ListedRelease]) -> Option<&ListedRelease>
     ensures { option_copied result ≡ find (λ l. is_current l.status) releases.now }
 {

@@ -29,6 +29,7 @@ use Rattle.node_store.specs.Image.{AreRecordsOf, Extent, extent_behind, extent_o
 use Rattle.node_store.specs.State.{store_extent}
 use Rattle.start_record.specs.Text.{Versions, AreVersions, SpellsStart, start_text as text_of_start}
 use Rattle.start_record.proofs.StartMoments.{reads_back}
+use Rattle.node_store.proofs.Beginnings.{with_themselves}
 use Rattle.node_store.proofs.Lists.{list_after-push}
 
 -- where a store ends, by its base and its records
@@ -114,18 +115,27 @@ each_image seen may_leave store es s makes_it room c now =
 -- A store of the list before a command is one that has the events without the one in doubt.
 pub stored_before : (events : List Event) (x : Extent) (e : Event) (size : ℕ) (es : Releases) (c : List ℕ) → list_after events ≡ Some es → IsImageAt c es x → IsStarted es c → IsStoredAs (uncertain events x e size) c
 stored_before events x e size es c after image started =
-    record { events = events; has = inl (refl, image.reaches); list = es; after = after; image_of = image.image_of; start = inl (es, after, started) }
+    record {
+      events = events;
+      has = (with_themselves events, inl (refl, image.reaches));
+      list = es;
+      after = after;
+      image_of = image.image_of;
+      start = record { before = events; since = with_themselves events; of_events = with_themselves events; starts = (es, after, started) };
+    }
 
 -- And one of the list after it has them all, compacted or not, with the start record from before it or that from behind it.
 pub stored_after : (events : List Event) (x : Extent) (e : Event) (size : ℕ) (es next : Releases) (c : List ℕ) → list_after events ≡ Some es → step e es ≡ Some next
     → IsImageOf c next → (extent_of c ≡ extent_behind x size) ⊎ (extent_of c ≡ compacted (extent_behind x size) next) → IsStarted es c ⊎ IsStarted next c → IsStoredAs (uncertain events x e size) c
 stored_after events x e size es next c after is image reaches started = record {
   events = events ++ e ∷ [];
-  has = inr (refl, ⊎_elim (λ appended. inl appended) (λ far. inr (far ∙ ap (compacted_or_same (extent_behind x size)) (sym all))) reaches);
+  has = ((e ∷ [], refl), inr (refl, ⊎_elim (λ appended. inl appended) (λ far. inr (far ∙ ap (compacted_or_same (extent_behind x size)) (sym all))) reaches));
   list = next;
   after = all;
   image_of = image;
-  start = ⊎_elim (λ old. inr (events, e, [], refl, tt, (es, after, old))) (λ new. inl (next, all, new)) started;
+  start = ⊎_elim
+      (λ old. record { before = events; since = with_themselves events; of_events = (e ∷ [], refl); starts = (es, after, old) })
+      (λ new. record { before = events ++ e ∷ []; since = (e ∷ [], refl); of_events = with_themselves (events ++ e ∷ []); starts = (next, all, new) }) started;
 }
   where
     all : list_after (events ++ e ∷ []) ≡ Some next

@@ -5,3 +5,4 @@ pub mod PermanenceLemmas
 pub mod Commits
 pub mod CompactionLemmas
 pub mod FormatLemmas
+pub mod Beginnings

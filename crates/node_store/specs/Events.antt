@@ -12,18 +12,20 @@ abbrev pub Events : Type 0
 Events = List Event
 
 -- What is known of a node's events: those whose commands were answered Ok, in order, and the one that is in doubt, if
--- there is one, since its command wasn't answered yet or the device failed in it.
+-- there is one, since its command wasn't answered yet or the device failed in it. And the events behind which the node last ran: the
+-- start record was that of the permanent release then.
 pub record Known : Type 0 where
+  pub ran : Events
   pub acknowledged : Events
   pub in_doubt : Option Event
 
--- these events are acknowledged, and none is in doubt
+-- a node runs behind these events, and none is in doubt
 abbrev pub settled : Events → Known
-settled events = record { acknowledged = events; in_doubt = None }
+settled events = record { ran = events; acknowledged = events; in_doubt = None }
 
--- behind these events this one is in doubt
+-- a node ran behind these events, and this one is in doubt
 abbrev pub doubted : Events → Event → Known
-doubted events e = record { acknowledged = events; in_doubt = Some e }
+doubted events e = record { ran = events; acknowledged = events; in_doubt = Some e }
 
 -- the events with the one in doubt
 abbrev pub with_doubt : Events → Option Event → Events
@@ -53,23 +55,21 @@ pub record IsOfPrefix (k : Known) (image : List ℕ) : Type 0 where
 abbrev pub StartsBehind : Events → List ℕ → Type 0
 StartsBehind events image = (es : Releases) × (list_after events ≡ Some es) × IsStarted es image
 
--- each of them is a boot
-abbrev pub AreBoots : Events → Type 0
-AreBoots [] = Unit {0}
-AreBoots (boot ∷ events) = AreBoots events
-AreBoots (e ∷ events) = ⊥
+-- These events begin with those.
+abbrev pub BeginWith : Events → Events → Type 0
+BeginWith first events = (more : Events) × (events ≡ first ++ more)
 
--- It is, or that of the release that was permanent before the last of them, boots aside.
-abbrev pub HasStart : Events → List ℕ → Type 0
-HasStart events image =
-    StartsBehind events image
-    ⊎ ((earlier : Events) × (last : Event) × (boots : Events)
-    × (events ≡ earlier ++ last ∷ boots) × AreBoots boots × StartsBehind earlier image)
+-- It is that of a release that was permanent behind the first of these events: all behind which the node last ran, and perhaps more.
+pub record HasStart (ran events : Events) (image : List ℕ) : Type 0 where
+  pub before : Events
+  pub since : BeginWith ran before
+  pub of_events : BeginWith before events
+  pub starts : StartsBehind before image
 
 -- They are no store, or stand for such a list, and have a start record of its events.
 abbrev pub IsNoneOrOfPrefix : Known → List ℕ → Type 0
 IsNoneOrOfPrefix k image =
-    (records_of image ≡ Err NotAStore) ⊎ ((of : IsOfPrefix k image) × HasStart of.events image)
+    (records_of image ≡ Err NotAStore) ⊎ ((of : IsOfPrefix k image) × HasStart k.ran of.events image)
 
 -- What is known of a node's store: its events, and how far it reaches behind the acknowledged ones; with the one in doubt, before
 -- and behind a compaction.
@@ -79,9 +79,18 @@ pub record Stored : Type 0 where
   pub appended : Extent
   pub compacted : Extent
 
--- a store with these events, none of them in doubt, that reaches so far
+-- a store with these events, none of them in doubt, that reaches so far; a node last ran behind the first of them
+abbrev pub at_rest_since : Events → Events → Extent → Stored
+at_rest_since ran events x = record {
+  known = record { ran = ran; acknowledged = events; in_doubt = None };
+  extent = x;
+  appended = x;
+  compacted = x;
+}
+
+-- that of a node that runs
 abbrev pub certain : Events → Extent → Stored
-certain events x = record { known = settled events; extent = x; appended = x; compacted = x }
+certain events x = at_rest_since events events x
 
 -- behind a compaction of a store that reaches so far, where its events lead to a list
 abbrev pub compacted_or_same : Extent → Option Releases → Extent
@@ -104,17 +113,24 @@ abbrev pub booted_or_same : Extent → Option Releases → Extent
 booted_or_same x None = x
 booted_or_same x (Some es) = booted_extent x es
 
--- Behind these events, where the store reaches so far, a boot is in doubt. No compaction follows it.
-abbrev pub uncertain_boot : Events → Extent → Stored
-uncertain_boot events x =
+-- Behind these events, where the store reaches so far, a boot is in doubt; a node last ran behind the first of them. No compaction
+-- follows it.
+abbrev pub uncertain_boot : Events → Events → Extent → Stored
+uncertain_boot ran events x =
     let behind = booted_or_same x (list_after events) in
-    record { known = doubted events boot; extent = x; appended = behind; compacted = behind }
+    record {
+      known = record { ran = ran; acknowledged = events; in_doubt = Some boot };
+      extent = x;
+      appended = behind;
+      compacted = behind;
+    }
 
 -- The store has these events and reaches so far: the acknowledged ones, or those with the one in doubt.
 abbrev pub MayHave : Stored → Events → Extent → Type 0
 MayHave s events x =
-    ((events ≡ s.known.acknowledged) × (x ≡ s.extent))
-    ⊎ ((events ≡ with_doubt s.known.acknowledged s.known.in_doubt) × ((x ≡ s.appended) ⊎ (x ≡ s.compacted)))
+    BeginWith s.known.ran events
+    × (((events ≡ s.known.acknowledged) × (x ≡ s.extent))
+    ⊎ ((events ≡ with_doubt s.known.acknowledged s.known.in_doubt) × ((x ≡ s.appended) ⊎ (x ≡ s.compacted))))
 
 -- These bytes are a store that has such events, stand for their list, and have a start record of theirs.
 pub record IsStoredAs (s : Stored) (image : List ℕ) : Type 0 where
@@ -123,4 +139,4 @@ pub record IsStoredAs (s : Stored) (image : List ℕ) : Type 0 where
   pub list : Releases
   pub after : list_after events ≡ Some list
   pub image_of : IsImageOf image list
-  pub start : HasStart events image
+  pub start : HasStart s.known.ran events image

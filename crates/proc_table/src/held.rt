@@ -67,13 +67,6 @@ impl Held {
         std::mem::replace(&mut self.value, value)
     }
 
-    /// The slot.
-    pub fn slot(&self) -> usize
-        ensures { result ≡ self.now.slot }
-    {
-        self.slot
-    }
-
     /// A process begins, with the next round. It doesn't, and nothing changes, where one stands, or where the last round was
     /// used.
     pub fn begin(&mut self, begins: Beginning) -> Result<u32, Beginning>

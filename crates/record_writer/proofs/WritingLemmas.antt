@@ -15,6 +15,7 @@ use Rattle.erl_term.specs.Within.{IsWithin, HasShortNames, HaveShortNames, brack
 use Rattle.rel_files.specs.Form.{numbers_of, numbers_term, list_of}
 use Rattle.rel_files.specs.Name.{IsVersion}
 use Rattle.rel_files.specs.Release.{Release}
+use Rattle.rel_files.specs.Sketch.{version_in}
 use Rattle.rel_files.proofs.Texts.{numbers, text_in-numbers}
 use Rattle.relup_file.specs.Relup.{RelupForm}
 use Rattle.library.specs.Library.{Library}
@@ -30,7 +31,7 @@ use Rattle.rel_list.specs.declared.fault.ListError.TheVariants as told
 use Rattle.rel_list.proofs.Orderly.{status_or}
 use Rattle.rel_list.proofs.OwnRules.{own_of_refusal}
 use Rattle.rel_records.specs.Lists.{HaveVersions}
-use Rattle.rel_records.specs.Reading.{version_in, status_in, assignment_in, assignments_of, change_in, AreOfRelease, Brings, Says, Spells}
+use Rattle.rel_records.specs.Reading.{status_in, assignment_in, assignments_of, change_in, AreOfRelease, Brings, Says, Spells}
 use Rattle.rel_records.specs.Record.{Assignment, FileTerms, Record, relup_or_none, makes, adds, assigns, removes, library_terms, release_term, assignment_term, status_term, removed_term, term_of}
 use Rattle.rel_records.specs.Writing.{is_changed, assignment_of, changes, new_libraries, record_of, CanBeCarried, IsOfListed}
 use Rattle.rel_records.proofs.EventRecords.{never_current}

@@ -1,5 +1,5 @@
 -- Laws of the walk through a release, and of its names.
-use Rattle.std.specs.Prelude.{◌≡◌, ◌↔◌, ℕ, ◌+◌, true, false, List, map, None, Some, Contains}
+use Rattle.std.specs.Prelude.{◌≡◌, ◌↔◌, ℕ, ◌+◌, true, false, List, ◌∷◌, ◌++◌, map, None, Some, Contains}
 use Rattle.mod_table.specs.declared.table.Table.{Table}
 use Rattle.mod_table.specs.declared.table.Table.TheVariants.{Super}
 use Rattle.mod_table.specs.Table.{ChildSpec, SuperTable}
@@ -29,6 +29,17 @@ WithinItselfIsTooDeep = (tables : Tables) (s : SuperTable) → IsBelow tables s 
 -- No name stands a second time exactly where names are distinct.
 abbrev pub NoneAgainWhereDistinct : Type 0
 NoneAgainWhereDistinct = (ns : List Named) → (first_again ns ≡ None) ↔ AreDistinct (map (λ (n : Named). n.name) ns)
+
+-- Of these names this is the first that stands a second time, with the application where it does.
+pub record IsFirstAgain (ns : List Named) (n : Named) : Type 0 where
+  pub before : List Named
+  pub after : List Named
+  pub is : ns ≡ before ++ (n ∷ after)
+  pub distinct : AreDistinct (map (λ (m : Named). m.name) before)
+  pub again : Contains (map (λ (m : Named). m.name) before) n.name
+
+abbrev pub FindsFirstAgain : Type 0
+FindsFirstAgain = (ns : List Named) (n : Named) → (first_again ns ≡ Some n) ↔ IsFirstAgain ns n
 
 -- Where no module stands in two applications, each has its own table.
 abbrev pub EachHasItsTable : Type 0

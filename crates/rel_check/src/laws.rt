@@ -1,5 +1,5 @@
 //! Laws of the walk through a release, and of its names. Each function does nothing: its contract is the law.
-ghost use Rattle.rel_check.specs.Laws.{DeeperFindsTheSame, WithinItselfIsTooDeep, NoneAgainWhereDistinct, EachHasItsTable, MissingIsNamed};
+ghost use Rattle.rel_check.specs.Laws.{DeeperFindsTheSame, WithinItselfIsTooDeep, NoneAgainWhereDistinct, FindsFirstAgain, EachHasItsTable, MissingIsNamed};
 
 /// Where supervisors keep within a number of them in each other, a walk that may go deeper finds the same.
 pub fn a_deeper_walk_finds_the_same()
@@ -14,6 +14,11 @@ pub fn a_supervisor_within_itself_is_too_deep()
 /// No name stands a second time exactly where names are distinct.
 pub fn no_name_stands_again_where_they_are_distinct()
     ensures { NoneAgainWhereDistinct }
+{}
+
+/// The name that is told as standing twice is the first that does, and its application the one where it stands a second time.
+pub fn the_first_name_that_stands_again_is_told()
+    ensures { FindsFirstAgain }
 {}
 
 /// Where no module stands in two applications, each has its own table.

@@ -25,6 +25,10 @@ abbrev pub three : Values → Option (Value × Value × Value)
 three (value v (value w (value x no_values))) = Some (v, w, x)
 three vs = None
 
+abbrev pub triple_in : Value → Option (Value × Value × Value)
+triple_in (tuple vs) = three vs
+triple_in v = None
+
 -- the four members of a tuple
 abbrev pub four : Values → Option (Value × Value × Value × Value)
 four (value v (value w (value x (value y no_values)))) = Some (v, w, x, y)
@@ -33,6 +37,11 @@ four vs = None
 abbrev pub four_in : Value → Option (Value × Value × Value × Value)
 four_in (tuple vs) = four vs
 four_in v = None
+
+-- the text of an atom, which need be no name
+abbrev pub word_in : Value → Option (List ℕ)
+word_in (atom s) = Some s
+word_in v = None
 
 -- whether it is the atom of these bytes
 abbrev pub is_word : List ℕ → Value → Bool

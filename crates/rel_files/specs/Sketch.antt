@@ -41,6 +41,10 @@ characters_in lowest (value v vs) = option_and_then (λ c. option_map (λ cs. c 
 abbrev pub text_in : ℕ → Values → Option (List ℕ)
 text_in lowest vs = if is_in 1 62 (count vs) then characters_in lowest vs else None
 
+-- the text of a version
+abbrev pub version_in : Value → Option (List ℕ)
+version_in v = option_and_then (text_in 0x21) (list_in v)
+
 -- the text of a version, or the empty text, which is none, of numbers that are no version
 abbrev pub version_or_empty : Value → Option (List ℕ)
 version_or_empty v = option_and_then (λ vs. if are_numbers vs then Some (unwrap_or (text_in 0x21 vs) []) else None) (list_in v)
@@ -54,6 +58,10 @@ name_in v = None
 abbrev pub names_of : Values → Option (List (List ℕ))
 names_of no_values = Some []
 names_of (value v vs) = option_and_then (λ n. option_map (λ ns. n ∷ ns) (names_of vs)) (name_in v)
+
+-- the names that a list has
+abbrev pub names_in : Value → Option (List (List ℕ))
+names_in v = option_and_then names_of (list_in v)
 
 -- the start type of a word
 abbrev pub start_of : List ℕ → Option StartType

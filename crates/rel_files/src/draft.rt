@@ -8,16 +8,13 @@ ghost use Rattle.rel_files.specs.Sketched.{app_sketch_of, sketch_of};
 
 use crate::ending::Ending;
 use crate::parts::{app_parts, rel_parts};
-use crate::text::{are_numbers, is_name, text_in};
+use crate::text::{VISIBLE, are_numbers, is_name, text_in};
 use crate::{Rel, RelApp, StartType};
 use erl_term::Term;
 use std::alloc::{AllocError, Global};
 
 // The lowest character of a release's name, which may have blanks.
 const BLANK: u8 = b' ';
-
-// The lowest character of a version.
-const VISIBLE: u8 = b'!';
 
 // An application with its version, if what stands there is one.
 pub(crate) struct AppDraft {

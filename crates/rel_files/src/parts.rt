@@ -2,7 +2,7 @@
 ghost use Rattle.std.specs.Prelude.{◌≡◌};
 ghost use Rattle.std.specs.Option.{option_map};
 ghost use Rattle.erl_term.specs.Value.{members_of, value_of};
-ghost use Rattle.rel_files.specs.Parts.{list_in, two, pair_in, three, four, four_in, is_word, app_members, app_parts, title_in, erts_in, rel_parts};
+ghost use Rattle.rel_files.specs.Parts.{list_in, two, pair_in, three, triple_in, four, four_in, word_in, is_word, app_members, app_parts, title_in, erts_in, rel_parts};
 
 use erl_term::Term;
 
@@ -72,6 +72,17 @@ pub fn three(members: &[Term]) -> Option<(&Term, &Term, &Term)>
     }
 }
 
+/// The three members of a tuple of three.
+pub fn triple_in(term: &Term) -> Option<(&Term, &Term, &Term)>
+    ensures { option_map (λ t. (value_of t.0.now, value_of t.1.now, value_of t.2.now)) result
+        ≡ triple_in (value_of term.now) }
+{
+    match term {
+        Term::Tuple(members) => three(members),
+        _ => None,
+    }
+}
+
 /// The four members of a tuple of four.
 pub fn four_in(term: &Term) -> Option<(&Term, &Term, &Term, &Term)>
     ensures { option_map (λ p.
@@ -92,6 +103,16 @@ pub fn four(members: &[Term]) -> Option<(&Term, &Term, &Term, &Term)>
 {
     match members {
         [first, second, third, fourth] => Some((first, second, third, fourth)),
+        _ => None,
+    }
+}
+
+/// The text of an atom, which need be no name.
+pub fn word_in(term: &Term) -> Option<&str>
+    ensures { option_map (λ s. s.now) result ≡ word_in (value_of term.now) }
+{
+    match term {
+        Term::Atom(word) => Some(word.as_str()),
         _ => None,
     }
 }

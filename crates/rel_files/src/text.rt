@@ -5,14 +5,14 @@ ghost use Rattle.std.specs.Option.{option_map};
 ghost use Rattle.erl_term.specs.Lexing.{is_in};
 ghost use Rattle.erl_term.specs.Value.{members_of, value_of};
 ghost use Rattle.rel_files.specs.Name.{is_name_byte, is_name, is_text};
-ghost use Rattle.rel_files.specs.Sketch.{is_number, are_numbers, count, character_in, characters_in, text_in, version_or_empty, name_in, names_of};
+ghost use Rattle.rel_files.specs.Sketch.{is_number, are_numbers, count, character_in, characters_in, text_in, version_in, version_or_empty, name_in, names_of, names_in};
 
 use crate::parts::list_in;
 use erl_term::Term;
 use std::alloc::{AllocError, Global};
 
 // The lowest character of a version.
-const VISIBLE: u8 = b'!';
+pub(crate) const VISIBLE: u8 = b'!';
 
 fn is_name_byte(byte: u8) -> bool
     ensures { result ≡ is_name_byte byte }
@@ -68,8 +68,8 @@ fn is_number(term: &Term) -> bool
     matches!(term, Term::Int(_))
 }
 
-/// Whether all of them are numbers, as the characters of a string are.
-pub fn are_numbers(items: &[Term]) -> bool
+// Whether all of them are numbers, as the characters of a string are.
+pub(crate) fn are_numbers(items: &[Term]) -> bool
     ensures { result ≡ are_numbers (members_of items.now) }
 {
     for item in items {
@@ -123,6 +123,16 @@ fn character_in(lowest: u8, term: &Term) -> Option<char>
     }
 }
 
+/// The version that a list of numbers is.
+pub fn version_in(alloc: Global, term: &Term) -> Result<Option<String>, AllocError>
+    ensures { IfOk result (λ vsn. option_map string_bytes vsn ≡ version_in (value_of term.now)) }
+{
+    match list_in(term) {
+        Some(items) => text_in(alloc, VISIBLE, items),
+        None => Ok(None),
+    }
+}
+
 /// The text of a version; the empty text, which is none, where numbers stand that are no version; nothing for another
 /// term. So a reader can tell a bad version behind all faults of the shape.
 pub fn version_or_empty(alloc: Global, term: &Term) -> Result<Option<String>, AllocError>
@@ -154,4 +164,15 @@ pub fn names_of(alloc: Global, items: &[Term]) -> Result<Option<Vec<String>>, Al
         names.push(String::from_str(alloc, name)?)?;
     }
     Ok(Some(names))
+}
+
+/// The names that a list has, if each of its members is one.
+pub fn names_in(alloc: Global, term: &Term) -> Result<Option<Vec<String>>, AllocError>
+    ensures { IfOk result (λ names.
+        option_map (λ v. map string_bytes v.items) names ≡ names_in (value_of term.now)) }
+{
+    match list_in(term) {
+        Some(items) => names_of(alloc, items),
+        None => Ok(None),
+    }
 }

@@ -1,6 +1,5 @@
 -- What a crash leaves at each moment of a boot, and the events that a store has then.
 use Rattle.std.proofs.Common.{◌≡◌, ◌⊎◌, inl, inr, ⊎_elim, ℕ, ◌≤◌, Bool, true, false, List, [], ◌∷◌, ◌++◌, Some, refl, sym, ap, ◌∙◌, subst}
-use Rattle.std.proofs.lemmas.List.{append_assoc}
 use Rattle.rel_disk.specs.declared.disk.Disk.{Ghosts}
 use Rattle.rel_disk.specs.Moments.{LeavesOnly}
 use Rattle.rel_disk.proofs.Moments.{joined, weakened}
@@ -13,8 +12,8 @@ use Rattle.rel_records.specs.Lists.{Makes}
 use Rattle.rel_store.specs.Layout.{format_of}
 use Rattle.rel_store.specs.State as store
 use Rattle.rel_store.specs.Records.{records_of}
-use Rattle.rel_handler.specs.Booting.{IsOpened, IsBootOf, IsBooted, IsOldOrBooted, Leaves, RecordRefused}
-use Rattle.node_store.specs.Events.{Events, AreBoots, HasStart, Stored, booted_or_same, uncertain_boot, IsStoredAs}
+use Rattle.rel_handler.specs.Booting.{IsOpened, IsBootOf, IsBooted, IsOldOrBooted, Leaves, BootRecordRefused}
+use Rattle.node_store.specs.Events.{Events, StartsBehind, BeginWith, HasStart, Stored, booted_or_same, uncertain_boot, IsStoredAs}
 use Rattle.node_store.specs.Image.{AreRecordsOf, Extent, booted_extent, extent_of, HasBootSpace, IsImageAt, IsImageOf, IsLeftByBoot, IsStarted, start_slot}
 use Rattle.rel_handler.specs.Laws.{BootAlike}
 use Rattle.rel_handler.specs.Moments.{KeepsStore, SettlesAt, SettlesStore}
@@ -26,6 +25,7 @@ use Rattle.rel_handler.specs.declared.error.BootError.{BootError}
 use Rattle.rel_handler.specs.declared.error.BootError.TheVariants as boot_error
 use Rattle.rel_handler.proofs.BootLists.{booted_recorded, extent_recorded, space_of_recorded, space_recorded}
 use Rattle.rel_handler.proofs.Boots.{IsLack}
+use Rattle.node_store.proofs.Beginnings.{with_themselves, with_one_more}
 use Rattle.node_store.proofs.Images.{in_same_format, settled_extent, started_by}
 use Rattle.node_store.proofs.Lists.{list_after-push}
 
@@ -99,7 +99,7 @@ module _ {D : Type 0} (v : Ghosts D) (disk : D) (h : NodeStore D) (opened : IsOp
   }
 
   -- and there is room for it
-  pub record_lack : (e : BootError) → RecordRefused (extent_in h) (list_in h) e → IsLack e
+  pub record_lack : (e : BootError) → BootRecordRefused (extent_in h) (list_in h) e → IsLack e
   record_lack boot_error.NoMemory refused = inr refl
   record_lack (boot_error.BadRecord i) refused =
       absurd (refused.0 (subst (λ x. HasBootSpace x (list_in h)) (sym (extent_there v disk h opened)) (subst (HasBootSpace (extent_of (v.seen disk))) (sym only) (space_recorded (extent_of (v.seen disk)) es image.list.alone image.room))))
@@ -115,7 +115,7 @@ module _ {D : Type 0} (v : Ghosts D) (disk : D) (h : NodeStore D) (opened : IsOp
   )
 
 -- Why there is no record of a boot is why the boot is refused.
-pub record_refused : {D : Type 0} (v : Ghosts D) (disk now : D) (h : NodeStore D) → IsOpened v disk h → (e : BootError) → RecordRefused (extent_in h) (list_in h) e
+pub record_refused : {D : Type 0} (v : Ghosts D) (disk now : D) (h : NodeStore D) → IsOpened v disk h → (e : BootError) → BootRecordRefused (extent_in h) (list_in h) e
     → BootRefused (v.seen disk) (v.failures disk) (v.failures now) e
 record_refused v disk now h opened boot_error.NoMemory refused = tt
 record_refused v disk now h opened (boot_error.BadRecord i) refused = (
@@ -136,68 +136,67 @@ image_alike c es fs same alone image = record {
   room = space_of_recorded (extent_of c) es fs alone same (space_recorded (extent_of c) es image.list.alone image.room);
 }
 
-boots-push : (boots : Events) → AreBoots boots → AreBoots (boots ++ boot ∷ [])
-boots-push [] are = tt
-boots-push (boot ∷ boots) are = boots-push boots are
-boots-push (e ∷ boots) are = absurd are
-
 -- The bytes were read of a store with these events, and this is left of them.
 module _ (s : Stored) (bytes : List ℕ) (of : IsStoredAs s bytes) where
   abbrev x : Extent
   x = extent_of bytes
 
+  abbrev ran : Events
+  ran = s.known.ran
+
+  abbrev since : BeginWith ran of.events
+  since = of.has.0
+
+  -- with the boot's event
+  since_with_boot : BeginWith ran (of.events ++ boot ∷ [])
+  since_with_boot = with_one_more ran of.events boot since
+
   -- as they were read
-  pub stored_read : IsStoredAs (uncertain_boot of.events x) bytes
-  stored_read = record { events = of.events; has = inl (refl, refl); list = of.list; after = of.after; image_of = of.image_of; start = of.start }
+  pub stored_read : IsStoredAs (uncertain_boot ran of.events x) bytes
+  stored_read = record { events = of.events; has = (since, inl (refl, refl)); list = of.list; after = of.after; image_of = of.image_of; start = of.start }
 
   all : list_after (of.events ++ boot ∷ []) ≡ Some (booted of.list)
   all = list_after-push of.events boot of.list (booted of.list) of.after refl
 
   module _ (c : List ℕ) where
-    moved : start_slot c ≡ start_slot bytes → (es fs : Releases) → permanent fs ≡ permanent es → IsStarted es bytes → IsStarted fs c
-    moved slot es fs same started = started_by es fs bytes c same slot started
+    moved : start_slot c ≡ start_slot bytes → StartsBehind of.start.before bytes → StartsBehind of.start.before c
+    moved slot (es, after, started) = (es, after, started_by es es bytes c refl slot started)
 
-    same_start : start_slot c ≡ start_slot bytes → HasStart of.events bytes → HasStart of.events c
-    same_start slot (inl (es, after, started)) = inl (es, after, moved slot es es refl started)
-    same_start slot (inr (earlier, last, boots, is, are, (es, after, started))) = inr (earlier, last, boots, is, are, (es, after, moved slot es es refl started))
+    same_start : start_slot c ≡ start_slot bytes → HasStart ran of.events c
+    same_start slot = record { before = of.start.before; since = of.start.since; of_events = of.start.of_events; starts = moved slot of.start.starts }
 
-    -- with the boot's event
-    later_start : start_slot c ≡ start_slot bytes → HasStart of.events bytes → HasStart (of.events ++ boot ∷ []) c
-    later_start slot (inl (es, after, started)) =
-        let one : es ≡ of.list = let e : Some es ≡ Some of.list = sym after ∙ of.after in cc in
-        inl (booted of.list, all, moved slot es (booted of.list) (permanent-of_booted of.list ∙ ap permanent (sym one)) started)
-    later_start slot (inr (earlier, last, boots, is, are, (es, after, started))) = inr (
-      earlier,
-      last,
-      boots ++ boot ∷ [],
-      ap (λ (l : Events). l ++ boot ∷ []) is ∙ append_assoc earlier (last ∷ boots) (boot ∷ []),
-      boots-push boots are,
-      (es, after, moved slot es es refl started),
-    )
+    later_start : start_slot c ≡ start_slot bytes → HasStart ran (of.events ++ boot ∷ []) c
+    later_start slot =
+        record { before = of.start.before; since = of.start.since; of_events = with_one_more of.start.before of.events boot of.start.of_events; starts = moved slot of.start.starts }
+
+    -- the boot wrote it
+    new_start : IsStarted (booted of.list) c → HasStart ran (of.events ++ boot ∷ []) c
+    new_start started =
+        record { before = of.events ++ boot ∷ []; since = since_with_boot; of_events = with_themselves (of.events ++ boot ∷ []); starts = (booted of.list, all, started) }
 
     module _ (left : IsLeftByBoot bytes c) where
       alike : BootAlike left.list of.list
       alike = stands_for_one bytes left.list of.list left.was of.image_of
 
-      pub stored_left : IsStoredAs (uncertain_boot of.events x) c
+      pub stored_left : IsStoredAs (uncertain_boot ran of.events x) c
       stored_left = by_image left.left
         where
-          by_image : (IsImageAt c left.list x × (start_slot c ≡ start_slot bytes)) ⊎ (IsImageAt c (booted left.list) (booted_extent x left.list) × ((start_slot c ≡ start_slot bytes) ⊎ IsStarted left.list c)) → IsStoredAs (uncertain_boot of.events x) c
+          by_image : (IsImageAt c left.list x × (start_slot c ≡ start_slot bytes)) ⊎ (IsImageAt c (booted left.list) (booted_extent x left.list) × ((start_slot c ≡ start_slot bytes) ⊎ IsStarted left.list c)) → IsStoredAs (uncertain_boot ran of.events x) c
           by_image (inl (image, slot)) = record {
             events = of.events;
-            has = inl (refl, image.reaches);
+            has = (since, inl (refl, image.reaches));
             list = of.list;
             after = of.after;
             image_of = image_alike c left.list of.list alike.recorded of.image_of.list.alone image.image_of;
-            start = same_start slot of.start;
+            start = same_start slot;
           }
           by_image (inr (image, slot)) = record {
             events = of.events ++ boot ∷ [];
-            has = inr (refl, inl (image.reaches ∙ (alike.extents x ∙ ap (booted_or_same x) (sym of.after))));
+            has = (since_with_boot, inr (refl, inl (image.reaches ∙ (alike.extents x ∙ ap (booted_or_same x) (sym of.after)))));
             list = booted of.list;
             after = all;
             image_of = subst (IsImageOf c) alike.booted image.image_of;
-            start = ⊎_elim (λ old. later_start old of.start) (λ new. inl (booted of.list, all, started_by left.list (booted of.list) c c (ap permanent (sym alike.booted) ∙ permanent-of_booted left.list) refl new)) slot;
+            start = ⊎_elim later_start (λ new. new_start (started_by left.list (booted of.list) c c (ap permanent (sym alike.booted) ∙ permanent-of_booted left.list) refl new)) slot;
           }
 
 -- So a boot that has settled a store's events keeps them, with its own or without.
@@ -209,15 +208,15 @@ settles_store {D} v reads counts_now disk new at settles s here = record {
   has = of.has;
   any_moment =
       joined v.moment v.left_since disk at new _ (weakened v.moment v.left_since disk at (v.may_leave disk) _ (λ c now. inl (here c now)) settles.until)
-      (weakened v.moment v.left_since at new _ (λ c. IsStoredAs s c ⊎ IsStoredAs (uncertain_boot of.events (extent_of (v.seen disk))) c) (λ c left. inr (from c left)) settles.from);
+      (weakened v.moment v.left_since at new _ (λ c. IsStoredAs s c ⊎ IsStoredAs (uncertain_boot s.known.ran of.events (extent_of (v.seen disk))) c) (λ c left. inr (from c left)) settles.from);
   now = λ c now. from c (settles.from.each c (counts_now new (v.moment at) c settles.from.later now));
 }
   where
     of : IsStoredAs s (v.seen disk)
     of = here (v.seen disk) (reads disk)
 
-    from : (c : List ℕ) → (c ≡ v.seen disk) ⊎ IsLeftByBoot (v.seen disk) c → IsStoredAs (uncertain_boot of.events (extent_of (v.seen disk))) c
-    from c (inl is) = subst (IsStoredAs (uncertain_boot of.events (extent_of (v.seen disk)))) (sym is) (stored_read s (v.seen disk) of)
+    from : (c : List ℕ) → (c ≡ v.seen disk) ⊎ IsLeftByBoot (v.seen disk) c → IsStoredAs (uncertain_boot s.known.ran of.events (extent_of (v.seen disk))) c
+    from c (inl is) = subst (IsStoredAs (uncertain_boot s.known.ran of.events (extent_of (v.seen disk)))) (sym is) (stored_read s (v.seen disk) of)
     from c (inr left) = stored_left s (v.seen disk) of c left
 
 -- So it is of a boot from its reading on.

@@ -12,7 +12,7 @@ use Rattle.node_command.specs.Files.{bundle_brought, made_size, Brings, IsToldAs
 use Rattle.node_command.specs.Place.{own_refusal}
 use Rattle.rel_handler.specs.Moments.{Begins, WritesNothing}
 use Rattle.rel_handler.specs.Refusals.{MakingRefused}
-use Rattle.rel_handler.specs.Unpacking.{IsExistingOr, CreationRefused}
+use Rattle.rel_handler.specs.Unpacking.{IsExistingOr, NodeCreationRefused}
 use Rattle.node_command.specs.declared.error.HandlerError.{HandlerError}
 
 module _ {D : Type 0} (v : Ghosts D) (old now : D) (read : HasOnlyRead v.seen v.may_leave v.moment v.left_since old now) where
@@ -25,7 +25,7 @@ module _ {D : Type 0} (v : Ghosts D) (old now : D) (read : HasOnlyRead v.seen v.
 
   -- so no node was made
   pub not_made_of : (source : Source) (path : List ℕ) (b : Brought) → Brings source path (Ok b) → (why e : HandlerError) → IsToldAs (own_refusal b) why
-      → IsExistingOr why (v.seen old) (v.failures old) (v.failures now) e → CreationRefused v source path old now e
+      → IsExistingOr why (v.seen old) (v.failures old) (v.failures now) e → NodeCreationRefused v source path old now e
   not_made_of source path b brings why e of (inl (is, there)) = inr (inr (record {
     brought = b;
     read = brings;

@@ -52,7 +52,12 @@ while_creating p body start fits versions is spelled c (inl none) = inl none
 while_creating p body start fits versions is spelled c (inr stands) =
     inr (
       as_after [] (made p) [] (entry p Permanent ∷ []) c refl refl (record { bodies = body ∷ []; store = stands.records; list = first_record (format_of c) p body fits spelled; room = no_boot_space (extent_of c) (entry p Permanent ∷ []) refl }),
-      inl (entry p Permanent ∷ [], refl, started_new p start c versions is stands.start),
+      record {
+        before = made p ∷ [];
+        since = (made p ∷ [], refl);
+        of_events = ([], refl);
+        starts = (entry p Permanent ∷ [], refl, started_new p start c versions is stands.start);
+      },
     )
 
 -- bytes that stand for a list hold a store

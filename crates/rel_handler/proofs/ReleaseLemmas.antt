@@ -16,7 +16,7 @@ use Rattle.node_command.specs.Place.{own_refusal}
 use Rattle.rel_handler.specs.Moments.{Begins, BeginsAt, WritesNothing}
 use Rattle.rel_handler.specs.Refusals.{MakingRefused}
 use Rattle.node_store.specs.State.{disk_in, disk_of, extent_in, list_in, start_in, IsSame}
-use Rattle.rel_handler.specs.Unpacking.{IsMade, CreationRefused}
+use Rattle.rel_handler.specs.Unpacking.{IsMade, NodeCreationRefused}
 use Rattle.node_command.specs.declared.error.HandlerError.{HandlerError}
 use Rattle.node_store.specs.declared.node_store.NodeStore.{NodeStore}
 
@@ -34,6 +34,6 @@ module _ {D : Type 0} (v : Ghosts D) (source : Source) (path : List ℕ) (b : Br
   made_so (Err e) list images start fits extent begun = tt
 
   pub not_made_so : (r : Result (NodeStore D) (HandlerError × D)) → Begins v.seen v.may_leave v.moment v.left_since (doubted [] (made (bundle_brought b))) disk (disk_of r)
-      → IfErr r (λ e. MakingRefused (v.seen disk) (made_size b) (v.failures disk) (v.failures e.1) (WritesNothing v.seen v.may_leave v.moment v.left_since disk e.1) e.0) → IfErr r (λ e. CreationRefused v source path disk e.1 e.0)
+      → IfErr r (λ e. MakingRefused (v.seen disk) (made_size b) (v.failures disk) (v.failures e.1) (WritesNothing v.seen v.may_leave v.moment v.left_since disk e.1) e.0) → IfErr r (λ e. NodeCreationRefused v source path disk e.1 e.0)
   not_made_so (Ok h) begins refused = tt
   not_made_so (Err e) begins refused = inr (inr (record { brought = b; read = read; clear = λ other works. free; idle = λ barred. absurd (barred free); any_moment = begins; refused = refused }))

@@ -34,10 +34,10 @@ IsBootRecord es (Some body) =
     (has_one_shot es ≡ true) × IsRecordFor (string_bytes body) boot es × (length (string_bytes body) ≡ boot_size es)
 
 -- Why there is no such record: it would not fit behind the last one, or memory was refused.
-abbrev pub RecordRefused : Extent → Releases → BootError → Type 0
-RecordRefused x es (BadRecord i) = (HasBootSpace x es → ⊥) × (i ≡ x.count)
-RecordRefused x es NoMemory = Unit {0}
-RecordRefused x es why = ⊥
+abbrev pub BootRecordRefused : Extent → Releases → BootError → Type 0
+BootRecordRefused x es (BadRecord i) = (HasBootSpace x es → ⊥) × (i ≡ x.count)
+BootRecordRefused x es NoMemory = Unit {0}
+BootRecordRefused x es why = ⊥
 
 -- The handler has the list that a boot makes of this one, which these bytes stand for.
 pub record IsBootOf {D : Type 0} (bytes : List ℕ) (es : Releases) (handler : NodeStore D) : Type 0 where

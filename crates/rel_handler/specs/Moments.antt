@@ -65,8 +65,8 @@ pub record SettlesStore {D : Type 0} (v : Ghosts D) (s : Stored) (old new : D) :
   pub events : Events
   pub extent : Extent
   pub has : MayHave s events extent
-  pub any_moment : LeavesOnly v.moment v.left_since old new (λ c. IsStoredAs s c ⊎ IsStoredAs (uncertain_boot events extent) c)
-  pub now : (c : List ℕ) → v.may_leave new c → IsStoredAs (uncertain_boot events extent) c
+  pub any_moment : LeavesOnly v.moment v.left_since old new (λ c. IsStoredAs s c ⊎ IsStoredAs (uncertain_boot s.known.ran events extent) c)
+  pub now : (c : List ℕ) → v.may_leave new c → IsStoredAs (uncertain_boot s.known.ran events extent) c
 
 -- It has, or a crash leaves all the time what was known before.
 abbrev pub KeepsStore : {D : Type 0} → Ghosts D → Stored → D → D → Type 0

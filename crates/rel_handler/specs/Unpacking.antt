@@ -91,8 +91,8 @@ pub record IsNotMade {D : Type 0} (v : Ghosts D) (source : Source) (path : List 
   pub refused : MakingRefused (v.seen disk) (made_size brought) (v.failures disk) (v.failures now) (WritesNothing v.seen v.may_leave v.moment v.left_since disk now) e
 
 -- Why no node was made: the release's file or its other files, and then nothing was written; or the disk, the store or memory.
-abbrev pub CreationRefused : {D : Type 0} → Ghosts D → Source → List ℕ → D → D → HandlerError → Type 0
-CreationRefused v source path disk now e =
+abbrev pub NodeCreationRefused : {D : Type 0} → Ghosts D → Source → List ℕ → D → D → HandlerError → Type 0
+NodeCreationRefused v source path disk now e =
     (IsOfFiles source path e × WritesNothing v.seen v.may_leave v.moment v.left_since disk now)
     ⊎ (IsNotBegun v source path disk now e ⊎ IsNotMade v source path disk now e)
 

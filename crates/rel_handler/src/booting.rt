@@ -1,7 +1,8 @@
 // A node is read from its disk again.
 //
 // The start record is that of the permanent release between two calls of a handler that isn't dead (`HasStarted`), and at each
-// moment that, or the one of the release that was permanent before the last event of the prefix (`HasStart`): a boot repairs it.
+// moment that of the permanent release of the prefix, or of the one that was permanent when the node last ran (`HasStart`): a
+// boot repairs it.
 //
 // A boot has a one-shot as the current release, and has taken it away from the disk by a record of its own before it is `Ok`
 // (`only`, `acknowledged`): no later boot starts it. A store for which a list with a one-shot stands has room for that record
@@ -12,7 +13,7 @@ ghost use Rattle.rel_disk.specs.Moments.{LeavesOnly};
 ghost use Rattle.rel_list.specs.Releases.{Releases, has_one_shot};
 ghost use Rattle.rel_list.specs.Event.{recorded};
 ghost use Rattle.rel_store.specs.Contents.{HasOnlyRead};
-ghost use Rattle.rel_handler.specs.Booting.{IsRead, IsOpened, IsBootOf, IsBootRecord, RecordRefused, IsBooted, IsOldOrTaken, IsOldOrBooted, Leaves, FinishRefused};
+ghost use Rattle.rel_handler.specs.Booting.{IsRead, IsOpened, IsBootOf, IsBootRecord, BootRecordRefused, IsBooted, IsOldOrTaken, IsOldOrBooted, Leaves, FinishRefused};
 ghost use Rattle.node_store.specs.Events.{Known, IsOfPrefix, Stored, IsStoredAs};
 ghost use Rattle.node_store.specs.Image.{HasBootSpace, IsImageOf, IsImageAt, IsStarted, IsLeftByBoot};
 ghost use Rattle.rel_handler.specs.Moments.{BootsTo, HasRead, IsSynced, KeepsStore};
@@ -128,7 +129,7 @@ fn boot_record<D: Disk>(alloc: Global, node: &NodeStore<D>) -> Result<Option<Str
     requires { IsRead D.seen D.may_leave node.now }
     ensures body { IfOk result (IsBootRecord (list_in node.now)) }
     ensures room { OnOk result (HasBootSpace (extent_in node.now) (list_in node.now)) }
-    ensures refused { IfErr result (RecordRefused (extent_in node.now) (list_in node.now)) }
+    ensures refused { IfErr result (BootRecordRefused (extent_in node.now) (list_in node.now)) }
 {
     if node.list.one_shot().is_none() {
         return Ok(None);

@@ -17,7 +17,7 @@ ghost use Rattle.node_store.specs.Image.{extent_behind, first_extent, IsImageAt,
 ghost use Rattle.rel_handler.specs.Moments.{Begins, BeginsAt, WritesNothing};
 ghost use Rattle.rel_handler.specs.Refusals.{MakingRefused, told_create, IsCreateError};
 ghost use Rattle.node_store.specs.State.{disk_in, disk_of, extent_in, list_in, is_dead, start_in, IsSound};
-ghost use Rattle.rel_handler.specs.Unpacking.{IsExistingOr, IsMade, CreationRefused};
+ghost use Rattle.rel_handler.specs.Unpacking.{IsExistingOr, IsMade, NodeCreationRefused};
 ghost use Rattle.rel_unpack.specs.Unpacking.{brought_of};
 ghost use Rattle.rel_list.specs.declared.status.Status.TheVariants.{Permanent};
 
@@ -55,7 +55,7 @@ impl<D: Disk> Handler<D> {
 
         ensures counted { D.failures disk ≤ D.failures (disk_of result) }
         ensures refused { IfErr result (λ e.
-            CreationRefused D.Disk (F.gives files.now) path.now disk e.1 e.0) }
+            NodeCreationRefused D.Disk (F.gives files.now) path.now disk e.1 e.0) }
     {
         let brought = match bring_release(alloc, files, path) {
             Ok(brought) => brought,

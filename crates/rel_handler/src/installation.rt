@@ -28,9 +28,9 @@ use std::sync::Wait;
 use sup_tree::Tree;
 
 impl<D: Disk> Handler<D> {
-    /// Installs a release by its script: its processes are upgraded, and it is current until the next boot. The script is carried
-    /// out first, then the event is committed, and then a long store is compacted; at `Ok` the event is acknowledged (`done`). It
-    /// waits for processes that clients have.
+    /// Installs a release by its script: its processes are upgraded, and it is current until the next boot, unless it is the
+    /// permanent one. The script is carried out first, then the event is committed, and then a long store is compacted; at `Ok` the
+    /// event is acknowledged (`done`). It waits for processes that clients have.
     ///
     /// Where the script ends with a restart of the runtime system, the release becomes a one-shot, which the next boot starts, once;
     /// a permanent one stays permanent. The handler is dead until that boot (`dead`). The store becomes one of format 2 (`format`),

@@ -57,7 +57,7 @@ HasDistinctVersions (e ∷ es) = (status_of e.release.vsn es ≡ None) × HasDis
 abbrev pub permanent : Releases → Option Release
 permanent es = option_map (λ (e : Entry). e.release) (find (λ e. is_permanent e.status) es)
 
--- the release that was installed without a restart and isn't permanent
+-- the release that runs until the next boot and isn't permanent
 abbrev pub current : Releases → Option Release
 current es = option_map (λ (e : Entry). e.release) (find (λ e. is_current e.status) es)
 

@@ -17,9 +17,10 @@ pub enum Event {
     Made(Bundle),
     /// A further release is there to be installed.
     Unpacked(Bundle),
-    /// This release is installed: it runs until the next boot.
+    /// This release is installed: it runs until the next boot, or for good, if it is the permanent one.
     Installed(String),
-    /// This release is installed by a script that ends with a restart: the next boot starts it, once. A boot has to follow.
+    /// This release is installed by a script that ends with a restart: the next boot starts it, once, unless it is the permanent
+    /// one. A boot has to follow.
     RestartInstalled(String),
     /// This release, the current one, becomes the permanent one.
     MadePermanent(String),

@@ -157,7 +157,7 @@ impl ReleaseList {
         first_permanent(self.releases()).map(|listed| &listed.release)
     }
 
-    // The release that was installed without a restart and isn't permanent.
+    // The release that runs until the next boot and isn't permanent.
     fn current(&self) -> Option<&Rel>
         ensures { option_map release_of (option_copied result) ≡ current self.now }
     {

@@ -54,8 +54,8 @@ impl Status {
         matches!(self, Status::OneShot)
     }
 
-    /// Whether it is the status of a release that is installed until a boot takes that away.
-    pub fn is_temporary(self) -> bool
+    // Whether it is the status of a release that is installed until a boot takes that away.
+    pub(crate) fn is_temporary(self) -> bool
         ensures { result ≡ is_temporary self }
     {
         matches!(self, Status::Current | Status::OneShot)
@@ -71,8 +71,8 @@ impl Status {
         }
     }
 
-    /// The status behind an installation, of the release itself or of another one.
-    pub fn installed(self, itself: bool) -> Status
+    // The status behind an installation, of the release itself or of another one.
+    pub(crate) fn installed(self, itself: bool) -> Status
         ensures { result ≡ installed_status itself self }
     {
         match (itself, self) {
@@ -93,8 +93,8 @@ impl Status {
         }
     }
 
-    /// The status behind the event that makes the release itself or another one permanent.
-    pub fn made_permanent(self, itself: bool) -> Status
+    // The status behind the event that makes the release itself or another one permanent.
+    pub(crate) fn made_permanent(self, itself: bool) -> Status
         ensures { result ≡ permanent_status itself self }
     {
         match (itself, self) {

@@ -5,30 +5,30 @@ use Rattle.erl_term.specs.Value.{Value, Values}
 use Rattle.erl_term.specs.Value.Value.{tuple}
 use Rattle.erl_term.specs.Value.Values.{no_values, value}
 use Rattle.rel_files.specs.File.{IsReleaseTerm}
-use Rattle.rel_files.specs.Parts.{is_word, list_in}
+use Rattle.rel_files.specs.Parts.{is_word, list_in, triple_in}
 use Rattle.rel_files.specs.Release.{Release}
 use Rattle.rel_files.proofs.Options.{chained, mapped, passed}
 use Rattle.relup_file.specs.Relup.{RelupForm}
 use Rattle.library.proofs.TermRows.{RowOrNot, row_or_not}
 use Rattle.rel_list.specs.declared.status.Status.{Status}
-use Rattle.rel_records.specs.Parts.{lists_in, lists_of, row_in}
+use Rattle.rel_records.specs.Parts.{lists_in, lists_of}
 use Rattle.rel_records.specs.Reading.{status_in, SaysImaged, StandsForRelup}
 use Rattle.rel_records.specs.Record.{Imaged, image_term, row_term}
 use Rattle.rel_records.proofs.TermLemmas.{SaysOrNot, says_or_not, StandsOrNot, stands_or_not, list_of_members, word_term}
 
-row_members : (v : Value) (t : Value × Value × Value) → row_in v ≡ Some t → v ≡ row_term t.0 t.1 t.2
+row_members : (v : Value) (t : Value × Value × Value) → triple_in v ≡ Some t → v ≡ row_term t.0 t.1 t.2
 row_members (tuple (value v (value w (value x no_values)))) t e =
     let same : (v, w, x) ≡ t = cc in ap (λ (q : Value × Value × Value). row_term q.0 q.1 q.2) same
 row_members v t e = absurd cc
 
 -- a term that is no row says no release of an image
-pub no_row : (v : Value) → row_in v ≡ None → (x : Imaged) → SaysImaged v x → ⊥
-no_row v none x s = cc (none, ap row_in s.is)
+pub no_row : (v : Value) → triple_in v ≡ None → (x : Imaged) → SaysImaged v x → ⊥
+no_row v none x s = cc (none, ap triple_in s.is)
 
-module _ (v : Value) (t : Value × Value × Value) (row : row_in v ≡ Some t) where
+module _ (v : Value) (t : Value × Value × Value) (row : triple_in v ≡ Some t) where
   -- what it says is said by its members
   members_of_row : (x : Imaged) (s : SaysImaged v x) → t ≡ (s.rel, s.status, s.last)
-  members_of_row x s = the_one (sym row ∙ ap row_in s.is)
+  members_of_row x s = the_one (sym row ∙ ap triple_in s.is)
     where
       the_one : Some t ≡ Some (s.rel, s.status, s.last) → t ≡ (s.rel, s.status, s.last)
       the_one e = cc
@@ -58,22 +58,22 @@ abbrev ImagedOrNot : Value → Type 0
 ImagedOrNot v = ((x : Imaged) × SaysImaged v x) ⊎ ((x : Imaged) → SaysImaged v x → ⊥)
 
 imaged_or_not : (v : Value) → ImagedOrNot v
-imaged_or_not v = by_row (row_in v) refl
+imaged_or_not v = by_row (triple_in v) refl
   where
-    by_relup : (t : Value × Value × Value) → row_in v ≡ Some t → (r : Release) → IsReleaseTerm t.0 r → (s : Status) → status_in t.1 ≡ Some s → StandsOrNot t.2 → ImagedOrNot v
+    by_relup : (t : Value × Value × Value) → triple_in v ≡ Some t → (r : Release) → IsReleaseTerm t.0 r → (s : Status) → status_in t.1 ≡ Some s → StandsOrNot t.2 → ImagedOrNot v
     by_relup t row r release s status (inl (o, stands)) =
         let x : Imaged = record { release = r; status = s; relup = o } in inl (x, row_says v t row x release status stands)
     by_relup t row r release s status (inr never) = inr (no_relup_there v t row never)
 
-    by_status : (t : Value × Value × Value) → row_in v ≡ Some t → (r : Release) → IsReleaseTerm t.0 r → (o : Option Status) → status_in t.1 ≡ o → ImagedOrNot v
+    by_status : (t : Value × Value × Value) → triple_in v ≡ Some t → (r : Release) → IsReleaseTerm t.0 r → (o : Option Status) → status_in t.1 ≡ o → ImagedOrNot v
     by_status t row r release (Some s) status = by_relup t row r release s status (stands_or_not t.2)
     by_status t row r release None none = inr (no_status v t row none)
 
-    by_release : (t : Value × Value × Value) → row_in v ≡ Some t → SaysOrNot t.0 → ImagedOrNot v
+    by_release : (t : Value × Value × Value) → triple_in v ≡ Some t → SaysOrNot t.0 → ImagedOrNot v
     by_release t row (inl (r, release)) = by_status t row r release (status_in t.1) refl
     by_release t row (inr never) = inr (no_rel_there v t row never)
 
-    by_row : (o : Option (Value × Value × Value)) → row_in v ≡ o → ImagedOrNot v
+    by_row : (o : Option (Value × Value × Value)) → triple_in v ≡ o → ImagedOrNot v
     by_row None none = inr (no_row v none)
     by_row (Some t) row = by_release t row (says_or_not t.0)
 
@@ -84,7 +84,7 @@ all_imaged_or_not vs = row_or_not SaysImaged imaged_or_not vs
 -- the lists of a term are those of an image
 pub is_image_term : (v : Value) (q : Values × Values) → lists_in v ≡ Some q → v ≡ image_term q.0 q.1
 is_image_term v q e =
-    let (t, row, found) = chained lists_of (row_in v) q e in
+    let (t, row, found) = chained lists_of (triple_in v) q e in
     let (word, rest) = passed (is_word (codes "image") t.0) (option_and_then (λ rows. option_map (λ libs. (rows, libs)) (list_in t.2)) (list_in t.1)) q found in
     let (rows, first, more) = chained (λ rows. option_map (λ libs. (rows, libs)) (list_in t.2)) (list_in t.1) q rest in
     let (libs, second, same) = mapped (λ libs. (rows, libs)) (list_in t.2) q more in

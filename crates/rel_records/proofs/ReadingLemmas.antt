@@ -15,6 +15,7 @@ use Rattle.erl_term.proofs.Exact.{one_reading, never_both as reads_or_fails, rea
 use Rattle.rel_files.specs.File.{IsReleaseTerm}
 use Rattle.rel_files.specs.Parts.{pair_in, is_word, list_in}
 use Rattle.rel_files.specs.Release.{Release}
+use Rattle.rel_files.specs.Sketch.{version_in}
 use Rattle.rel_files.specs.declared.fault.FileFault.{FileFault}
 use Rattle.rel_files.specs.declared.fault.FileFault.TheVariants as file
 use Rattle.relup_file.specs.Relup.{RelupForm}
@@ -25,7 +26,7 @@ use Rattle.library.proofs.TermCases.{libraries_or_not}
 use Rattle.rel_records.specs.Parts.{ReleaseParts, lists_in, parts_in, parts_term, record_read, fault_of_text, fault_of_release}
 use Rattle.rel_records.specs.declared.reading.Record.{Record as RecordInMemory}
 use Rattle.rel_records.specs.Record.{Assignment, Imaged, Record, makes, adds, assigns, removes, images, image_term}
-use Rattle.rel_records.specs.Reading.{change_of, change_in, assignments_of, version_in, AreImaged, Brings, Says, SaysImage, SaysImaged, Spells, StandsForRelup}
+use Rattle.rel_records.specs.Reading.{change_of, change_in, assignments_of, AreImaged, Brings, Says, SaysImage, SaysImaged, Spells, StandsForRelup}
 use Rattle.rel_records.specs.declared.fault.RecordFault.{RecordFault}
 use Rattle.rel_records.specs.declared.fault.RecordFault.TheVariants.{Bad}
 use Rattle.rel_records.proofs.BodyLemmas.{one_term, one_word, one_rel, one_row, one_last, no_change, same_lists}

@@ -8,7 +8,7 @@ use Rattle.erl_term.specs.Value.Values.{no_values, value}
 use Rattle.rel_files.specs.File.{IsReleaseTerm}
 use Rattle.rel_files.specs.Form.{form_of, names_in}
 use Rattle.rel_files.specs.Name.{AreDistinct, IsFirstTwice}
-use Rattle.rel_files.specs.Parts.{is_word, four_in, list_in}
+use Rattle.rel_files.specs.Parts.{is_word, four_in, list_in, word_in}
 use Rattle.rel_files.specs.Release.{Release}
 use Rattle.rel_files.specs.Sketch.{Sketch, sketch_in, release_in}
 use Rattle.rel_files.proofs.Options.{mapped, chained}
@@ -19,7 +19,7 @@ use Rattle.rel_files.proofs.Versions.{release_in-form}
 use Rattle.relup_file.specs.Parts.{relup_in}
 use Rattle.relup_file.specs.Relup.{RelupForm}
 use Rattle.relup_file.proofs.RelupLemmas.{from_relup, relup_in-term}
-use Rattle.rel_records.specs.Parts.{ReleaseParts, name_in, parts_in, parts_term, parts_with}
+use Rattle.rel_records.specs.Parts.{ReleaseParts, parts_in, parts_term, parts_with}
 use Rattle.rel_records.specs.Reading.{StandsForRelup}
 use Rattle.rel_records.specs.Record.{release_term}
 
@@ -52,7 +52,7 @@ four_term (tuple (value v (value w (value x (value y no_values))))) m e =
     let same : (v, w, x, y) ≡ m = cc in ap (λ (q : Value × Value × Value × Value). tuple (value q.0 (value q.1 (value q.2 (value q.3 no_values))))) same
 four_term v m e = absurd cc
 
-atom_named : (v : Value) (word : List ℕ) → name_in v ≡ Some word → v ≡ atom word
+atom_named : (v : Value) (word : List ℕ) → word_in v ≡ Some word → v ≡ atom word
 atom_named (atom s) word e = let same : s ≡ word = cc in ap atom same
 atom_named v word e = absurd cc
 
@@ -81,17 +81,17 @@ stands_or_not v = by_word (is_word (codes "none") v) refl (relup_in v) refl
     by_word false other (Err n) read = inr (neither other n read)
 
 -- a word, a list and two terms make the term of a record
-parts_spelled : (m : Value × Value × Value × Value) (word : List ℕ) (vs : Values) → name_in m.0 ≡ Some word → list_in m.2 ≡ Some vs
+parts_spelled : (m : Value × Value × Value × Value) (word : List ℕ) (vs : Values) → word_in m.0 ≡ Some word → list_in m.2 ≡ Some vs
     → tuple (value m.0 (value m.1 (value m.2 (value m.3 no_values)))) ≡ release_term word m.1 vs m.3
 parts_spelled m word vs name libs = λ k. tuple (value (atom_named m.0 word name k) (value m.1 (value (list_of_members m.2 vs libs k) (value m.3 no_values))))
 
 -- the parts of a term are those of a record's term
 pub is_parts_term : (v : Value) (p : ReleaseParts) → parts_in v ≡ Some p → v ≡ parts_term p
 is_parts_term v p e =
-    let (m, four, rest) = chained (λ (m : Value × Value × Value × Value). option_and_then (λ (word : List ℕ). option_map (parts_with m word) (list_in m.2)) (name_in m.0)) (four_in v) p e in
-    let (word, name, listed) = chained (λ (word : List ℕ). option_map (parts_with m word) (list_in m.2)) (name_in m.0) p rest in
+    let (m, four, rest) = chained (λ (m : Value × Value × Value × Value). option_and_then (λ (word : List ℕ). option_map (parts_with m word) (list_in m.2)) (word_in m.0)) (four_in v) p e in
+    let (word, name, listed) = chained (λ (word : List ℕ). option_map (parts_with m word) (list_in m.2)) (word_in m.0) p rest in
     let (vs, libs, same) = mapped (parts_with m word) (list_in m.2) p listed in
     by m word vs four name libs same
   where
-    by : (m : Value × Value × Value × Value) (word : List ℕ) (vs : Values) → four_in v ≡ Some m → name_in m.0 ≡ Some word → list_in m.2 ≡ Some vs → parts_with m word vs ≡ p → v ≡ parts_term p
+    by : (m : Value × Value × Value × Value) (word : List ℕ) (vs : Values) → four_in v ≡ Some m → word_in m.0 ≡ Some word → list_in m.2 ≡ Some vs → parts_with m word vs ≡ p → v ≡ parts_term p
     by m word vs four name libs same = four_term v m four ∙ (parts_spelled m word vs name libs ∙ ap parts_term same)

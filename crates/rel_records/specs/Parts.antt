@@ -1,12 +1,11 @@
 -- What was read from a body, without where it lies in memory.
-use Rattle.std.specs.Prelude.{ℕ, List, map, codes, if◌then◌else◌, Option, None, Some, string_bytes}
+use Rattle.std.specs.Prelude.{ℕ, List, map, codes, if◌then◌else◌, Option, None, string_bytes}
 use Rattle.std.specs.Option.{option_map, option_and_then}
 use Rattle.erl_term.specs.declared.term.Term.{Term}
 use Rattle.erl_term.specs.Value.{Value, Values, members_of, value_of}
-use Rattle.erl_term.specs.Value.Value.{atom, tuple}
 use Rattle.erl_term.specs.TermFault.{TermFault}
 use Rattle.erl_term.specs.TermFault.TheVariants as term
-use Rattle.rel_files.specs.Parts.{four_in, is_word, list_in, three}
+use Rattle.rel_files.specs.Parts.{triple_in, four_in, word_in, is_word, list_in}
 use Rattle.rel_files.specs.Release.{release_of}
 use Rattle.rel_files.specs.declared.fault.FileFault.{FileFault}
 use Rattle.rel_files.specs.declared.fault.FileFault.TheVariants as file
@@ -27,11 +26,6 @@ use Rattle.rel_records.specs.declared.reading.Record.TheVariants as memory
 use Rattle.rel_records.specs.declared.fault.RecordFault.{RecordFault}
 use Rattle.rel_records.specs.declared.fault.RecordFault.TheVariants.{Bad, NoMemory}
 
--- the text of an atom
-abbrev pub name_in : Value → Option (List ℕ)
-name_in (atom s) = Some s
-name_in v = None
-
 -- what a record that brings a release is made of: its word, the term of the release, those of the libraries, and the one that
 -- stands for the relup
 pub record ReleaseParts : Type 0 where
@@ -49,15 +43,10 @@ abbrev pub parts_with : Value × Value × Value × Value → List ℕ → Values
 parts_with m word libs = record { word = word; rel = m.1; libs = libs; relup = m.3 }
 
 abbrev pub parts_in : Value → Option ReleaseParts
-parts_in v = option_and_then (λ m. option_and_then (λ word. option_map (parts_with m word) (list_in m.2)) (name_in m.0)) (four_in v)
+parts_in v = option_and_then (λ m. option_and_then (λ word. option_map (parts_with m word) (list_in m.2)) (word_in m.0)) (four_in v)
 
 abbrev pub parts_of : PartsInMemory → ReleaseParts
 parts_of p = record { word = p.word.now; rel = value_of p.rel.now; libs = members_of p.libs.now; relup = value_of p.relup.now }
-
--- the three members of a tuple
-abbrev pub row_in : Value → Option (Value × Value × Value)
-row_in (tuple vs) = three vs
-row_in v = None
 
 -- the terms of an image: those of its releases, and those of its libraries
 abbrev pub lists_of : Value × Value × Value → Option (Values × Values)
@@ -65,7 +54,7 @@ lists_of m =
     if is_word (codes "image") m.0 then option_and_then (λ rows. option_map (λ libs. (rows, libs)) (list_in m.2)) (list_in m.1) else None
 
 abbrev pub lists_in : Value → Option (Values × Values)
-lists_in v = option_and_then lists_of (row_in v)
+lists_in v = option_and_then lists_of (triple_in v)
 
 -- the terms of a release's files
 abbrev pub files_of : Term → Option Term → FileTerms

@@ -7,7 +7,7 @@ use Rattle.erl_term.specs.Value.Values.{no_values, value}
 use Rattle.erl_term.specs.OneTerm.{HasTerm}
 use Rattle.rel_files.specs.File.{IsReleaseTerm}
 use Rattle.rel_files.specs.Parts.{list_in, pair_in, is_word}
-use Rattle.rel_files.specs.Sketch.{text_in}
+use Rattle.rel_files.specs.Sketch.{version_in}
 use Rattle.rel_files.specs.Release.{Release}
 use Rattle.relup_file.specs.Form.{IsRelupTerm}
 use Rattle.relup_file.specs.Relup.{RelupForm}
@@ -16,10 +16,6 @@ use Rattle.library.specs.Reading.{AreOfLibraries, EachSays}
 use Rattle.rel_list.specs.declared.status.Status.{Status}
 use Rattle.rel_list.specs.declared.status.Status.TheVariants.{Unpacked, Old, Permanent, OneShot}
 use Rattle.rel_records.specs.Record.{Assignment, FileTerms, Imaged, Record, makes, adds, assigns, removes, images, release_term, relup_or_none, row_term, image_term}
-
--- the text of a version
-abbrev pub version_in : Value → Option (List ℕ)
-version_in v = option_and_then (text_in 0x21) (list_in v)
 
 -- A status that is written: `current` never is.
 abbrev pub status_in : Value → Option Status

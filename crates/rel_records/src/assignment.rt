@@ -1,15 +1,16 @@
 // Statuses as a record assigns them.
-ghost use Rattle.std.specs.Prelude.{◌≡◌, map, string_bytes, None, Some, IfOk, IfErr, OnOk};
+ghost use Rattle.std.specs.Prelude.{◌≡◌, map, None, Some, IfOk, IfErr, OnOk};
 ghost use Rattle.std.specs.Option.{option_map};
 ghost use Rattle.erl_term.specs.Value.{value_of, members_of};
+ghost use Rattle.rel_files.specs.Sketch.{version_in};
 ghost use Rattle.rel_records.specs.Lists.{assign_all};
 ghost use Rattle.rel_records.specs.Parts.{assignment_read};
-ghost use Rattle.rel_records.specs.Reading.{version_in, status_in, assignment_in, assignments_of};
+ghost use Rattle.rel_records.specs.Reading.{status_in, assignment_in, assignments_of};
 
 use crate::fault::RecordFault;
 use erl_term::Term;
-use rel_files::parts::{is_word, list_in, pair_in};
-use rel_files::text::text_in;
+use rel_files::parts::{is_word, pair_in};
+use rel_files::text::version_in;
 use rel_list::{ReleaseList, Status};
 use std::alloc::{AllocError, Global};
 
@@ -18,16 +19,6 @@ use std::alloc::{AllocError, Global};
 pub(crate) struct Assignment {
     pub(crate) vsn: String,
     pub(crate) status: Status,
-}
-
-// The text of a version.
-pub(crate) fn version_in(alloc: Global, term: &Term) -> Result<Option<String>, AllocError>
-    ensures { IfOk result (λ vsn. option_map string_bytes vsn ≡ version_in (value_of term.now)) }
-{
-    match list_in(term) {
-        Some(items) => text_in(alloc, b'!', items),
-        None => Ok(None),
-    }
 }
 
 // A status that is written: `current` never is.

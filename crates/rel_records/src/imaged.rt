@@ -2,7 +2,8 @@
 ghost use Rattle.std.specs.Prelude.{◌≡◌, List, map, Some, IsErrOf, IfOk};
 ghost use Rattle.std.specs.Option.{option_map};
 ghost use Rattle.erl_term.specs.Value.{members_of, value_of};
-ghost use Rattle.rel_records.specs.Parts.{imaged_read, lists_in, lists_of, row_in};
+ghost use Rattle.rel_files.specs.Parts.{triple_in};
+ghost use Rattle.rel_records.specs.Parts.{imaged_read, lists_in, lists_of};
 ghost use Rattle.rel_records.specs.Reading.{AreImaged, SaysImaged};
 ghost use Rattle.rel_records.specs.Record.{Imaged as ImagedInSpecs};
 
@@ -12,7 +13,7 @@ use crate::new_release::relup_in;
 use crate::words::IMAGE;
 use erl_term::Term;
 use library::Library;
-use rel_files::parts::{is_word, list_in, three};
+use rel_files::parts::{is_word, list_in, triple_in};
 use rel_files::{Rel, rel_of_term};
 use rel_list::Status;
 use relup_file::Relup;
@@ -34,22 +35,12 @@ pub(crate) struct Image {
     pub(crate) libraries: Vec<Rc<Library>>,
 }
 
-fn row_in(term: &Term) -> Option<(&Term, &Term, &Term)>
-    ensures { option_map (λ t. (value_of t.0.now, value_of t.1.now, value_of t.2.now)) result
-        ≡ row_in (value_of term.now) }
-{
-    match term {
-        Term::Tuple(members) => three(members),
-        _ => None,
-    }
-}
-
 // The terms of the releases and of the libraries of `{image, Releases, Libs}`.
 pub(crate) fn lists_in(term: &Term) -> Option<(&[Term], &[Term])>
     ensures { option_map (λ p. (members_of p.0.now, members_of p.1.now)) result
         ≡ lists_in (value_of term.now) }
 {
-    let (word, rows, libs) = row_in(term)?;
+    let (word, rows, libs) = triple_in(term)?;
     lists_of(word, rows, libs)
 }
 
@@ -69,7 +60,7 @@ fn imaged_in(alloc: Global, term: &Term) -> Result<Imaged, RecordFault>
     ensures bad { IsErrOf result RecordFault.Bad
         → (x : ImagedInSpecs) → SaysImaged (value_of term.now) x → ⊥ }
 {
-    let Some((rel, status, relup)) = row_in(term) else {
+    let Some((rel, status, relup)) = triple_in(term) else {
         return Err(RecordFault::Bad);
     };
     let Some(status) = status_in(status) else {

@@ -3,15 +3,16 @@ ghost use Rattle.std.specs.Prelude.{◌≡◌, List, Option, IsErrOf, IfOk};
 ghost use Rattle.std.specs.Option.{option_map};
 ghost use Rattle.erl_term.specs.Value.{value_of};
 ghost use Rattle.library.specs.Library.{Library as LibraryInSpecs};
+ghost use Rattle.rel_files.specs.Parts.{word_in};
 ghost use Rattle.rel_files.specs.Release.{Release};
 ghost use Rattle.relup_file.specs.Relup.{RelupForm, relup_of};
-ghost use Rattle.rel_records.specs.Parts.{BringsNew, name_in, parts_in, parts_of, parts_term};
+ghost use Rattle.rel_records.specs.Parts.{BringsNew, parts_in, parts_of, parts_term};
 ghost use Rattle.rel_records.specs.Reading.{Brings, StandsForRelup};
 
 use crate::fault::RecordFault;
 use erl_term::Term;
 use library::{Library, libraries_of_terms};
-use rel_files::parts::{four_in, is_word, list_in};
+use rel_files::parts::{four_in, is_word, list_in, word_in};
 use rel_files::{Rel, rel_of_term};
 use relup_file::{Relup, relup_of_term};
 use std::alloc::Global;
@@ -23,15 +24,6 @@ pub(crate) struct NewRelease {
     pub(crate) release: Rel,
     pub(crate) libraries: Vec<Rc<Library>>,
     pub(crate) relup: Option<Relup>,
-}
-
-fn name_in(term: &Term) -> Option<&str>
-    ensures { option_map (λ name. name.now) result ≡ name_in (value_of term.now) }
-{
-    match term {
-        Term::Atom(name) => Some(name.as_str()),
-        _ => None,
-    }
 }
 
 // What a record that brings a release is made of.
@@ -48,7 +40,7 @@ pub(crate) fn parts_in(term: &Term) -> Option<ReleaseParts<'_>>
 {
     let (word, rel, libs, relup) = four_in(term)?;
     Some(ReleaseParts {
-        word: name_in(word)?,
+        word: word_in(word)?,
         rel,
         libs: list_in(libs)?,
         relup,

@@ -7,7 +7,7 @@ ghost use Rattle.rel_files.specs.Parts.{list_in};
 ghost use Rattle.rel_records.specs.Reading.{assignments_of, change_in, change_of, Says, Spells};
 ghost use Rattle.rel_records.specs.Record.{Record as RecordInSpecs, assigns, image_term};
 
-use crate::assignment::{Assignment, assignments_in, version_in};
+use crate::assignment::{Assignment, assignments_in};
 use crate::fault::RecordFault;
 use crate::imaged::{Image, all_imaged_in, lists_in};
 use crate::new_release::{NewRelease, ReleaseParts, new_release, parts_in};
@@ -15,6 +15,7 @@ use crate::words::{MADE, UNPACKED};
 use erl_term::{Term, read_record};
 use library::libraries_of_terms;
 use rel_files::parts::{is_word, list_in, pair_in};
+use rel_files::text::version_in;
 use std::alloc::{AllocError, Global};
 
 // What a record of a store says.

@@ -2,18 +2,19 @@
 use Rattle.std.proofs.Common.{◌≡◌, ◌≢◌, ◌⊎◌, inl, inr, ℕ, zero, suc, List, [], ◌∷◌, ◌++◌, Option, Some, None, refl, sym, ap, ◌∙◌, subst, append-nil, append_assoc, arith}
 use Rattle.rel_list.specs.Event.{Event, list_after}
 use Rattle.node_store.specs.Image.{extent_of}
-use Rattle.node_store.specs.Events.{Known, Events, Stored, settled, certain, with_doubt, HasStart, IsStoredAs}
+use Rattle.node_store.proofs.Beginnings.{with_themselves, with_first, has_start_since}
+use Rattle.node_store.specs.Events.{Known, Events, Stored, settled, at_rest_since, certain, with_doubt, BeginWith, HasStart, IsStoredAs}
 use Rattle.session_input.specs.Commands.{Command}
 use Rattle.rel_session.specs.Device.{Device, LeavesOnly}
 use Rattle.session_input.specs.Feed.{Feed}
 use Rattle.session_input.specs.Feed.Feed.{over, cut, next}
 use Rattle.rel_unpack.specs.Source.{Source}
 use Rattle.rel_session.specs.Files.{Files, files_behind, source_of}
-use Rattle.rel_session.specs.Node.{Place, at_rest, Outcome, Reply}
+use Rattle.rel_session.specs.Node.{Place, at_rest, CommandOutcome, Reply}
 use Rattle.rel_session.specs.Node.Place.{raw, closed, running, dead}
 use Rattle.rel_session.specs.Run.{EndsInFull, Starts, Holds, Moments, Executes, MayLeave, IsReply, Replies, Ending, IsReached, events_of}
 use Rattle.rel_session.specs.Run.Ending.{ended, cut_off, unread, early}
-use Rattle.rel_session.specs.RunLaws.{acknowledged_at, IsKnown, Finds, Keeps, place_after, HaveAll, StandsForAll, BecomesKnown, LosesNothing, IsOfAccepted, BeginsWhereOneEnded, BeginsBehindACrash, IsNextDisk, Lasts, LosesNothingEver}
+use Rattle.rel_session.specs.RunLaws.{acknowledged_at, ran_at, IsKnown, Finds, KeepsEvents, place_after, HaveAll, StandsForAll, BecomesKnown, LosesNothing, IsOfAccepted, BeginsWhereOneEnded, BeginsBehindACrash, IsNextDisk, Lasts, LosesNothingEver}
 use Rattle.rel_session.specs.Transition.{Transition}
 use Rattle.rel_session.proofs.Prefixes.{prefix_of}
 use Rattle.rel_session.proofs.DeviceLemmas.{IsDevice, weakened, joined, still}
@@ -75,18 +76,18 @@ finds_more (running events extent ps) found finds = ([], finds ∙ sym (append-n
 finds_more (dead s) found finds = doubt_more s.known.acknowledged s.known.in_doubt found finds
 
 -- so do those behind a reply
-keeps_more : (p : Place) (a : Reply) → Keeps p a → (between : Events) × (acknowledged_at a.after ≡ acknowledged_at p ++ (between ++ a.outcome.acknowledged))
+keeps_more : (p : Place) (a : Reply) → KeepsEvents p a → (between : Events) × (acknowledged_at a.after ≡ acknowledged_at p ++ (between ++ a.outcome.acknowledged))
 keeps_more p a keeps =
     let (more, is) = finds_more p keeps.found keeps.finds in
     (more, keeps.are ∙ ap (λ (l : Events). l ++ a.outcome.acknowledged) is ∙ append_assoc (acknowledged_at p) more a.outcome.acknowledged)
 
-stands_for_more : (events more all : Events) (image : List ℕ) → all ≡ events ++ more → StandsForAll all image → StandsForAll events image
-stands_for_more events more all image is of = record {
+stands_for_more : (ran later events more all : Events) (image : List ℕ) → BeginWith ran later → all ≡ events ++ more → StandsForAll later all image → StandsForAll ran events image
+stands_for_more ran later events more all image begins is of = record {
   more = more ++ of.more;
   list = of.list;
   after = ap list_after (sym (append_assoc events more of.more) ∙ ap (λ (l : Events). l ++ of.more) (sym is)) ∙ of.after;
   image_of = of.image_of;
-  start = subst (λ l. HasStart l image) (ap (λ (l : Events). l ++ of.more) is ∙ append_assoc events more of.more) of.start;
+  start = subst (λ l. HasStart ran l image) (ap (λ (l : Events). l ++ of.more) is ∙ append_assoc events more of.more) (has_start_since ran later (all ++ of.more) image begins of.start);
 }
 
 -- the events of all the replies
@@ -111,7 +112,7 @@ becomes_known base files p commands ending (a ∷ first) rest right known =
     let keeps = each_left_keeps (source_of base files) p n.command a n.is in
     becomes_known base (files_behind files n.command) a.after n.rest ending first rest n.right (go keeps known)
   where
-    go : Keeps p a → (IsKnown p ⊎ (a.outcome.acknowledged ≢ [])) ⊎ BecomesKnown a.after first → BecomesKnown a.after first
+    go : KeepsEvents p a → (IsKnown p ⊎ (a.outcome.acknowledged ≢ [])) ⊎ BecomesKnown a.after first → BecomesKnown a.after first
     go keeps (inl here) = known_first a.after first (keeps.known here)
     go keeps (inr later) = later
 
@@ -123,49 +124,52 @@ rest_right base files p commands ending (a ∷ first) rest right =
     let n = first_answered base files p commands ending a (first ++ rest) right in
     rest_right base (files_behind files n.command) a.after n.rest ending first rest n.right
 
--- behind replies from a known store it is known, and its events begin with those before
+-- behind replies from a known store it is known, its events begin with those before, and a node ran no sooner
 abbrev IsStill : Place → List Reply → Type 0
-IsStill p replies = IsKnown (place_after p replies) × (more : Events) × (acknowledged_at (place_after p replies) ≡ acknowledged_at p ++ more)
+IsStill p replies =
+    IsKnown (place_after p replies) × (more : Events) × (acknowledged_at (place_after p replies) ≡ acknowledged_at p ++ more)
+    × BeginWith (ran_at p) (ran_at (place_after p replies))
 
 stays_known : (base : Source) (files : Files) (p : Place) (commands : Feed Command) (ending : Ending) (replies : List Reply) → Replies base files p commands ending replies → IsKnown p → IsStill p replies
-stays_known base files p commands ending [] right known = (known, [], sym (append-nil (acknowledged_at p)))
+stays_known base files p commands ending [] right known = (known, [], sym (append-nil (acknowledged_at p)), with_themselves (ran_at p))
 stays_known base files p commands ending (a ∷ more) right known =
     let n = first_answered base files p commands ending a more right in
     let keeps = each_left_keeps (source_of base files) p n.command a n.is in
     let (between, is) = keeps_more p a keeps in
-    let (then, others, are) = stays_known base (files_behind files n.command) a.after n.rest ending more n.right (keeps.known (inl known)) in (
+    let (then, others, are, ran) = stays_known base (files_behind files n.command) a.after n.rest ending more n.right (keeps.known (inl known)) in (
       then,
       (between ++ a.outcome.acknowledged) ++ others,
       are ∙ ap (λ (l : Events). l ++ others) is ∙ append_assoc (acknowledged_at p) (between ++ a.outcome.acknowledged) others,
+      with_first (ran_at p) (ran_at a.after) (ran_at (place_after a.after more)) keeps.ran ran,
     )
 
 pub of_accepted : IsOfAccepted
 of_accepted s image of = record { events = of.events; prefix = prefix_of s of.events (extent_of image) of.list of.has of.after; list = of.list; after = of.after; image_of = of.image_of }
 
-stands_for : (s : Stored) (image : List ℕ) → IsStoredAs s image → StandsForAll s.known.acknowledged image
+stands_for : (s : Stored) (image : List ℕ) → IsStoredAs s image → StandsForAll s.known.ran s.known.acknowledged image
 stands_for s image of =
     let prefix = prefix_of s of.events (extent_of image) of.list of.has of.after in
-    record { more = prefix.more; list = of.list; after = ap list_after (sym prefix.holds) ∙ of.after; image_of = of.image_of; start = subst (λ l. HasStart l image) prefix.holds of.start }
+    record { more = prefix.more; list = of.list; after = ap list_after (sym prefix.holds) ∙ of.after; image_of = of.image_of; start = subst (λ l. HasStart s.known.ran l image) prefix.holds of.start }
 
-stands_for_reached : (k : Known) (command : Events) (image : List ℕ) → IsReached k command image → StandsForAll k.acknowledged image
+stands_for_reached : (k : Known) (command : Events) (image : List ℕ) → IsReached k command image → StandsForAll k.ran k.acknowledged image
 stands_for_reached k command image of = record {
   more = of.prefix.more ++ of.more;
   list = of.list;
   after = ap list_after (sym (append_assoc k.acknowledged of.prefix.more of.more) ∙ ap (λ (l : Events). l ++ of.more) (sym of.prefix.holds)) ∙ of.after;
   image_of = of.image_of;
-  start = subst (λ l. HasStart l image) (ap (λ (l : Events). l ++ of.more) of.prefix.holds ∙ append_assoc k.acknowledged of.prefix.more of.more) of.start;
+  start = subst (λ l. HasStart k.ran l image) (ap (λ (l : Events). l ++ of.more) of.prefix.holds ∙ append_assoc k.acknowledged of.prefix.more of.more) of.start;
 }
 
 module _ {D : Type 0} (v : Device D) (laws : IsDevice v) where
   -- each image where the disk stands
-  held_images : (p : Place) (disk : D) → IsKnown p → Holds v p disk → (c : List ℕ) → v.may_leave disk c → StandsForAll (acknowledged_at p) c
+  held_images : (p : Place) (disk : D) → IsKnown p → Holds v p disk → (c : List ℕ) → v.may_leave disk c → StandsForAll (ran_at p) (acknowledged_at p) c
   held_images (raw bytes) disk known holds c now = absurd known
   held_images (closed s) disk known holds c now = stands_for s c (holds c now)
-  held_images (running events extent ps) disk known holds c now = stands_for (certain events extent) c (holds c now).0
+  held_images (running events extent ps) disk known holds c now = stands_for (certain events extent) c (holds c now)
   held_images (dead s) disk known holds c now = stands_for s c (holds c now)
 
   -- and at each moment of a command
-  command_images : (p : Place) (o : Outcome) (old new : D) → IsKnown p → Moments v p o old new → LeavesOnly v old new (StandsForAll (acknowledged_at p))
+  command_images : (p : Place) (o : CommandOutcome) (old new : D) → IsKnown p → Moments v p o old new → LeavesOnly v old new (StandsForAll (ran_at p) (acknowledged_at p))
   command_images (raw bytes) o old new known moments = absurd known
   command_images (closed s) o old new known moments = weakened v old new _ _ (stands_for_reached s.known (events_of o)) moments
   command_images (running events extent ps) o old new known moments = weakened v old new _ _ (stands_for_reached (settled events) (events_of o)) moments
@@ -173,16 +177,16 @@ module _ {D : Type 0} (v : Device D) (laws : IsDevice v) where
 
   -- and so at each moment of a session
   pub session_images : (base : Source) (files : Files) (p : Place) (commands : Feed Command) (ending : Ending) (replies : List Reply) (old new : D) → Replies base files p commands ending replies
-      → IsKnown p → Holds v p old → Executes v p replies old new → LeavesOnly v old new (StandsForAll (acknowledged_at p))
+      → IsKnown p → Holds v p old → Executes v p replies old new → LeavesOnly v old new (StandsForAll (ran_at p) (acknowledged_at p))
   session_images base files p commands ending [] old new right known holds (leaves, then, counted) =
-      weakened v old new (v.may_leave old) (StandsForAll (acknowledged_at p)) (held_images p old known holds) leaves
+      weakened v old new (v.may_leave old) (StandsForAll (ran_at p) (acknowledged_at p)) (held_images p old known holds) leaves
   session_images base files p commands ending (a ∷ more) old new right known holds (mid, happens, leads) =
       let n = first_answered base files p commands ending a more right in
       let keeps = each_left_keeps (source_of base files) p n.command a n.is in
       let (between, is) = keeps_more p a keeps in
-      joined v old mid new (StandsForAll (acknowledged_at p)) (command_images p a.outcome old mid known happens.moments)
-      (weakened v mid new (StandsForAll (acknowledged_at a.after)) (StandsForAll (acknowledged_at p))
-      (λ c. stands_for_more (acknowledged_at p) (between ++ a.outcome.acknowledged) (acknowledged_at a.after) c is)
+      joined v old mid new (StandsForAll (ran_at p) (acknowledged_at p)) (command_images p a.outcome old mid known happens.moments)
+      (weakened v mid new (StandsForAll (ran_at a.after) (acknowledged_at a.after)) (StandsForAll (ran_at p) (acknowledged_at p))
+      (λ c. stands_for_more (ran_at p) (ran_at a.after) (acknowledged_at p) (between ++ a.outcome.acknowledged) (acknowledged_at a.after) c keeps.ran is)
       (session_images base (files_behind files n.command) a.after n.rest ending more mid new n.right (keeps.known (inl known)) happens.holds leads))
 
   -- a session in two parts
@@ -215,46 +219,48 @@ module _ {D : Type 0} (v : Device D) (laws : IsDevice v) where
   starts_at_rest : (p : Place) (disk : D) → Holds v p disk → Starts v (at_rest p) disk
   starts_at_rest (raw bytes) disk holds = holds
   starts_at_rest (closed s) disk holds = holds
-  starts_at_rest (running events extent ps) disk holds = λ c now. (holds c now).0
+  starts_at_rest (running events extent ps) disk holds = holds
   starts_at_rest (dead s) disk holds = holds
 
   pub begins_where_one_ended : BeginsWhereOneEnded v
   begins_where_one_ended p replies old new leads = starts_at_rest (place_after p replies) new (handed_back p replies old new leads)
 
   pub begins_behind_a_crash : BeginsBehindACrash v
-  begins_behind_a_crash events image disk of only = (
+  begins_behind_a_crash ran events image disk of only = (
     of.more,
-    λ c now. subst (IsStoredAs (certain (events ++ of.more) (extent_of image))) (sym (only c now))
-        (record { events = events ++ of.more; has = inl (refl, refl); list = of.list; after = of.after; image_of = of.image_of; start = of.start }),
+    λ c now. subst (IsStoredAs (at_rest_since ran (events ++ of.more) (extent_of image))) (sym (only c now))
+        (record { events = events ++ of.more; has = (with_first ran of.start.before (events ++ of.more) of.start.since of.start.of_events, inl (refl, refl)); list = of.list; after = of.after; image_of = of.image_of; start = of.start }),
   )
 
-  known_at_rest : (p : Place) → IsKnown p → (s : Stored) × (at_rest p ≡ closed s) × (s.known.acknowledged ≡ acknowledged_at p)
+  known_at_rest : (p : Place) → IsKnown p → (s : Stored) × (at_rest p ≡ closed s) × (s.known.acknowledged ≡ acknowledged_at p) × (s.known.ran ≡ ran_at p)
   known_at_rest (raw bytes) known = absurd known
-  known_at_rest (closed s) known = (s, refl, refl)
-  known_at_rest (running events extent ps) known = (certain events extent, refl, refl)
-  known_at_rest (dead s) known = (s, refl, refl)
+  known_at_rest (closed s) known = (s, refl, refl, refl)
+  known_at_rest (running events extent ps) known = (certain events extent, refl, refl, refl)
+  known_at_rest (dead s) known = (s, refl, refl, refl)
 
   -- where all these events are acknowledged, with others behind them
-  abbrev IsOn : Events → D → Type 0
-  IsOn events disk = (s : Stored) × (more : Events) × Starts v (closed s) disk × (s.known.acknowledged ≡ events ++ more)
+  abbrev IsOn : Events → Events → D → Type 0
+  IsOn ran events disk =
+      (s : Stored) × (more : Events) × Starts v (closed s) disk × (s.known.acknowledged ≡ events ++ more) × BeginWith ran s.known.ran
 
-  next_disk : (p : Place) (replies : List Reply) (mid new later : D) → LeavesOnly v mid new (StandsForAll (acknowledged_at p)) → IsStill p replies
-      → Holds v (place_after p replies) new → IsNextDisk v mid new later → IsOn (acknowledged_at p) later
-  next_disk p replies mid new later moments (known, more, is) holds (inl same) =
-      let (s, rests, are) = known_at_rest (place_after p replies) known in
+  next_disk : (p : Place) (replies : List Reply) (mid new later : D) → LeavesOnly v mid new (StandsForAll (ran_at p) (acknowledged_at p)) → IsStill p replies
+      → Holds v (place_after p replies) new → IsNextDisk v mid new later → IsOn (ran_at p) (acknowledged_at p) later
+  next_disk p replies mid new later moments (known, more, is, ran) holds (inl same) =
+      let (s, rests, are, last) = known_at_rest (place_after p replies) known in
       let starts = subst (λ d. Starts v (at_rest (place_after p replies)) d) (sym same) (starts_at_rest (place_after p replies) new holds) in
-      (s, more, subst (λ q. Starts v q later) rests starts, are ∙ is)
+      (s, more, subst (λ q. Starts v q later) rests starts, are ∙ is, subst (BeginWith (ran_at p)) (sym last) ran)
   next_disk p replies mid new later moments still holds (inr (image, left, only)) =
-      let (more, starts) = begins_behind_a_crash (acknowledged_at p) image later (moments.each image left) only in
-      (certain (acknowledged_at p ++ more) (extent_of image), more, starts, refl)
+      let (more, starts) = begins_behind_a_crash (ran_at p) (acknowledged_at p) image later (moments.each image left) only in
+      (at_rest_since (ran_at p) (acknowledged_at p ++ more) (extent_of image), more, starts, refl, with_themselves (ran_at p))
 
-  lasts : (base : Source) (n : ℕ) (events : Events) (disk : D) → IsOn events disk → Lasts v base n events disk
-  lasts base zero events disk on = on
-  lasts base (suc n) events disk (s, more, starts, is) = (
+  lasts : (base : Source) (n : ℕ) (ran events : Events) (disk : D) → IsOn ran events disk → Lasts v base n ran events disk
+  lasts base zero ran events disk on = on
+  lasts base (suc n) ran events disk (s, more, starts, is, last) = (
     s,
     more,
     starts,
     is,
+    last,
     λ files commands ending first rest mid new later right before behind next.
         let (fs, left, right_then) = rest_right base files (closed s) commands ending first rest right in
         let known = becomes_known base files (closed s) commands ending first rest right (known_first (closed s) first tt) in
@@ -263,9 +269,9 @@ module _ {D : Type 0} (v : Device D) (laws : IsDevice v) where
         let on = next_disk then rest mid new later moments (stays_known base fs then left ending rest right_then known) (handed_back then rest mid new behind) next in (
           acknowledged_at then,
           subst (λ es. HaveAll es first (acknowledged_at then)) is (have_all base files (closed s) commands ending first rest right),
-          lasts base n (acknowledged_at then) later on,
+          lasts base n (ran_at then) (acknowledged_at then) later on,
         ),
   )
 
   pub loses_nothing_ever : (base : Source) → LosesNothingEver v base
-  loses_nothing_ever base n s disk starts = lasts base n s.known.acknowledged disk (s, [], starts, sym (append-nil s.known.acknowledged))
+  loses_nothing_ever base n s disk starts = lasts base n s.known.ran s.known.acknowledged disk (s, [], starts, sym (append-nil s.known.acknowledged), with_themselves s.known.ran)

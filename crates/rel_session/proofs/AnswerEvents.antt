@@ -29,11 +29,11 @@ use Rattle.node_processes.specs.Processes.{Processes}
 use Rattle.rel_session.specs.AnswerLaws.{have_restart}
 use Rattle.node_answer.specs.Lines.{installed_line}
 use Rattle.rel_session.specs.Installation.{restarted}
-use Rattle.rel_session.specs.Node.{Place, Outcome, Reply, reply, failed, nothing, done, failed_with, releases_after, behind, with_text}
+use Rattle.rel_session.specs.Node.{Place, CommandOutcome, Reply, reply, failed, nothing, done, failed_with, releases_after, behind, with_text}
 use Rattle.rel_session.specs.Node.Place.{raw, closed, running, dead}
 use Rattle.node_answer.specs.Refusals.{refusal_of, refusal_for, refusal_line}
 use Rattle.rel_session.specs.Booting.{boot_line}
-use Rattle.node_answer.specs.Refusals.Refusal.{device}
+use Rattle.node_answer.specs.Refusals.NodeRefusal.{device}
 use Rattle.rel_session.specs.Transition
 use Rattle.rel_session.specs.Transition.Action.{answers, makes_node, changes_node, installs, reboots_node, boots_node, tells_start, calls}
 use Rattle.rel_session.proofs.ActionLemmas.{Kind, kind_of, AreTold, one_action}
@@ -67,10 +67,10 @@ report_of (x ∷ s) =
 
 -- the outcome, and the kind of the place behind it
 pub record Effect : Type 0 where
-  pub outcome : Outcome
+  pub outcome : CommandOutcome
   pub kind : Kind
 
-abbrev effect : Outcome → Kind → Effect
+abbrev effect : CommandOutcome → Kind → Effect
 effect o k = record { outcome = o; kind = k }
 
 abbrev pub effect_of : Reply → Effect

@@ -42,9 +42,9 @@ use Rattle.rel_list.specs.Refusal.{refusal}
 use Rattle.relup_script.specs.Search.{FoundForm}
 use Rattle.node_command.specs.Installing.{script_to, unless_listed_refusal}
 use Rattle.node_command.specs.Taking.{list_refusal}
-use Rattle.node_answer.specs.Refusals.{Refusal, refusal_of, refusal_line}
+use Rattle.node_answer.specs.Refusals.{NodeRefusal, refusal_of, refusal_line}
 use Rattle.rel_session.specs.Booting.{boot_line}
-use Rattle.node_answer.specs.Refusals.Refusal.{no_such_release, existing_release, already_installed, bad_status, permanent, is_running, lib_differs, bad_file, missing_file, vsn_mismatch, no_table, too_many, no_matching_relup, script_refused, must_reboot, device, full, dead, no_memory, exists}
+use Rattle.node_answer.specs.Refusals.NodeRefusal.{no_such_release, existing_release, already_installed, bad_status, permanent, is_running, lib_differs, bad_file, missing_file, vsn_mismatch, no_table, too_many, no_matching_relup, script_refused, must_reboot, device, full, dead, no_memory, exists}
 use Rattle.node_upgrade.specs.Failure.{Failure, Why, failure_text, why_text}
 use Rattle.node_upgrade.specs.Failure.Why.{new_emulator, no_point, two_points, misplaced, fails}
 use Rattle.script_progress.specs.Fault as script
@@ -135,7 +135,7 @@ trouble_plain (faulty_relup f) = relup_fault_plain f
 trouble_plain misshapen = refl
 
 -- the path or the name that a refusal tells is within a line
-abbrev pub HasLine : Refusal → Type 0
+abbrev pub HasLine : NodeRefusal → Type 0
 HasLine (lib_differs app) = is_one_line app ≡ true
 HasLine (no_table app) = is_one_line app ≡ true
 HasLine (bad_file path trouble) = is_one_line path ≡ true
@@ -175,7 +175,7 @@ why_plain (fails c) = cause_plain c
 failure_plain : (f : Failure) → is_one_line (failure_text f) ≡ true
 failure_plain f = append_line (decimal f.instr) (codes " " ++ why_text f.why) (decimal_line f.instr) (why_plain f.why)
 
-pub refusal_whole : (why : Refusal) → HasLine why → IsWhole (refusal_line why)
+pub refusal_whole : (why : NodeRefusal) → HasLine why → IsWhole (refusal_line why)
 refusal_whole no_such_release line behind = refl
 refusal_whole existing_release line behind = refl
 refusal_whole already_installed line behind = refl

@@ -19,7 +19,7 @@ use Rattle.node_command.specs.declared.error.HandlerError.TheVariants as handler
 use Rattle.rel_session.specs.Booting.{Boots, BootsStore, store_behind}
 use Rattle.rel_session.specs.Device.{Device, LeavesOnly}
 use Rattle.rel_session.specs.InMemory.{disk_at, IsAt, Replied, Leads, NothingDone, TellsOrStops, AnswersOrStops}
-use Rattle.rel_session.specs.Node.{Place, Outcome, Reply, reply, done, behind, releases_after, list_or_none, with_text}
+use Rattle.rel_session.specs.Node.{Place, CommandOutcome, Reply, reply, done, behind, releases_after, list_or_none, with_text}
 use Rattle.rel_session.specs.Node.Place.{raw, closed, running, dead}
 use Rattle.rel_session.specs.Run.{Holds, Happens, IsReached, events_of}
 use Rattle.rel_session.specs.Transition.{StopsWithin, without_node}
@@ -61,7 +61,7 @@ module _ {D : Type 0} (v : Device D) (laws : IsDevice v) (e : Event) (size : ℕ
   at_there : (events : Events) (extent : Extent) (ps : Processes) → IsAt v (memory.Made n) (running events extent ps) → IsAt v (memory.Made new) (dead (store_behind events e (extent_in new.handler)))
   at_there events extent ps at = (holds_there events extent ps at, gone)
 
-  events_behind : (o : Outcome) → with_doubt (e ∷ o.acknowledged) o.in_doubt ≡ e ∷ events_of o
+  events_behind : (o : CommandOutcome) → with_doubt (e ∷ o.acknowledged) o.in_doubt ≡ e ∷ events_of o
   events_behind o = go o.in_doubt
     where
       go : (d : Option Event) → with_doubt (e ∷ o.acknowledged) d ≡ e ∷ with_doubt o.acknowledged d

@@ -22,8 +22,8 @@ use Rattle.rel_session.specs.InMemory.{IsAt, Replied, Answers}
 use Rattle.rel_session.specs.Node.{Place, Reply, refused, failed, releases_after, list_or_none}
 use Rattle.rel_session.specs.Node.Place.{raw, closed, running, dead}
 use Rattle.rel_unpack.specs.Refusal.{Refusal as FilesRefusal}
-use Rattle.node_answer.specs.Refusals.{Refusal, refusal_of, refusal_for, refusal_line}
-use Rattle.node_answer.specs.Refusals.Refusal.{full, device}
+use Rattle.node_answer.specs.Refusals.{NodeRefusal, refusal_of, refusal_for, refusal_line}
+use Rattle.node_answer.specs.Refusals.NodeRefusal.{full, device}
 use Rattle.rel_session.specs.Run.{IsReached, Holds}
 use Rattle.rel_session.specs.Transition
 use Rattle.rel_session.specs.Transition.Action.{changes_node}
@@ -72,7 +72,7 @@ module _ {D : Type 0} (v : Device D) (laws : IsDevice v) (P : Place → Reply �
           happens = record { moments = moments_at events after; holds = holds; cause = λ f. cause; counted = commits.counted };
         }
 
-    same_reply : (why : Refusal) (o : Result Releases HandlerError) → commanded e (list_in n.handler) ≡ o → IsSame n.handler new.handler
+    same_reply : (why : NodeRefusal) (o : Result Releases HandlerError) → commanded e (list_in n.handler) ≡ o → IsSame n.handler new.handler
         → ((events : Events) (extent : Extent) (ps : Processes) → extent_in n.handler ≡ extent → Transition.IsCommit events extent ps e body_size o (Done events ps (list_in n.handler)) (refused why (running events extent ps)))
         → (p : Place) → IsAt v (memory.Made n) p → Replied v p (λ a. P p a × (a.answer ≡ refusal_line why)) (memory.Made n) (memory.Made new)
     same_reply why o is same barred (raw bytes) at = absurd at

@@ -15,7 +15,7 @@ use Rattle.node_store.specs.Image.{extent_behind, first_extent, HasSpace, holds_
 use Rattle.rel_handler.specs.Moments.{WritesNothing}
 use Rattle.rel_handler.specs.Refusals.{MakingRefused}
 use Rattle.node_store.specs.State.{disk_in, list_in, is_dead, HasStarted}
-use Rattle.rel_handler.specs.Unpacking.{IsMade, IsNotBegun, IsNotMade, CreationRefused}
+use Rattle.rel_handler.specs.Unpacking.{IsMade, IsNotBegun, IsNotMade, NodeCreationRefused}
 use Rattle.rel_unpack.specs.Refusal as of_files
 use Rattle.rel_unpack.specs.Unpacking.{Brought}
 use Rattle.rel_unpack.specs.Source.{Source}
@@ -27,8 +27,8 @@ use Rattle.rel_session.specs.Device.{Device, HasFailed}
 use Rattle.rel_session.specs.InMemory.{IsAt, Replied, NothingDone, Answers, AnswersCommand, IsStarted}
 use Rattle.rel_session.specs.Node.{Place, just_booted, Reply, reply, refused, failed, done}
 use Rattle.rel_session.specs.Node.Place.{raw, closed, running, dead}
-use Rattle.node_answer.specs.Refusals.{Refusal, refusal_of, refusal_for, refusal_line}
-use Rattle.node_answer.specs.Refusals.Refusal.{full, exists, device}
+use Rattle.node_answer.specs.Refusals.{NodeRefusal, refusal_of, refusal_for, refusal_line}
+use Rattle.node_answer.specs.Refusals.NodeRefusal.{full, exists, device}
 use Rattle.rel_session.specs.Transition
 use Rattle.rel_session.specs.Transition.Action.{makes_node}
 use Rattle.rel_session.specs.Transition.StopsWithin.{without_its_node}
@@ -110,7 +110,7 @@ module _ {D : Type 0} (v : Device D) (laws : IsDevice v) (source : Source) (path
       unwritten_at (running events extent ps) at u = absurd at
       unwritten_at (dead s) at u = absurd at
 
-      refuses : (p : Place) (why : Refusal) → IsAt v (memory.Idle disk) p → WritesNothing v.seen v.may_leave v.moment v.left_since disk new → Creates p (refused why p)
+      refuses : (p : Place) (why : NodeRefusal) → IsAt v (memory.Idle disk) p → WritesNothing v.seen v.may_leave v.moment v.left_since disk new → Creates p (refused why p)
           → Replied v p (λ a. Creates p a × (a.answer ≡ refusal_line why)) (memory.Idle disk) (memory.Idle new)
       refuses p why at u right = record {
         given = refused why p;
@@ -223,7 +223,7 @@ module _ {D : Type 0} (v : Device D) (laws : IsDevice v) (source : Source) (path
         by_error handler_error.Dead clear gone = absurd gone
 
       pub creates_none : (why : HandlerError) → (holds_a_store (v.seen disk) ≡ true → WritesNothing v.seen v.may_leave v.moment v.left_since disk new)
-          → CreationRefused v source path disk new why → Answers v Creates (Err why) (memory.Idle disk) (memory.Idle new)
+          → NodeCreationRefused v source path disk new why → Answers v Creates (Err why) (memory.Idle disk) (memory.Idle new)
       creates_none why taken (inl (of, u)) = unread why of u
       creates_none why taken (inr (inl n)) = barred why n
       creates_none why taken (inr (inr is_not)) = by_error why is_not taken why is_not.clear is_not.refused

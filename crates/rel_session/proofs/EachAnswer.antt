@@ -8,7 +8,7 @@ use Rattle.rel_list.specs.Event.{entry}
 use Rattle.rel_list.specs.declared.status.Status.TheVariants.{Permanent}
 use Rattle.rel_handler.specs.declared.error.BootError.{BootError}
 use Rattle.node_command.specs.declared.error.HandlerError.{HandlerError}
-use Rattle.node_store.specs.Events.{Events, certain}
+use Rattle.node_store.specs.Events.{Events, BeginWith, at_rest_since, certain}
 use Rattle.node_store.specs.Compaction.{compacted}
 use Rattle.node_store.specs.Image.{Extent, booted_extent, extent_behind, extent_of, first_extent, HasSpace, holds_a_store, IsImageOf}
 use Rattle.rel_handler.proofs.BootLists.{extent_of_none, fits_or_not}
@@ -47,6 +47,7 @@ use Rattle.script_progress.specs.Script.{Run}
 use Rattle.rel_handler.specs.Installing.{install_room, install_size, installation_event, needs_restart}
 use Rattle.rel_handler.proofs.InstallLemmas.{installation_is_commanded}
 use Rattle.rel_session.proofs.SourceLemmas.{gives_each}
+use Rattle.node_store.proofs.Beginnings.{with_themselves}
 use Rattle.rel_session.proofs.ActionLemmas.{some_action}
 use Rattle.rel_session.proofs.Histories.{events_of_image}
 use Rattle.rel_session.proofs.ListLemmas.{current-booted, list_after-push}
@@ -56,9 +57,9 @@ use Rattle.rel_session.proofs.LoopLemmas.{replies_next}
 -- Where the device does not fail, the place behind a reply is one of these again.
 pub data IsFair : Place → Type 0 where
   of_raw : (x : List ℕ) → IsFair (raw x)
-  rests : (events : Events) (extent : Extent) (list : Releases) → list_after events ≡ Some list → IsFair (closed (certain events extent))
+  rests : (ran events : Events) (extent : Extent) (list : Releases) → BeginWith ran events → list_after events ≡ Some list → IsFair (closed (at_rest_since ran events extent))
   runs : (events : Events) (extent : Extent) (ps : Processes) (list : Releases) → list_after events ≡ Some list → IsFair (running events extent ps)
-  died : (events : Events) (extent : Extent) (list : Releases) → list_after events ≡ Some list → IsFair (dead (certain events extent))
+  died : (ran events : Events) (extent : Extent) (list : Releases) → BeginWith ran events → list_after events ≡ Some list → IsFair (dead (at_rest_since ran events extent))
 
 -- A reply that is had there, in which neither the device fails nor memory is refused to a compaction.
 pub record Has (P : Reply → Type 0) : Type 0 where
@@ -138,9 +139,9 @@ makes_on x b false = makes_with x (bundle_brought b) (made_size b) (own_refusal 
 makes : (p : Place) (found : Brought) → IsFair p → Has (Transition.MakesNode p found)
 makes p found (of_raw x) =
     mapped (Transition.MakesOn x found (holds_a_store x)) (Transition.MakesNode (raw x) found) (λ a is. inl is) (makes_on x found (holds_a_store x))
-makes p found (rests events extent list after) = told_reply _ _ _ (inl refl) (rests events extent list after)
+makes p found (rests ran events extent list since after) = told_reply _ _ _ (inl refl) (rests ran events extent list since after)
 makes p found (runs events extent ps list after) = told_reply _ _ _ refl (runs events extent ps list after)
-makes p found (died events extent list after) = told_reply _ _ _ refl (died events extent list after)
+makes p found (died ran events extent list since after) = told_reply _ _ _ refl (died ran events extent list since after)
 
 booted_there : (events : Events) (extent : Extent) (list : Releases) → list_after events ≡ Some list → Has (Transition.IsBooted events extent)
 booted_there events extent list after =
@@ -159,9 +160,9 @@ boots_bytes laws x = go (laws.either x)
 
 boots : BootLaws → (p : Place) → IsFair p → Has (Transition.Boots p)
 boots laws p (of_raw x) = boots_bytes laws x
-boots laws p (rests events extent list after) = mapped (Transition.IsBooted events extent) (Transition.BootsStore (certain events extent)) (λ a is. inl (events, extent, inl (refl, refl), is)) (booted_there events extent list after)
-boots laws p (died events extent list after) = mapped (Transition.IsBooted events extent) (Transition.BootsStore (certain events extent)) (λ a is. inl (events, extent, inl (refl, refl), is)) (booted_there events extent list after)
-boots laws p (runs events extent ps list after) = mapped (Transition.IsBooted events extent) (Transition.BootsStore (certain events extent)) (λ a is. inl (events, extent, inl (refl, refl), is)) (booted_there events extent list after)
+boots laws p (rests ran events extent list since after) = mapped (Transition.IsBooted events extent) (Transition.BootsStore (at_rest_since ran events extent)) (λ a is. inl (events, extent, (since, inl (refl, refl)), is)) (booted_there events extent list after)
+boots laws p (died ran events extent list since after) = mapped (Transition.IsBooted events extent) (Transition.BootsStore (at_rest_since ran events extent)) (λ a is. inl (events, extent, (since, inl (refl, refl)), is)) (booted_there events extent list after)
+boots laws p (runs events extent ps list after) = mapped (Transition.IsBooted events extent) (Transition.BootsStore (certain events extent)) (λ a is. inl (events, extent, (with_themselves events, inl (refl, refl)), is)) (booted_there events extent list after)
 
 -- A boot of a list without a one-shot writes no record, so the store stays as short.
 booted_compact : (events : Events) (x : Extent) (list : Releases) → has_one_shot (releases_after events) ≡ false → list_after events ≡ Some list → x ≡ compacted x (releases_after events)
@@ -178,20 +179,20 @@ reboots events extent ps list vsn after =
     let x = reach events extent e size in
     commits events extent ps list e size _ after (λ grown then.
     let booted = booted_there (events ++ e ∷ []) x grown then in
-    fair_reply _ (behind e booted.given) (booted.given, inl (events ++ e ∷ [], x, inl (refl, refl), booted.is), refl) booted.works booted.fair
+    fair_reply _ (behind e booted.given) (booted.given, inl (events ++ e ∷ [], x, (with_themselves (events ++ e ∷ []), inl (refl, refl)), booted.is), refl) booted.works booted.fair
     (λ r. subst (λ (t : Reply). IsCompact t.after) (sym booted.is.2)
     (booted_compact (events ++ e ∷ []) x booted.is.0 (none_rebooted events vsn) booted.is.1 (stays_compact events extent e size))))
 
 rebooted : (p : Place) (vsn : List ℕ) → IsFair p → Has (Transition.Acts p (reboots_node vsn))
 rebooted p vsn (of_raw x) = told_reply _ _ _ refl (of_raw x)
-rebooted p vsn (rests events extent list after) = told_reply _ _ _ refl (rests events extent list after)
-rebooted p vsn (died events extent list after) = told_reply _ _ _ refl (died events extent list after)
+rebooted p vsn (rests ran events extent list since after) = told_reply _ _ _ refl (rests ran events extent list since after)
+rebooted p vsn (died ran events extent list since after) = told_reply _ _ _ refl (died ran events extent list since after)
 rebooted p vsn (runs events extent ps list after) = reboots events extent ps list vsn after
 
 changed : (p : Place) (c : Transition.Change) → IsFair p → Has (Transition.Acts p (changes_node c))
 changed p c (of_raw x) = told_reply _ _ _ refl (of_raw x)
-changed p c (rests events extent list after) = told_reply _ _ _ refl (rests events extent list after)
-changed p c (died events extent list after) = told_reply _ _ _ refl (died events extent list after)
+changed p c (rests ran events extent list since after) = told_reply _ _ _ refl (rests ran events extent list since after)
+changed p c (died ran events extent list since after) = told_reply _ _ _ refl (died ran events extent list since after)
 changed p c (runs events extent ps list after) = changes events extent ps list c (c.files (releases_after events)) after
 
 -- Behind an installation with a restart the node boots: it starts a one-shot, or the store is as short as it was.
@@ -221,12 +222,12 @@ installs_there events extent ps list vsn after = by_found (installation vsn (rel
             let e = restart_installed vsn in
             let x = reach events extent e size in
             let booted = booted_there (events ++ e ∷ []) x allowed.0 then in
-            fair_reply _ (restarted_reply vsn (releases_after events) f (behind_run r) booted.given) (booted.given, inl (events ++ e ∷ [], x, inl (refl, refl), booted.is), refl) booted.works booted.fair
+            fair_reply _ (restarted_reply vsn (releases_after events) f (behind_run r) booted.given) (booted.given, inl (events ++ e ∷ [], x, (with_themselves (events ++ e ∷ []), inl (refl, refl)), booted.is), refl) booted.works booted.fair
             (restart_compact (events ++ e ∷ []) x (stays_compact events extent e size) booted.given booted.is)
 
     by_outcome : (f : FoundForm) → installation vsn (releases_after events) ≡ Ok f → (o : script.Outcome) → Has (Leads events extent ps vsn (releases_after events) f o)
     by_outcome f found (script.Outcome.refuses n c) = told_reply _ _ _ refl (runs events extent ps list after)
-    by_outcome f found (script.Outcome.breaks n c) = told_reply _ _ _ refl (died events extent list after)
+    by_outcome f found (script.Outcome.breaks n c) = told_reply _ _ _ refl (died events events extent list (with_themselves events) after)
     by_outcome f found (script.Outcome.ends r) =
         let size = install_size vsn (releases_after events) in
         let x = reach events extent (installation_event (needs_restart vsn (releases_after events)) vsn) size in
@@ -246,20 +247,20 @@ installs_there events extent ps list vsn after = by_found (installation vsn (rel
 
 installed_there : (p : Place) (vsn : List ℕ) → IsFair p → Has (Transition.Acts p (installs vsn))
 installed_there p vsn (of_raw x) = told_reply _ _ _ refl (of_raw x)
-installed_there p vsn (rests events extent list after) = told_reply _ _ _ refl (rests events extent list after)
-installed_there p vsn (died events extent list after) = told_reply _ _ _ refl (died events extent list after)
+installed_there p vsn (rests ran events extent list since after) = told_reply _ _ _ refl (rests ran events extent list since after)
+installed_there p vsn (died ran events extent list since after) = told_reply _ _ _ refl (died ran events extent list since after)
 installed_there p vsn (runs events extent ps list after) = installs_there events extent ps list vsn after
 
 told : (p : Place) → IsFair p → Has (Transition.Acts p tells_start)
 told p (of_raw x) = told_reply _ _ _ refl (of_raw x)
-told p (rests events extent list after) = told_reply _ _ _ refl (rests events extent list after)
-told p (died events extent list after) = told_reply _ _ _ refl (died events extent list after)
+told p (rests ran events extent list since after) = told_reply _ _ _ refl (rests ran events extent list since after)
+told p (died ran events extent list since after) = told_reply _ _ _ refl (died ran events extent list since after)
 told p (runs events extent ps list after) = told_reply _ _ _ (inl refl) (runs events extent ps list after)
 
 called_there : (p : Place) (c : Calls) → IsFair p → Has (Transition.Acts p (calls c))
 called_there p c (of_raw x) = told_reply _ _ _ refl (of_raw x)
-called_there p c (rests events extent list after) = told_reply _ _ _ refl (rests events extent list after)
-called_there p c (died events extent list after) = told_reply _ _ _ refl (died events extent list after)
+called_there p c (rests ran events extent list since after) = told_reply _ _ _ refl (rests ran events extent list since after)
+called_there p c (died ran events extent list since after) = told_reply _ _ _ refl (died ran events extent list since after)
 called_there p c (runs events extent ps list after) = told_reply _ _ _ refl (runs events extent (left_by c ps) list after)
 
 acts : BootLaws → (p : Place) (does : Transition.Action) → IsFair p → Has (Transition.Acts p does)
@@ -296,9 +297,9 @@ each laws base some files p (next c rest) fair = by_action (some_action (source_
 
 fair_place : (p : Place) → IsCertain p → HasList p → IsFair p
 fair_place (raw x) sure has = of_raw x
-fair_place (closed s) sure (list, after) = subst (λ t. IsFair (closed t)) (sym sure) (rests s.known.acknowledged s.extent list after)
+fair_place (closed s) sure (list, after) = subst (λ t. IsFair (closed t)) (sym sure.0) (rests s.known.ran s.known.acknowledged s.extent list sure.1 after)
 fair_place (running events extent ps) sure (list, after) = runs events extent ps list after
-fair_place (dead s) sure (list, after) = subst (λ t. IsFair (dead t)) (sym sure) (died s.known.acknowledged s.extent list after)
+fair_place (dead s) sure (list, after) = subst (λ t. IsFair (dead t)) (sym sure.0) (died s.known.ran s.known.acknowledged s.extent list sure.1 after)
 
 pub each_has_an_answer : BootLaws → (base : Source) → EachHasAnAnswer base
 each_has_an_answer laws base some files p commands sure has = each laws base some files p commands (fair_place p sure has)

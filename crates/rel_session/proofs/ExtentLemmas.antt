@@ -10,7 +10,7 @@ use Rattle.rel_list.proofs.OneShotLaws.{boots_as_recorded, one_shots_come_from_r
 use Rattle.rel_records.proofs.EventRecords.{recorded-twice}
 use Rattle.rel_records.specs.Image.{image_of}
 use Rattle.node_store.specs.Compaction.{compacted, extent_with, fits_image, is_long, may_be_compacted, MayReach, with_image}
-use Rattle.node_store.specs.Events.{Events, MayHave, certain}
+use Rattle.node_store.specs.Events.{Events, MayHave, at_rest_since}
 use Rattle.node_store.specs.Image.{Extent, extent_behind}
 use Rattle.rel_session.specs.Node.{list_or_none, releases_after}
 use Rattle.rel_session.proofs.ListLemmas.{list_after-more}
@@ -92,7 +92,7 @@ none_rebooted events vsn = ap (λ o. has_one_shot (list_or_none o)) (list_after-
     go (Some l) = behind l (step (rebooting vsn) l) refl
 
 -- a store without an event in doubt has its events, and reaches as far as it does
-pub has_only : (events es : Events) (x y : Extent) → MayHave (certain events x) es y → (es ≡ events) × (y ≡ x)
-has_only events es x y (inl has) = has
-has_only events es x y (inr (same, inl reaches)) = (same, reaches)
-has_only events es x y (inr (same, inr reaches)) = (same, reaches)
+pub has_only : (ran events es : Events) (x y : Extent) → MayHave (at_rest_since ran events x) es y → (es ≡ events) × (y ≡ x)
+has_only ran events es x y (since, inl has) = has
+has_only ran events es x y (since, inr (same, inl reaches)) = (same, reaches)
+has_only ran events es x y (since, inr (same, inr reaches)) = (same, reaches)

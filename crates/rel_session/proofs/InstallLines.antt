@@ -7,7 +7,7 @@ use Rattle.node_store.specs.Events.{Events, with_doubt}
 use Rattle.rel_session.specs.AnswerLaws.{have_restart}
 use Rattle.rel_session.specs.Node.{Reply}
 use Rattle.node_answer.specs.Refusals.{refusal_line}
-use Rattle.node_answer.specs.Refusals.Refusal.{device}
+use Rattle.node_answer.specs.Refusals.NodeRefusal.{device}
 use Rattle.rel_session.specs.Run.{events_of}
 use Rattle.rel_session.proofs.AnswerLines.{IsWhole, one_front}
 

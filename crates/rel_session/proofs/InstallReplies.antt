@@ -47,8 +47,8 @@ use Rattle.rel_session.specs.Installation.{Begins, Installs, IsInstallationReply
 use Rattle.rel_session.specs.Node.{Place, Reply, reply, done, refused, failed, behind, releases_after, list_or_none, with_text}
 use Rattle.rel_session.specs.Node.Place.{raw, closed, running, dead}
 use Rattle.rel_session.specs.declared.place.Place.{Place as PlaceInMemory}
-use Rattle.node_answer.specs.Refusals.{Refusal, refusal_of, refusal_line}
-use Rattle.node_answer.specs.Refusals.Refusal.{device, full, script_refused, must_reboot}
+use Rattle.node_answer.specs.Refusals.{NodeRefusal, refusal_of, refusal_line}
+use Rattle.node_answer.specs.Refusals.NodeRefusal.{device, full, script_refused, must_reboot}
 use Rattle.rel_session.specs.Run.{Holds, IsReached}
 use Rattle.rel_session.specs.Transition
 use Rattle.rel_session.specs.Transition.{StopsWithin}
@@ -288,7 +288,7 @@ module _ {D : Type 0} (v : Device D) (laws : IsDevice v) (vsn : List ℕ) (n new
           script_breaks (site_for u ps.modules) n.processes.seat.view n.processes.tree ps.modules u.found.script f.instr c new.processes.seat.view sound.alone
           (λ memory. known (ap (λ (g : Failure). g.why) told ∙ ap fails memory)) broken in
           let a = refused (must_reboot (failure f.instr (fails c))) (dead (certain events extent)) in
-          let holds : Holds v (dead (certain events extent)) (disk_in new.handler) = subst (λ d. Holds v (dead (certain events extent)) d) (sym lost.disk) (λ image now. (here image now).0) in
+          let holds : Holds v (dead (certain events extent)) (disk_in new.handler) = subst (λ d. Holds v (dead (certain events extent)) d) (sym lost.disk) here in
           record {
             given = a;
             right = (
@@ -320,7 +320,7 @@ module _ {D : Type 0} (v : Device D) (laws : IsDevice v) (vsn : List ℕ) (n new
         let values = untouched_values n.processes.seat.view new.processes.seat.view sound.alone untouched.view in
         (λ j. record { values = values j; apps = untouched.apps j; modules = untouched.modules j })
 
-    same_replies : (why : Refusal) → ((events : Events) (extent : Extent) → extent_in n.handler ≡ extent → Installs events extent ps vsn es (installation vsn es) (refused why (running events extent ps))) → Replies (refusal_line why)
+    same_replies : (why : NodeRefusal) → ((events : Events) (extent : Extent) → extent_in n.handler ≡ extent → Installs events extent ps vsn es (installation vsn es) (refused why (running events extent ps))) → Replies (refusal_line why)
     same_replies why right = where_it_runs (RepliesAt (refusal_line why)) there
       where
         there : (events : Events) (extent : Extent) → IsAt v (memory.Made n) (running events extent ps) → RepliesAt (refusal_line why) (running events extent ps)

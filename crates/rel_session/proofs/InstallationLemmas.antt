@@ -23,7 +23,7 @@ use Rattle.rel_handler.specs.Installing.{install_size, installation_event, needs
 use Rattle.rel_session.specs.Node.{Reply, refused, failed}
 use Rattle.rel_session.specs.Node.Place.{running, dead}
 use Rattle.node_answer.specs.Refusals.{refusal_of}
-use Rattle.node_answer.specs.Refusals.Refusal.{full, no_matching_relup, script_refused, must_reboot}
+use Rattle.node_answer.specs.Refusals.NodeRefusal.{full, no_matching_relup, script_refused, must_reboot}
 
 -- What holds of each reply that there may be holds of the reply.
 module _ (K : Reply → Type 0) (events : Events) (extent : Extent) (ps : Processes) (vsn : List ℕ) (list : Releases) where

@@ -1,5 +1,5 @@
 -- Where neither the device fails nor memory is refused to a compaction, each command has one answer.
-use Rattle.std.proofs.Common.{◌≡◌, ◌≢◌, ◌⊎◌, inl, inr, ℕ, Bool, true, false, List, [], ◌∷◌, ◌++◌, Option, None, Some, Result, Ok, Err, refl, sym, ap, ◌∙◌, subst}
+use Rattle.std.proofs.Common.{◌≡◌, ◌⊎◌, inl, inr, ℕ, Bool, true, false, List, [], ◌∷◌, ◌++◌, Option, None, Some, Result, Ok, Err, refl, sym, ap, ◌∙◌, subst}
 use Rattle.rel_list.specs.Releases.{Releases, has_current, has_one_shot, running as running_release, permanent}
 use Rattle.rel_list.specs.Event.{list_after, booted}
 use Rattle.rel_list.specs.Event.{Event}
@@ -7,7 +7,7 @@ use Rattle.rel_list.specs.Event.Event.{made, installed, restart_installed, reboo
 use Rattle.rel_handler.specs.declared.error.BootError.{BootError}
 use Rattle.rel_handler.specs.declared.error.BootError.TheVariants as boot_error
 use Rattle.node_command.specs.declared.error.HandlerError.{HandlerError}
-use Rattle.node_store.specs.Events.{Events, Stored, MayHave, certain}
+use Rattle.node_store.specs.Events.{Events, Stored, MayHave, at_rest_since, certain}
 use Rattle.node_store.specs.Compaction.{compacted, MayReach}
 use Rattle.node_store.specs.Image.{Extent, booted_extent, extent_behind, first_extent, holds_a_store}
 use Rattle.rel_handler.proofs.BootLists.{extent_of_none}
@@ -28,7 +28,7 @@ use Rattle.node_processes.specs.Calls.{Calls, calls_line, left_by}
 use Rattle.node_processes.specs.Fresh.{fresh}
 use Rattle.node_processes.specs.Processes.{Processes}
 use Rattle.rel_session.specs.LawsBelow.{BootLaws}
-use Rattle.rel_session.specs.Node.{Place, Outcome, Reply, reply, releases_after, list_or_none, just_booted, done, behind, with_text}
+use Rattle.rel_session.specs.Node.{Place, CommandOutcome, Reply, reply, releases_after, list_or_none, just_booted, done, behind, with_text}
 use Rattle.rel_session.specs.Node.Place.{raw, closed, running, dead}
 use Rattle.rel_session.specs.Booting.{boot_line}
 use Rattle.rel_session.specs.Run.{EndsInFull, Replies, Ending}
@@ -57,15 +57,16 @@ use Rattle.rel_session.proofs.ListLemmas.{current-booted, list_after-push, same_
 -- Two places that nothing tells apart: the events of a boot of bytes are any that have the list.
 data Alike : Place → Place → Type 0 where
   same_bytes : (x : List ℕ) → Alike (raw x) (raw x)
-  same_store : (events : Events) (extent : Extent) → Alike (closed (certain events extent)) (closed (certain events extent))
+  same_store : (ran events : Events) (extent : Extent) → Alike (closed (at_rest_since ran events extent)) (closed (at_rest_since ran events extent))
   same_lists : (events others : Events) (extent : Extent) (ps qs : Processes) → list_after events ≡ list_after others → ps ≡ qs → Alike (running events extent ps) (running others extent qs)
-  same_dead : (events others : Events) (extent : Extent) → list_after events ≡ list_after others → Alike (dead (certain events extent)) (dead (certain others extent))
+  same_dead : (ran began events others : Events) (extent : Extent) → list_after events ≡ list_after others
+      → Alike (dead (at_rest_since ran events extent)) (dead (at_rest_since began others extent))
 
 alike_itself : (p : Place) → IsCertain p → Alike p p
 alike_itself (raw x) sure = same_bytes x
-alike_itself (closed s) sure = subst (λ t. Alike (closed t) (closed t)) (sym sure) (same_store s.known.acknowledged s.extent)
+alike_itself (closed s) sure = subst (λ t. Alike (closed t) (closed t)) (sym sure.0) (same_store s.known.ran s.known.acknowledged s.extent)
 alike_itself (running events extent ps) sure = same_lists events events extent ps ps refl refl
-alike_itself (dead s) sure = subst (λ t. Alike (dead t) (dead t)) (sym sure) (same_dead s.known.acknowledged s.known.acknowledged s.extent refl)
+alike_itself (dead s) sure = subst (λ t. Alike (dead t) (dead t)) (sym sure.0) (same_dead s.known.ran s.known.ran s.known.acknowledged s.known.acknowledged s.extent refl)
 
 -- Commands come to the same there.
 same_action : (source : Source) → GivesOne source → (p q : Place) (c : Command) (x y : Transition.Action) → Alike p q → Transition.ComesTo source p c x → Transition.ComesTo source q c y → x ≡ y
@@ -73,14 +74,14 @@ same_action source one p q c x y alike comes comes_too = go (one_action source o
   where
     same_kind : (p q : Place) → Alike p q → kind_of p ≡ kind_of q
     same_kind p q (same_bytes b) = refl
-    same_kind p q (same_store events extent) = refl
+    same_kind p q (same_store ran events extent) = refl
     same_kind p q (same_lists events others extent ps qs same one) = refl
-    same_kind p q (same_dead events others extent same) = refl
+    same_kind p q (same_dead ran began events others extent same) = refl
 
     told_same : (says : Releases → Processes → List ℕ) (p q : Place) → Alike p q → Transition.told says p ≡ Transition.told says q
     told_same says p q (same_bytes b) = refl
-    told_same says p q (same_store events extent) = refl
-    told_same says p q (same_dead events others extent same) = refl
+    told_same says p q (same_store ran events extent) = refl
+    told_same says p q (same_dead ran began events others extent same) = refl
     told_same says p q (same_lists events others extent ps qs same one) = ap (λ o. says (list_or_none o) ps) same ∙ ap (λ r. says (releases_after others) r) one
 
     go : (x ≡ y) ⊎ AreTold p q x y → x ≡ y
@@ -164,10 +165,10 @@ module _ (a b : Reply) (both : Both a b) where
   makes p q found (same_bytes x) (inl is) (inl also) = makes_on x found (holds_a_store x) is also
   makes p q found (same_bytes x) (inl is) (inr also) = makes_fails x (bundle_brought found) (own_refusal found) b also both.1
   makes p q found (same_bytes x) (inr is) other = makes_fails x (bundle_brought found) (own_refusal found) a is both.0
-  makes p q found (same_store events extent) (inl is) (inl also) = as_these a b _ _ is also (refl, refl, same_store events extent)
-  makes p q found (same_store events extent) (inl is) (inr also) = failure b _ also refl both.1
-  makes p q found (same_store events extent) (inr is) other = failure a _ is refl both.0
-  makes p q found (same_dead events others extent same) is also = as_these a b _ _ is also (refl, refl, same_dead events others extent same)
+  makes p q found (same_store ran events extent) (inl is) (inl also) = as_these a b _ _ is also (refl, refl, same_store ran events extent)
+  makes p q found (same_store ran events extent) (inl is) (inr also) = failure b _ also refl both.1
+  makes p q found (same_store ran events extent) (inr is) other = failure a _ is refl both.0
+  makes p q found (same_dead ran began events others extent same) is also = as_these a b _ _ is also (refl, refl, same_dead ran began events others extent same)
   makes p q found (same_lists events others extent ps qs same one) is also = as_these a b _ _ is also (refl, refl, same_lists events others extent ps qs same one)
 
 module _ (a b : Reply) (both : Fine a b) where
@@ -183,19 +184,20 @@ module _ (a b : Reply) (both : Fine a b) where
       as_these a b _ _ is (subst (λ x. b ≡ reply (Transition.ok_line (Transition.version_of (running_release (booted again)))) (done (booting ∷ [])) (just_booted second x)) (sym far) also)
       (ap (λ (l : Releases). Transition.ok_line (Transition.version_of (running_release l))) one, refl, just_alike)
 
-  boots_store : (events others : Events) (extent : Extent) → list_after events ≡ list_after others → Transition.BootsStore (certain events extent) a → Transition.BootsStore (certain others extent) b → Same a b
-  boots_store events others extent same (inl (es, n, has, is)) (inl (fs, m, has_too, also)) =
-      booted_same events others extent alike (only events extent a es n has is) (only others extent b fs m has_too also)
+  boots_store : (ran began events others : Events) (extent : Extent) → list_after events ≡ list_after others
+      → Transition.BootsStore (at_rest_since ran events extent) a → Transition.BootsStore (at_rest_since began others extent) b → Same a b
+  boots_store ran began events others extent same (inl (es, n, has, is)) (inl (fs, m, has_too, also)) =
+      booted_same events others extent alike (only ran events extent a es n has is) (only began others extent b fs m has_too also)
     where
       alike : (l k : Releases) → list_after events ≡ Some l → list_after others ≡ Some k → (booted l ≡ booted k) × (booted_extent extent l ≡ booted_extent extent k)
       alike l k after after_too = let one : l ≡ k = let e : Some l ≡ Some k = sym after ∙ same ∙ after_too in cc in (ap booted one, ap (booted_extent extent) one)
 
-      only : (events : Events) (extent : Extent) (r : Reply) (es : Events) (n : Extent) → MayHave (certain events extent) es n → Transition.IsBooted es n r → Transition.IsBooted events extent r
-      only events extent r es n has is =
-          let (here, reaches) = has_only events es extent n has in
+      only : (ran events : Events) (extent : Extent) (r : Reply) (es : Events) (n : Extent) → MayHave (at_rest_since ran events extent) es n → Transition.IsBooted es n r → Transition.IsBooted events extent r
+      only ran events extent r es n has is =
+          let (here, reaches) = has_only ran events es extent n has in
           subst (λ l. Transition.IsBooted l extent r) here (subst (λ k. Transition.IsBooted es k r) reaches is)
-  boots_store events others extent same (inl is) (inr also) = boot_failure b _ also both.1
-  boots_store events others extent same (inr is) other = boot_failure a _ is both.0
+  boots_store ran began events others extent same (inl is) (inr also) = boot_failure b _ also both.1
+  boots_store ran began events others extent same (inr is) other = boot_failure a _ is both.0
 
   -- one list for the bytes, or one line for what is wrong with them
   refusal_line_once : (x : List ℕ) (why other : BootError) → IsBootRefusal x why → IsBootRefusal x other → boot_line why ≡ boot_line other
@@ -231,13 +233,13 @@ module _ (a b : Reply) (both : Fine a b) where
 
   boots : BootLaws → (p q : Place) → Alike p q → Transition.Boots p a → Transition.Boots q b → Same a b
   boots laws p q (same_bytes x) is also = boots_bytes laws x is also
-  boots laws p q (same_store events extent) is also = boots_store events events extent refl is also
-  boots laws p q (same_dead events others extent same) is also = boots_store events others extent same is also
-  boots laws p q (same_lists events others extent ps qs same one) is also = boots_store events others extent same is also
+  boots laws p q (same_store ran events extent) is also = boots_store ran ran events events extent refl is also
+  boots laws p q (same_dead ran began events others extent same) is also = boots_store ran began events others extent same is also
+  boots laws p q (same_lists events others extent ps qs same one) is also = boots_store events others events others extent same is also
 
 -- replies behind an event
 behind_same : (e : Event) (x y : Reply) → Same x y → Same (behind e x) (behind e y)
-behind_same e x y (told, outcomes, then) = (told, ap (λ (o : Outcome). (behind e (record { answer = []; outcome = o; after = x.after })).outcome) outcomes, then)
+behind_same e x y (told, outcomes, then) = (told, ap (λ (o : CommandOutcome). (behind e (record { answer = []; outcome = o; after = x.after })).outcome) outcomes, then)
 
 -- and behind a line
 with_text_same : (line : List ℕ) (x y : Reply) → Same x y → Same (with_text line x) (with_text line y)
@@ -246,7 +248,7 @@ with_text_same line x y (told, outcomes, then) = (ap (λ t. line ++ t) told, out
 -- A store that boots to one as short as a compaction leaves it, where the list has no one-shot, was as short before.
 rests : (events : Events) (x : Extent) (r : Reply) → has_one_shot (releases_after events) ≡ false → r.outcome.failed ≡ false → IsCompact r.after → Transition.BootsStore (certain events x) r → x ≡ compacted x (releases_after events)
 rests events x r free fine small (inl (es, n, has, (list, after, told))) =
-    let only = has_only events es x n has in
+    let only = has_only events events es x n has in
     let none : has_one_shot (releases_after es) ≡ false = subst (λ l. has_one_shot (releases_after l) ≡ false) (sym only.0) free in
     let plain : has_one_shot list ≡ false = ap (λ o. has_one_shot (list_or_none o)) (sym after) ∙ none in
     let compact : n ≡ compacted n (releases_after (es ++ booting ∷ [])) =
@@ -257,7 +259,7 @@ rests events x r free fine small (inr fails) = boot_failure r _ fails fine
 -- Behind a boot that starts no one-shot none is current.
 none_runs_once : (events : Events) (x : Extent) (r : Reply) → has_one_shot (releases_after events) ≡ false → r.outcome.failed ≡ false → Transition.BootsStore (certain events x) r → RunsOneShot r.after → ⊥
 none_runs_once events x r free fine (inl (es, n, has, (list, after, told))) once =
-    let only = has_only events es x n has in
+    let only = has_only events events es x n has in
     let none : has_one_shot (releases_after es) ≡ false = subst (λ l. has_one_shot (releases_after l) ≡ false) (sym only.0) free in
     let here : has_current (releases_after (es ++ booting ∷ [])) ≡ true = subst (λ (t : Reply). RunsOneShot t.after) told once in
     let lost : true ≡ false = sym here ∙ ap has_current (releases-booted es) ∙ current-booted (releases_after es) ∙ none in cc
@@ -270,7 +272,7 @@ module _ (a b : Reply) (both : Both a b) where
       let e = rebooting vsn in
       commits a b both events others extent ps qs e _ o (Rebooted events) (Rebooted others) same (λ x r. rests_so events x a both.0 both.2 r) (λ x r. rests_so others x b both.1 both.3 r)
       (λ z (x, boot, is) (y, boot_too, also).
-      as_these a b _ _ is also (behind_same e x y (boots_store x y (works a x is both.0, works b y also both.1) (events ++ e ∷ []) (others ++ e ∷ []) z (same_list events others e same) boot boot_too))) (same_lists events others extent ps qs same one)
+      as_these a b _ _ is also (behind_same e x y (boots_store x y (works a x is both.0, works b y also both.1) (events ++ e ∷ []) (others ++ e ∷ []) (events ++ e ∷ []) (others ++ e ∷ []) z (same_list events others e same) boot boot_too))) (same_lists events others extent ps qs same one)
     where
       works : (r x : Reply) → r ≡ behind (rebooting vsn) x → r.outcome.failed ≡ false → x.outcome.failed ≡ false
       works r x is fine = ap (λ (s : Reply). s.outcome.failed) (sym is) ∙ fine
@@ -283,16 +285,16 @@ module _ (a b : Reply) (both : Both a b) where
 
   changed : (p q : Place) (c : Transition.Change) → HasRecordOf (changes_node c) → Alike p q → Transition.Acts p (changes_node c) a → Transition.Acts q (changes_node c) b → Same a b
   changed p q c has (same_bytes x) is also = as_these a b _ _ is also (refl, refl, same_bytes x)
-  changed p q c has (same_store events extent) is also = as_these a b _ _ is also (refl, refl, same_store events extent)
-  changed p q c has (same_dead events others extent same) is also = as_these a b _ _ is also (refl, refl, same_dead events others extent same)
+  changed p q c has (same_store ran events extent) is also = as_these a b _ _ is also (refl, refl, same_store ran events extent)
+  changed p q c has (same_dead ran began events others extent same) is also = as_these a b _ _ is also (refl, refl, same_dead ran began events others extent same)
   changed p q c has (same_lists events others extent ps qs same one) is also =
       let then : releases_after others ≡ releases_after events = ap list_or_none (sym same) in
       changes a b both events others extent ps qs c (releases_after events) (c.files (releases_after events)) (commanded c.event (releases_after events)) has same one is (subst (λ l. Transition.Changes others extent qs c l (c.files l) (commanded c.event l) b) then also)
 
   rebooted : (p q : Place) (vsn : List ℕ) → Alike p q → Transition.Acts p (reboots_node vsn) a → Transition.Acts q (reboots_node vsn) b → Same a b
   rebooted p q vsn (same_bytes x) is also = as_these a b _ _ is also (refl, refl, same_bytes x)
-  rebooted p q vsn (same_store events extent) is also = as_these a b _ _ is also (refl, refl, same_store events extent)
-  rebooted p q vsn (same_dead events others extent same) is also = as_these a b _ _ is also (refl, refl, same_dead events others extent same)
+  rebooted p q vsn (same_store ran events extent) is also = as_these a b _ _ is also (refl, refl, same_store ran events extent)
+  rebooted p q vsn (same_dead ran began events others extent same) is also = as_these a b _ _ is also (refl, refl, same_dead ran began events others extent same)
   rebooted p q vsn (same_lists events others extent ps qs same one) is also =
       let then : releases_after others ≡ releases_after events = ap list_or_none (sym same) in
       reboots events others extent ps qs vsn (releases_after events) (commanded (rebooting vsn) (releases_after events)) same one is (subst (λ l. Transition.Reboots others extent qs vsn l (commanded (rebooting vsn) l) b) then also)
@@ -338,13 +340,13 @@ module _ (a b : Reply) (both : Both a b) where
       let fine : s.outcome.failed ≡ false = ap (λ (r : Reply). r.outcome.failed) (sym is) ∙ both.0 in
       let fine_too : t.outcome.failed ≡ false = ap (λ (r : Reply). r.outcome.failed) (sym also) ∙ both.1 in
       as_these a b _ _ is also (with_text_same line (behind e s) (behind e t) (behind_same e s t
-      (boots_store s t (fine, fine_too) (events ++ e ∷ []) (others ++ e ∷ []) x (same_list events others e same) boot (subst (λ z. Transition.BootsStore (restarted others z vsn) t) both_reach boot_too))))
+      (boots_store s t (fine, fine_too) (events ++ e ∷ []) (others ++ e ∷ []) (events ++ e ∷ []) (others ++ e ∷ []) x (same_list events others e same) boot (subst (λ z. Transition.BootsStore (restarted others z vsn) t) both_reach boot_too))))
 
   -- an installation
   leads : (events others : Events) (extent : Extent) (ps qs : Processes) (vsn : List ℕ) (l : Releases) (f : FoundForm) (o : script.Outcome) → list_after events ≡ list_after others → ps ≡ qs
       → Leads events extent ps vsn l f o a → Leads others extent qs vsn l f o b → Same a b
   leads events others extent ps qs vsn l f (script.Outcome.refuses n c) same one is also = as_these a b _ _ is also (refl, refl, same_lists events others extent ps qs same one)
-  leads events others extent ps qs vsn l f (script.Outcome.breaks n c) same one is also = as_these a b _ _ is also (refl, refl, same_dead events others extent same)
+  leads events others extent ps qs vsn l f (script.Outcome.breaks n c) same one is also = as_these a b _ _ is also (refl, refl, same_dead events others events others extent same)
   leads events others extent ps qs vsn l f (script.Outcome.ends r) same one (inl (x, reach, is)) (inl (y, reach_too, also)) =
       installed_same events others (extent_behind extent (install_size vsn l)) x y vsn l f (behind_run r) (needs_restart vsn l) same reach reach_too is also
   leads events others extent ps qs vsn l f (script.Outcome.ends r) same one (inl is) (inr also) = failure b _ also refl both.1
@@ -366,16 +368,16 @@ module _ (a b : Reply) (both : Both a b) where
 
   installed_alike : (p q : Place) (vsn : List ℕ) → Alike p q → Transition.Acts p (installs vsn) a → Transition.Acts q (installs vsn) b → Same a b
   installed_alike p q vsn (same_bytes x) is also = as_these a b _ _ is also (refl, refl, same_bytes x)
-  installed_alike p q vsn (same_store events extent) is also = as_these a b _ _ is also (refl, refl, same_store events extent)
-  installed_alike p q vsn (same_dead events others extent same) is also = as_these a b _ _ is also (refl, refl, same_dead events others extent same)
+  installed_alike p q vsn (same_store ran events extent) is also = as_these a b _ _ is also (refl, refl, same_store ran events extent)
+  installed_alike p q vsn (same_dead ran began events others extent same) is also = as_these a b _ _ is also (refl, refl, same_dead ran began events others extent same)
   installed_alike p q vsn (same_lists events others extent ps qs same one) is also =
       let then : releases_after others ≡ releases_after events = ap list_or_none (sym same) in
       installs_so events others extent ps qs vsn (releases_after events) (installation vsn (releases_after events)) same one is (subst (λ l. Installs others extent qs vsn l (installation vsn l) b) then also)
 
   told : (p q : Place) → Alike p q → Transition.Acts p tells_start a → Transition.Acts q tells_start b → Same a b
   told p q (same_bytes x) is also = as_these a b _ _ is also (refl, refl, same_bytes x)
-  told p q (same_store events extent) is also = as_these a b _ _ is also (refl, refl, same_store events extent)
-  told p q (same_dead events others extent same) is also = as_these a b _ _ is also (refl, refl, same_dead events others extent same)
+  told p q (same_store ran events extent) is also = as_these a b _ _ is also (refl, refl, same_store ran events extent)
+  told p q (same_dead ran began events others extent same) is also = as_these a b _ _ is also (refl, refl, same_dead ran began events others extent same)
   told p q (same_lists events others extent ps qs same one) (inl is) (inl also) =
       as_these a b _ _ is also (ap (λ o. Transition.ok_line (Transition.start_versions (permanent (list_or_none o)))) same, refl, same_lists events others extent ps qs same one)
   told p q (same_lists events others extent ps qs same one) (inl is) (inr also) = failure b _ also refl both.1
@@ -383,8 +385,8 @@ module _ (a b : Reply) (both : Both a b) where
 
   called_alike : (p q : Place) (c : Calls) → Alike p q → Transition.Acts p (calls c) a → Transition.Acts q (calls c) b → Same a b
   called_alike p q c (same_bytes x) is also = as_these a b _ _ is also (refl, refl, same_bytes x)
-  called_alike p q c (same_store events extent) is also = as_these a b _ _ is also (refl, refl, same_store events extent)
-  called_alike p q c (same_dead events others extent same) is also = as_these a b _ _ is also (refl, refl, same_dead events others extent same)
+  called_alike p q c (same_store ran events extent) is also = as_these a b _ _ is also (refl, refl, same_store ran events extent)
+  called_alike p q c (same_dead ran began events others extent same) is also = as_these a b _ _ is also (refl, refl, same_dead ran began events others extent same)
   called_alike p q c (same_lists events others extent ps qs same one) is also =
       as_these a b _ _ is also (ap (calls_line c) one, refl, same_lists events others extent (left_by c ps) (left_by c qs) same (ap (left_by c) one))
 

@@ -11,6 +11,7 @@ use Rattle.node_store.specs.Image.{Extent, IsImageAt, IsStarted}
 use Rattle.rel_handler.specs.Moments.{KeepsStore}
 use Rattle.rel_session.specs.Device.{Device, LeavesOnly}
 use Rattle.rel_session.specs.Run.{IsReached}
+use Rattle.node_store.proofs.Beginnings.{with_themselves, has_start_since}
 use Rattle.rel_session.proofs.DeviceLemmas.{weakened}
 use Rattle.rel_session.proofs.ListLemmas.{list_after-more}
 
@@ -23,11 +24,11 @@ with_doubt-append events None = sym (append-nil events)
 with_doubt-append events (Some e) = refl
 
 -- the events that a store may have are a prefix of the accepted ones
-prefix_so : (known : Events) (doubt : Option Event) (events : Events) (list : Releases) → (events ≡ known) ⊎ (events ≡ with_doubt known doubt) → list_after events ≡ Some list
-    → IsPrefix (record { acknowledged = known; in_doubt = doubt }) events
-prefix_so known doubt events list (inl is) after = go (is_some (list_after (with_doubt known doubt))) refl
+prefix_so : (ran known : Events) (doubt : Option Event) (events : Events) (list : Releases) → (events ≡ known) ⊎ (events ≡ with_doubt known doubt) → list_after events ≡ Some list
+    → IsPrefix (record { ran = ran; acknowledged = known; in_doubt = doubt }) events
+prefix_so ran known doubt events list (inl is) after = go (is_some (list_after (with_doubt known doubt))) refl
   where
-    go : (b : Bool) → is_some (list_after (with_doubt known doubt)) ≡ b → IsPrefix (record { acknowledged = known; in_doubt = doubt }) events
+    go : (b : Bool) → is_some (list_after (with_doubt known doubt)) ≡ b → IsPrefix (record { ran = ran; acknowledged = known; in_doubt = doubt }) events
     go true allowed = record {
       lacks = doubt_of doubt;
       of_accepted = ap (λ b. if b then with_doubt known doubt else known) allowed ∙ with_doubt-append known doubt ∙ ap (λ (l : Events). l ++ doubt_of doubt) (sym is);
@@ -40,7 +41,7 @@ prefix_so known doubt events list (inl is) after = go (is_some (list_after (with
       more = [];
       holds = is ∙ sym (append-nil known);
     }
-prefix_so known doubt events list (inr is) after = record {
+prefix_so ran known doubt events list (inr is) after = record {
   lacks = [];
   of_accepted = ap (λ (o : Option Releases). if is_some o then with_doubt known doubt else known) (ap list_after (sym is) ∙ after) ∙ sym is ∙ sym (append-nil events);
   more = doubt_of doubt;
@@ -48,8 +49,8 @@ prefix_so known doubt events list (inr is) after = record {
 }
 
 pub prefix_of : (s : Stored) (events : Events) (extent : Extent) (list : Releases) → MayHave s events extent → list_after events ≡ Some list → IsPrefix s.known events
-prefix_of s events extent list (inl (is, at)) after = prefix_so s.known.acknowledged s.known.in_doubt events list (inl is) after
-prefix_of s events extent list (inr (is, at)) after = prefix_so s.known.acknowledged s.known.in_doubt events list (inr is) after
+prefix_of s events extent list (since, inl (is, at)) after = prefix_so s.known.ran s.known.acknowledged s.known.in_doubt events list (inl is) after
+prefix_of s events extent list (since, inr (is, at)) after = prefix_so s.known.ran s.known.acknowledged s.known.in_doubt events list (inr is) after
 
 -- an image of a store is reached by each command on it, before it has done anything
 pub reached : (s : Stored) (command : Events) (c : List ℕ) → IsStoredAs s c → IsReached s.known command c
@@ -62,7 +63,7 @@ reached s command c of = record {
   list = of.list;
   after = ap list_after (append-nil of.events) ∙ of.after;
   image_of = of.image_of;
-  start = subst (λ l. HasStart l c) (sym (append-nil of.events)) of.start;
+  start = subst (λ l. HasStart s.known.ran l c) (sym (append-nil of.events)) of.start;
 }
 
 settled_accepted : (l : Events) → accepted (settled l) ≡ l ++ []
@@ -77,18 +78,18 @@ pub reached_with : (events : Events) (extent : Extent) (e : Event) (size : ℕ) 
 reached_with events extent e size c of = by_events _ of.has
   where
     by_events : (n : Extent) → MayHave (uncertain events extent e size) of.events n → IsReached (settled events) (e ∷ []) c
-    by_events n (inl (is, at)) = record {
+    by_events n (since, inl (is, at)) = record {
       events = events;
-      prefix = prefix_so events None events of.list (inl refl) (subst (λ (l : Events). list_after l ≡ Some of.list) is of.after);
+      prefix = prefix_so events events None events of.list (inl refl) (subst (λ (l : Events). list_after l ≡ Some of.list) is of.after);
       more = [];
       left = e ∷ [];
       begins = refl;
       list = of.list;
       after = ap list_after (append-nil events ∙ sym is) ∙ of.after;
       image_of = of.image_of;
-      start = subst (λ l. HasStart l c) (is ∙ sym (append-nil events)) of.start;
+      start = subst (λ l. HasStart events l c) (is ∙ sym (append-nil events)) of.start;
     }
-    by_events n (inr (is, at)) = record {
+    by_events n (since, inr (is, at)) = record {
       events = events;
       prefix = record { lacks = []; of_accepted = settled_accepted events; more = []; holds = sym (append-nil events) };
       more = e ∷ [];
@@ -97,7 +98,7 @@ reached_with events extent e size c of = by_events _ of.has
       list = of.list;
       after = ap list_after (sym is) ∙ of.after;
       image_of = of.image_of;
-      start = subst (λ l. HasStart l c) is of.start;
+      start = subst (λ l. HasStart events l c) is of.start;
     }
 
 -- the events in front of a boot have a list
@@ -109,11 +110,11 @@ list_before events end after = go (list_after events) refl (sym (list_after-more
     go (Some list) is after_boot = (list, is)
 
 -- what is reached where a boot is in doubt
-reached_with_boot : (s : Stored) (events : Events) (extent : Extent) → MayHave s events extent → (c : List ℕ) → IsStoredAs (uncertain_boot events extent) c → IsReached s.known (boot ∷ []) c
+reached_with_boot : (s : Stored) (events : Events) (extent : Extent) → MayHave s events extent → (c : List ℕ) → IsStoredAs (uncertain_boot s.known.ran events extent) c → IsReached s.known (boot ∷ []) c
 reached_with_boot s events extent has c of = by_events _ of.has
   where
-    by_events : (n : Extent) → MayHave (uncertain_boot events extent) of.events n → IsReached s.known (boot ∷ []) c
-    by_events n (inl (is, at)) = record {
+    by_events : (n : Extent) → MayHave (uncertain_boot s.known.ran events extent) of.events n → IsReached s.known (boot ∷ []) c
+    by_events n (since, inl (is, at)) = record {
       events = events;
       prefix = prefix_of s events extent of.list has (ap list_after (sym is) ∙ of.after);
       more = [];
@@ -122,9 +123,9 @@ reached_with_boot s events extent has c of = by_events _ of.has
       list = of.list;
       after = ap list_after (append-nil events ∙ sym is) ∙ of.after;
       image_of = of.image_of;
-      start = subst (λ l. HasStart l c) (is ∙ sym (append-nil events)) of.start;
+      start = subst (λ l. HasStart s.known.ran l c) (is ∙ sym (append-nil events)) of.start;
     }
-    by_events n (inr (is, at)) =
+    by_events n (since, inr (is, at)) =
         let (list, before) = list_before events of.list (ap list_after (sym is) ∙ of.after) in
         record {
           events = events;
@@ -135,7 +136,7 @@ reached_with_boot s events extent has c of = by_events _ of.has
           list = of.list;
           after = ap list_after (sym is) ∙ of.after;
           image_of = of.image_of;
-          start = subst (λ l. HasStart l c) is of.start;
+          start = subst (λ l. HasStart s.known.ran l c) is of.start;
         }
 
 -- So it is at each moment of a boot of a store.
@@ -185,10 +186,17 @@ reached_behind events e command c of =
       list = of.list;
       after = ap list_after (sym same) ∙ of.after;
       image_of = of.image_of;
-      start = subst (λ l. HasStart l c) same of.start;
+      start = subst (λ l. HasStart events l c) same (has_start_since events (events ++ e ∷ []) _ c (e ∷ [], refl) of.start);
     }
 
 -- an image of a handler's list is a store of its events
 pub stored : (events : Events) (extent : Extent) (list : Releases) (c : List ℕ) → list_after events ≡ Some list → IsImageAt c list extent → IsStarted list c → IsStoredAs (certain events extent) c
 stored events extent list c after image started =
-    record { events = events; has = inl (refl, image.reaches); list = list; after = after; image_of = image.image_of; start = inl (list, after, started) }
+    record {
+      events = events;
+      has = (with_themselves events, inl (refl, image.reaches));
+      list = list;
+      after = after;
+      image_of = image.image_of;
+      start = record { before = events; since = with_themselves events; of_events = with_themselves events; starts = (list, after, started) };
+    }

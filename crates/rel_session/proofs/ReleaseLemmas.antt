@@ -13,11 +13,11 @@ use Rattle.session_input.specs.Commands.Command.{create, set_unpacked}
 use Rattle.node_processes.specs.Processes.{Processes}
 use Rattle.rel_session.specs.Node.{Place, refused}
 use Rattle.rel_session.specs.Node.Place.{running}
-use Rattle.node_answer.specs.Refusals.{Refusal, refusal_of, refusal_for}
+use Rattle.node_answer.specs.Refusals.{NodeRefusal, refusal_of, refusal_for}
 use Rattle.rel_session.specs.Transition.{Transition, creation, unpacking}
 
 -- no release of this path is taken, for its file
-abbrev pub IsFilesRefusal : Source → List ℕ → Refusal → Type 0
+abbrev pub IsFilesRefusal : Source → List ℕ → NodeRefusal → Type 0
 IsFilesRefusal source path why = (r : of_files.Refusal) × Brings source path (Err r) × (why ≡ refusal_for r)
 
 pub told_alike : (e : UnpackError) → refusal_of (told_files e) ≡ refusal_for (of_files.refusal_of e)
@@ -34,8 +34,8 @@ pub files_refuse : (source : Source) (path : List ℕ) (e : HandlerError) → Is
 files_refuse source path e of known =
     (of_files.refusal_of of.error, of.read (λ is. known (of.told ∙ ap told_files is)), ap refusal_of of.told ∙ told_alike of.error)
 
-pub creation_refused : (source : Source) (path : List ℕ) (why : Refusal) (p : Place) → IsFilesRefusal source path why → Transition source p (create path) (refused why p)
+pub creation_refused : (source : Source) (path : List ℕ) (why : NodeRefusal) (p : Place) → IsFilesRefusal source path why → Transition source p (create path) (refused why p)
 creation_refused source path why p (r, found, is) = (creation (Err r), (Err r, found, refl), ap (λ w. refused w p) is)
 
-pub unpacking_refused : (source : Source) (path : List ℕ) (why : Refusal) (events : Events) (extent : Extent) (ps : Processes) → IsFilesRefusal source path why → Transition source (running events extent ps) (set_unpacked path) (refused why (running events extent ps))
+pub unpacking_refused : (source : Source) (path : List ℕ) (why : NodeRefusal) (events : Events) (extent : Extent) (ps : Processes) → IsFilesRefusal source path why → Transition source (running events extent ps) (set_unpacked path) (refused why (running events extent ps))
 unpacking_refused source path why events extent ps (r, found, is) = (unpacking (Err r), (Err r, found, refl), ap (λ w. refused w (running events extent ps)) is)

@@ -13,7 +13,7 @@ use Rattle.rel_handler.specs.declared.error.BootError.{BootError}
 use Rattle.rel_handler.specs.declared.error.BootError.TheVariants as boot_error
 use Rattle.node_store.specs.declared.node_store.NodeStore.{NodeStore}
 use Rattle.rel_handler.specs.Booting.{IsBootOf}
-use Rattle.node_store.specs.Events.{Events, Stored, certain, uncertain_boot, StartsBehind, IsStoredAs}
+use Rattle.node_store.specs.Events.{Events, Stored, certain, uncertain_boot, IsStoredAs}
 use Rattle.rel_handler.specs.Moments.{KeepsStore}
 use Rattle.node_store.specs.Image.{Extent, booted_extent, extent_of, IsImageAt, IsImageOf, IsLeftByBoot}
 use Rattle.rel_handler.specs.Refusals.{BootRefused, IsBootRefusal}
@@ -32,11 +32,11 @@ use Rattle.session_input.specs.Commands.Command.{file, create, set_unpacked, che
 use Rattle.rel_session.specs.Device.{Device, LeavesOnly, HasFailed}
 use Rattle.rel_unpack.specs.Source.{Source}
 use Rattle.rel_session.specs.InMemory.{disk_at, IsAt, Replied, Leads, NothingDone, Answers, TellsReply, TellsOrStops, AnswersOrStops, IsStarted, NeedsNode}
-use Rattle.rel_session.specs.Node.{Place, just_booted, at_rest, list_or_none, Outcome, Reply, reply, refused, failed, nothing, done, failed_with}
+use Rattle.rel_session.specs.Node.{Place, just_booted, at_rest, list_or_none, CommandOutcome, Reply, reply, refused, failed, nothing, done, failed_with}
 use Rattle.rel_session.specs.Node.Place.{raw, closed, running, dead}
 use Rattle.node_answer.specs.Refusals.{refusal_of, refusal_line}
 use Rattle.rel_session.specs.Booting.{boot_line}
-use Rattle.node_answer.specs.Refusals.Refusal.{dead as dead_node}
+use Rattle.node_answer.specs.Refusals.NodeRefusal.{dead as dead_node}
 use Rattle.rel_session.specs.Run.{IsReached, Holds, Moments, Happens}
 use Rattle.rel_session.specs.Transition
 use Rattle.rel_session.specs.Transition.Action.{answers, changes_node, installs, reboots_node, boots_node, tells_start, calls}
@@ -98,14 +98,14 @@ module _ {D : Type 0} (v : Device D) (laws : IsDevice v) where
   pub moments_of_nothing : (p : Place) (old new : D) → Holds v p old → LeavesOnly v old new (v.may_leave old) → Moments v p nothing old new
   moments_of_nothing (raw bytes) old new here leaves = leaves
   moments_of_nothing (closed s) old new here leaves = quiet s [] old new here leaves
-  moments_of_nothing (running events extent ps) old new here leaves = quiet (certain events extent) [] old new (λ c now. (here c now).0) leaves
+  moments_of_nothing (running events extent ps) old new here leaves = quiet (certain events extent) [] old new here leaves
   moments_of_nothing (dead s) old new here leaves = quiet s [] old new here leaves
 
   -- where a disk stands that is read alone
   pub holds_still : (p : Place) (old new : D) → Holds v p old → v.seen new ≡ v.seen old → LeavesOnly v old new (v.may_leave old) → Holds v p new
   holds_still (raw bytes) old new here same leaves = same ∙ here
   holds_still (closed s) old new here same leaves = kept (IsStoredAs s) old new here leaves
-  holds_still (running events extent ps) old new here same leaves = kept (λ c. IsStoredAs (certain events extent) c × StartsBehind events c) old new here leaves
+  holds_still (running events extent ps) old new here same leaves = kept (IsStoredAs (certain events extent)) old new here leaves
   holds_still (dead s) old new here same leaves = kept (IsStoredAs s) old new here leaves
 
   never : {A : Type 0} → false ≡ true → A
@@ -148,13 +148,13 @@ module _ {D : Type 0} (v : Device D) (laws : IsDevice v) where
   -- A handler whose list is that of these events.
   abbrev RunsWith : NodeStore D → Events → Extent → Type 0
   RunsWith h events extent =
-      ((c : List ℕ) → v.may_leave (disk_in h) c → IsStoredAs (certain events extent) c × StartsBehind events c) × (is_dead h ≡ false)
+      ((c : List ℕ) → v.may_leave (disk_in h) c → IsStoredAs (certain events extent) c) × (is_dead h ≡ false)
       × (list_after events ≡ Some (list_in h)) × (extent_in h ≡ extent)
 
   runs_with : (h : NodeStore D) (events : Events) (extent : Extent) → is_dead h ≡ false → list_after events ≡ Some (list_in h) → extent_in h ≡ extent
       → ((c : List ℕ) → v.may_leave (disk_in h) c → IsImageAt c (list_in h) (extent_in h)) → HasStarted v.may_leave h → RunsWith h events extent
   runs_with h events extent alive after ends images started = (
-    λ c now. (stored events extent (list_in h) c after (subst (IsImageAt c (list_in h)) ends (images c now)) (started c now), (list_in h, after, started c now)),
+    λ c now. stored events extent (list_in h) c after (subst (IsImageAt c (list_in h)) ends (images c now)) (started c now),
     alive,
     after,
     ends,
@@ -190,7 +190,7 @@ module _ {D : Type 0} (v : Device D) (laws : IsDevice v) where
   rests : (p : Place) (disk : D) → Holds v p disk → Holds v (at_rest p) disk
   rests (raw bytes) disk holds = holds
   rests (closed s) disk holds = holds
-  rests (running events extent ps) disk holds = λ c now. (holds c now).0
+  rests (running events extent ps) disk holds = holds
   rests (dead s) disk holds = holds
 
   -- Its processes were started, or memory was refused and its disk alone is left.
@@ -270,7 +270,7 @@ module _ {D : Type 0} (v : Device D) (laws : IsDevice v) where
         boots_with (raw bytes) events (extent_of (v.seen disk)) es before is.list is.extent leaves (Transition.Boots (raw bytes))
         (λ a is. inl (events, es, extent_of (v.seen disk), before, subst (λ b. IsImageAt b es (extent_of (v.seen disk))) here at, is))
     boots_at (closed s) here = boots_store (closed s) s here (λ m. m)
-    boots_at (running events extent ps) here = boots_store (running events extent ps) (certain events extent) (λ c now. (here c now).0) (λ m. m)
+    boots_at (running events extent ps) here = boots_store (running events extent ps) (certain events extent) here (λ m. m)
     boots_at (dead s) here = boots_store (dead s) s here (λ m. m)
 
     pub boots : (line : Result (String Global) AllocError) (place : PlaceInMemory D) → IsStarted h line place → TellsOrStops v Transition.Boots (λ p a. Transition.StopsWithin p boots_node a) line old place
@@ -283,7 +283,7 @@ module _ {D : Type 0} (v : Device D) (laws : IsDevice v) where
   -- a boot that is refused
   module _ (old : PlaceInMemory D) (disk new : D) (taken : disk ≡ disk_at old) (leaves : LeavesOnly v disk new (λ c. v.may_leave disk c ⊎ IsLeftByBoot (v.seen disk) c))
       (stored_all : (s : Stored) → ((c : List ℕ) → v.may_leave disk c → IsStoredAs s c) → KeepsStore v s disk new) (counted : v.failures disk ≤ v.failures new) where
-    refused_at : (p q : Place) (answer : List ℕ) (o : Outcome) (P : Reply → Type 0) → Moments v p o disk new → IsAt v (memory.Idle new) q → (o.failed ≡ true → HasFailed v disk new)
+    refused_at : (p q : Place) (answer : List ℕ) (o : CommandOutcome) (P : Reply → Type 0) → Moments v p o disk new → IsAt v (memory.Idle new) q → (o.failed ≡ true → HasFailed v disk new)
         → P (reply answer o q) → Replied v p (λ a. P a × (a.answer ≡ answer)) old (memory.Idle new)
     refused_at p q answer o P moments then cause right = record {
       given = reply answer o q;
@@ -311,7 +311,7 @@ module _ {D : Type 0} (v : Device D) (laws : IsDevice v) where
 
           fails_so : why ≡ boot_error.Device → KeepsStore v s disk new → Replied v p (λ a. Transition.BootsStore s a × (a.answer ≡ boot_line why)) old (memory.Idle new)
           fails_so failed (inl all) = failed_to (closed s) failed (λ c now. all.each c (laws.counts_now new (v.moment disk) c all.later now)) (inl refl)
-          fails_so failed (inr k) = failed_to (closed (uncertain_boot k.events k.extent)) failed k.now (inr (k.events, k.extent, k.has, refl))
+          fails_so failed (inr k) = failed_to (closed (uncertain_boot s.known.ran k.events k.extent)) failed k.now (inr (k.events, k.extent, k.has, refl))
 
           go : (why ≡ boot_error.Device) ⊎ (why ≡ boot_error.NoMemory) → Replied v p (λ a. Transition.BootsStore s a × (a.answer ≡ boot_line why)) old (memory.Idle new)
           go (inl failed) = fails_so failed (stored_all s here)
@@ -335,7 +335,7 @@ module _ {D : Type 0} (v : Device D) (laws : IsDevice v) where
       boot_refused_at : (p : Place) → Holds v p disk → Replied v p (λ a. Transition.Boots p a × (a.answer ≡ boot_line why)) old (memory.Idle new)
       boot_refused_at (raw bytes) here = by_bytes bytes here
       boot_refused_at (closed s) here = by_store (closed s) s here (λ m. m)
-      boot_refused_at (running events extent ps) here = by_store (running events extent ps) (certain events extent) (λ c now. (here c now).0) (λ m. m)
+      boot_refused_at (running events extent ps) here = by_store (running events extent ps) (certain events extent) here (λ m. m)
       boot_refused_at (dead s) here = by_store (dead s) s here (λ m. m)
 
       pub boot_refused : (line : Result (String Global) AllocError) → IfOk line (λ text. string_bytes text ≡ boot_line why) → TellsReply v Transition.Boots line old (memory.Idle new)

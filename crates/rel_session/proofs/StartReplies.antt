@@ -1,5 +1,5 @@
 -- What `start` replies: the start record is read, and it is that of the permanent release.
-use Rattle.std.proofs.Common.{◌≡◌, inl, inr, ℕ, true, false, List, Some, None, Result, Ok, Err, refl, sym, ap, ◌∙◌, codes, ◌++◌}
+use Rattle.std.proofs.Common.{◌≡◌, inl, inr, true, false, Some, None, Result, Ok, Err, refl, sym, ap, ◌∙◌, codes, ◌++◌}
 use Rattle.std.specs.Prelude.{IfOk, MatchResult, String, string_bytes}
 use Rattle.std.specs.declared.alloc.AllocError.{AllocError}
 use Rattle.std.specs.declared.alloc.Global.{Global}
@@ -20,7 +20,7 @@ use Rattle.rel_session.specs.InMemory.{IsAt, Replied, NothingDone, Answers}
 use Rattle.rel_session.specs.Node.{Place, Reply, reply, failed, nothing, releases_after, list_or_none}
 use Rattle.rel_session.specs.Node.Place.{raw, closed, running, dead}
 use Rattle.node_answer.specs.Refusals.{refusal_line}
-use Rattle.node_answer.specs.Refusals.Refusal.{device}
+use Rattle.node_answer.specs.Refusals.NodeRefusal.{device}
 use Rattle.rel_session.specs.Run.{Holds}
 use Rattle.node_answer.specs.Lines.{ok_line}
 use Rattle.rel_session.specs.Transition.{Acts, start_versions}
@@ -82,14 +82,13 @@ module _ {D : Type 0} (v : Device D) (laws : IsDevice v) (n new : BootedNode D) 
   device_failed cause gone (dead s) at = never (sym alive ∙ at.1)
   device_failed cause gone (running events extent ps) at =
       let s = certain events extent in
-      let stored : (c : List ℕ) → v.may_leave (disk_in n.handler) c → IsStoredAs s c = λ c now. (at.0 c now).0 in
-      let holds = kept v laws (IsStoredAs s) (disk_in n.handler) (disk_in new.handler) stored read.only_read.any_moment in
+      let holds = kept v laws (IsStoredAs s) (disk_in n.handler) (disk_in new.handler) at.0 read.only_read.any_moment in
       record {
         given = failed None (dead s);
         right = (inr (refl), refl);
         at = (holds, gone);
         happens = record {
-          moments = quiet v laws s _ (disk_in n.handler) (disk_in new.handler) stored read.only_read.any_moment;
+          moments = quiet v laws s _ (disk_in n.handler) (disk_in new.handler) at.0 read.only_read.any_moment;
           holds = holds;
           cause = λ e. cause;
           counted = read.counted;

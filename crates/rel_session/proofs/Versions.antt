@@ -37,7 +37,7 @@ use Rattle.rel_unpack.specs.Source.{Source}
 use Rattle.rel_session.specs.Node.{Place, Reply, refused, failed, releases_after, list_or_none}
 use Rattle.rel_session.specs.Node.Place.{raw, closed, running, dead}
 use Rattle.node_answer.specs.Refusals.{refusal_of, refusal_for, refusal_line}
-use Rattle.node_answer.specs.Refusals.Refusal.{device, bad_status, script_refused, must_reboot, dead as no_node}
+use Rattle.node_answer.specs.Refusals.NodeRefusal.{device, bad_status, script_refused, must_reboot, dead as no_node}
 use Rattle.rel_session.specs.AnswerLaws.{HasLinePath, IsOfFiles, AreOfFiles, HasVersionsAt, HasModuleVersionsAt}
 use Rattle.rel_session.specs.Transition
 use Rattle.rel_session.specs.Transition.Action.{answers, makes_node, changes_node, installs, reboots_node, boots_node, tells_start, calls}
@@ -212,14 +212,14 @@ boots_to events extent all a (list, after, is) =
     good_as a _ is (ok_whole (Transition.version_of (running_release (booted list))) (running_version (booted list) (behind (booted list) grown)), behind)
 
 -- a store whose boot is in doubt
-uncertain_boot_versions : (events : Events) (extent : Extent) → OfList events → HasVersionsAt (closed (uncertain_boot events extent))
-uncertain_boot_versions events extent all es l (inl same) after = all l (ap list_after (sym same) ∙ after)
-uncertain_boot_versions events extent all es l (inr same) after = list_versions events booting tt all l (ap list_after (sym same) ∙ after)
+uncertain_boot_versions : (ran events : Events) (extent : Extent) → OfList events → HasVersionsAt (closed (uncertain_boot ran events extent))
+uncertain_boot_versions ran events extent all es l (inl same) after = all l (ap list_after (sym same) ∙ after)
+uncertain_boot_versions ran events extent all es l (inr same) after = list_versions events booting tt all l (ap list_after (sym same) ∙ after)
 
 boots_store : (s : Stored) → HasVersionsAt (closed s) → (a : Reply) → Transition.BootsStore s a → IsGood a
 boots_store s all a (inl (events, extent, has, is)) = boots_to events extent (stored_versions s all events extent has) a is
 boots_store s all a (inr (inl is)) = good_as a _ is ((λ behind. refl), all)
-boots_store s all a (inr (inr (events, extent, has, is))) = good_as a _ is ((λ behind. refl), uncertain_boot_versions events extent (stored_versions s all events extent has))
+boots_store s all a (inr (inr (events, extent, has, is))) = good_as a _ is ((λ behind. refl), uncertain_boot_versions s.known.ran events extent (stored_versions s all events extent has))
 
 -- a store with nothing in doubt
 pub certain_versions : (events : Events) (extent : Extent) → OfList events → HasVersionsAt (closed (certain events extent))

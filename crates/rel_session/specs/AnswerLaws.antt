@@ -11,7 +11,7 @@ use Rattle.rel_list.specs.Event.Event.{restart_installed, boot as booting}
 use Rattle.node_processes.specs.ModuleVersions.{HaveModuleVersions}
 use Rattle.node_store.specs.Compaction.{compacted}
 use Rattle.rel_handler.specs.declared.error.BootError.TheVariants as boot_error
-use Rattle.node_store.specs.Events.{Events, certain}
+use Rattle.node_store.specs.Events.{Events, Stored, at_rest_since, BeginWith}
 use Rattle.session_input.specs.Commands.{Command}
 use Rattle.session_input.specs.Commands.Command.{create, set_unpacked, relup}
 use Rattle.relup_command.specs.Answer.{AreLinePaths}
@@ -25,7 +25,7 @@ use Rattle.rel_session.specs.Node.{Place, Reply, releases_after}
 use Rattle.rel_session.specs.Node.Place.{raw, closed, running, dead}
 use Rattle.node_answer.specs.Refusals.{refusal_line}
 use Rattle.rel_session.specs.Booting.{boot_line}
-use Rattle.node_answer.specs.Refusals.Refusal.{device}
+use Rattle.node_answer.specs.Refusals.NodeRefusal.{device}
 use Rattle.rel_session.specs.Run.{EndsInFull, Starts, Holds, Executes, Replies, Ending, answers_of, commands_in, events_of, IsRun}
 use Rattle.rel_session.specs.RunLaws.{MayBe, NoneFails}
 use Rattle.rel_session.specs.Transition.{Transition}
@@ -60,12 +60,16 @@ TellsDoubt source =
     → Transition source p c a → a.outcome.in_doubt ≡ Some e
     → (a.outcome.failed ≡ true) × TellsFailure a.answer
 
+-- Nothing is in doubt of the store, and a node last ran behind the first of its events.
+abbrev pub IsAtRest : Stored → Type 0
+IsAtRest s = (s ≡ at_rest_since s.known.ran s.known.acknowledged s.extent) × BeginWith s.known.ran s.known.acknowledged
+
 -- A device that does not fail leaves no choice there: bytes, or a store with nothing in doubt.
 abbrev pub IsCertain : Place → Type 0
 IsCertain (raw bytes) = Unit {0}
-IsCertain (closed s) = s ≡ certain s.known.acknowledged s.extent
+IsCertain (closed s) = IsAtRest s
 IsCertain (running events extent ps) = Unit {0}
-IsCertain (dead s) = s ≡ certain s.known.acknowledged s.extent
+IsCertain (dead s) = IsAtRest s
 
 -- The store of a node is as short as a compaction leaves it.
 abbrev pub IsCompact : Place → Type 0
@@ -100,7 +104,7 @@ AreSame (a ∷ first) (b ∷ second) = (a.answer ≡ b.answer) × (a.outcome ≡
 AreSame first second = ⊥
 
 -- Where neither the device fails nor memory is refused to a compaction, and a read of a file has one answer, all the commands of
--- an input have one answer each, and the session one ending.
+-- an input have one answer each, and the session one ending, where it came to its end.
 abbrev pub HaveOneAnswer : Source → Type 0
 HaveOneAnswer base =
     GivesOne base → (files : Files) (p : Place) (commands : Feed Command) (a b : Ending) (first second : List Reply)
@@ -184,10 +188,10 @@ RestartAlike (a ∷ first) (b ∷ second) = (have_restart (events_of a.outcome) 
 RestartAlike first second = Unit {0}
 
 -- A text tells one run, where a read of a file has one answer and it is known which installations end with a restart: two over
--- the same commands, whether the device fails or not, which write the same have the same answers and the same events,
--- acknowledged and in doubt, command by command. It has to be known: an installation with a restart answers the line of one
--- without, and then a second line, which might be that of the next command; and a failure in its commit is told as that of one
--- without.
+-- the same commands that came to their end, whether the device fails or not, and which write the same have the same answers and
+-- the same events, acknowledged and in doubt, command by command. It has to be known: an installation with a restart answers the
+-- line of one without, and then a second line, which might be that of the next command; and a failure in its commit is told as
+-- that of one without.
 abbrev pub TellsOneRun : Source → Type 0
 TellsOneRun base =
     GivesOne base → (files : Files) (p : Place) (commands : Feed Command) (a b : Ending) (first second : List Reply)

@@ -44,7 +44,7 @@ BootsBytes bytes a =
 abbrev pub FailsOnStore : Stored → Reply → Type 0
 FailsOnStore s a =
     (a ≡ boot_failed (closed s))
-    ⊎ ((events : Events) × (extent : Extent) × MayHave s events extent × (a ≡ boot_failed (closed (uncertain_boot events extent))))
+    ⊎ ((events : Events) × (extent : Extent) × MayHave s events extent × (a ≡ boot_failed (closed (uncertain_boot s.known.ran events extent))))
 
 -- A boot of a store: it has the acknowledged events, with the one in doubt or without.
 abbrev pub BootsStore : Stored → Reply → Type 0

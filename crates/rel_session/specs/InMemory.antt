@@ -39,7 +39,7 @@ use Rattle.node_upgrade.specs.Failure.Why.{fails}
 use Rattle.script_progress.specs.Fault.Cause.{no_memory}
 use Rattle.node_answer.specs.Lines.{installed_text}
 use Rattle.node_answer.specs.Refusals.{refusal_of, refusal_line}
-use Rattle.node_answer.specs.Refusals.Refusal.{must_reboot, script_refused}
+use Rattle.node_answer.specs.Refusals.NodeRefusal.{must_reboot, script_refused}
 use Rattle.rel_session.specs.Run.{Holds, Happens}
 use Rattle.node_processes.specs.Processes.{Processes}
 use Rattle.node_answer.specs.Lines.{ok_line}

@@ -22,7 +22,7 @@ use Rattle.rel_session.specs.Node.{Reply, releases_after, reply, refused, failed
 use Rattle.rel_session.specs.Node.Place.{running, dead}
 use Rattle.node_answer.specs.Lines.{installed_line}
 use Rattle.node_answer.specs.Refusals.{refusal_of}
-use Rattle.node_answer.specs.Refusals.Refusal.{full, script_refused, must_reboot}
+use Rattle.node_answer.specs.Refusals.NodeRefusal.{full, script_refused, must_reboot}
 
 -- what comes of its script on these processes
 abbrev pub upgrade_outcome : List ℕ → Releases → FoundForm → Processes → script.Outcome

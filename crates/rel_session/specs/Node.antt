@@ -6,8 +6,8 @@ use Rattle.node_store.specs.Events.{Events, Stored, certain}
 use Rattle.node_store.specs.Image.{Extent}
 use Rattle.node_processes.specs.Fresh.{fresh}
 use Rattle.node_processes.specs.Processes.{Processes}
-use Rattle.node_answer.specs.Refusals.{Refusal, refusal_line}
-use Rattle.node_answer.specs.Refusals.Refusal.{device}
+use Rattle.node_answer.specs.Refusals.{NodeRefusal, refusal_line}
+use Rattle.node_answer.specs.Refusals.NodeRefusal.{device}
 
 -- Where a node's disk stands.
 pub data Place : Type 0 where
@@ -41,33 +41,33 @@ at_rest (dead s) = closed s
 
 -- What a command did: the events that its answer acknowledges, the one that is in doubt behind them, and whether the
 -- device failed in it.
-pub record Outcome : Type 0 where
+pub record CommandOutcome : Type 0 where
   pub acknowledged : Events
   pub in_doubt : Option Event
   pub failed : Bool
 
-abbrev pub nothing : Outcome
+abbrev pub nothing : CommandOutcome
 nothing = record { acknowledged = []; in_doubt = None; failed = false }
 
-abbrev pub done : Events → Outcome
+abbrev pub done : Events → CommandOutcome
 done events = record { acknowledged = events; in_doubt = None; failed = false }
 
-abbrev pub failed_with : Option Event → Outcome
+abbrev pub failed_with : Option Event → CommandOutcome
 failed_with doubt = record { acknowledged = []; in_doubt = doubt; failed = true }
 
 -- A command's reply: the answer, what it did, and where the disk stands then.
 pub record Reply : Type 0 where
   pub answer : List ℕ
-  pub outcome : Outcome
+  pub outcome : CommandOutcome
   pub after : Place
 
-abbrev pub reply : List ℕ → Outcome → Place → Reply
+abbrev pub reply : List ℕ → CommandOutcome → Place → Reply
 reply answer outcome after = record { answer = answer; outcome = outcome; after = after }
 
 -- the reply where this event was committed before it
 abbrev pub behind : Event → Reply → Reply
 behind e a =
-    let outcome : Outcome = record {
+    let outcome : CommandOutcome = record {
       acknowledged = e ∷ a.outcome.acknowledged;
       in_doubt = a.outcome.in_doubt;
       failed = a.outcome.failed;
@@ -79,7 +79,7 @@ abbrev pub with_text : List ℕ → Reply → Reply
 with_text text a = reply (text ++ a.answer) a.outcome a.after
 
 -- a refusal: nothing was done
-abbrev pub refused : Refusal → Place → Reply
+abbrev pub refused : NodeRefusal → Place → Reply
 refused why p = reply (refusal_line why) nothing p
 
 -- the device failed, and this is in doubt

@@ -3,7 +3,7 @@ use Rattle.std.specs.Prelude.{◌≡◌, ◌⊎◌, ℕ, ◌≤◌, true, List, 
 use Rattle.rel_list.specs.Releases.{Releases}
 use Rattle.rel_list.specs.Event.{Event, list_after}
 use Rattle.rel_list.specs.Event.Event.{made}
-use Rattle.node_store.specs.Events.{Known, Events, settled, IsPrefix, with_doubt, StartsBehind, HasStart, IsStoredAs, certain}
+use Rattle.node_store.specs.Events.{Known, Events, settled, IsPrefix, with_doubt, HasStart, IsStoredAs, certain}
 use Rattle.node_store.specs.Image.{holds_a_store, IsImageOf, IsLeftByBoot}
 use Rattle.rel_handler.specs.Moments.{Begins, BeginsAt}
 use Rattle.node_store.specs.Events.{doubted}
@@ -16,17 +16,16 @@ use Rattle.rel_unpack.specs.Source.{Source}
 use Rattle.rel_session.specs.Files.{Files, files_behind, source_of}
 use Rattle.session_input.specs.Input.{most_bytes}
 use Rattle.session_input.specs.Lines.{lines_of}
-use Rattle.rel_session.specs.Node.{Place, Outcome, Reply}
+use Rattle.rel_session.specs.Node.{Place, CommandOutcome, Reply}
 use Rattle.rel_session.specs.Node.Place.{raw, closed, running, dead}
 use Rattle.rel_session.specs.Transition.{Transition, IsStopped}
 
 -- This is so of the disk of a node between two commands: a read gives the bytes that the place tells, or whatever a crash leaves of
--- it is the store that the place tells. Where a node runs, the start record is that of its permanent release.
+-- it is the store that the place tells. So the start record is that of the permanent release where a node runs.
 abbrev pub Holds : {D : Type 0} → Device D → Place → D → Type 0
 Holds v (raw bytes) disk = v.seen disk ≡ bytes
 Holds v (closed s) disk = (c : List ℕ) → v.may_leave disk c → IsStoredAs s c
-Holds v (running events extent ps) disk =
-    (c : List ℕ) → v.may_leave disk c → IsStoredAs (certain events extent) c × StartsBehind events c
+Holds v (running events extent ps) disk = (c : List ℕ) → v.may_leave disk c → IsStoredAs (certain events extent) c
 Holds v (dead s) disk = (c : List ℕ) → v.may_leave disk c → IsStoredAs s c
 
 -- A session begins on a disk on which no node runs.
@@ -36,7 +35,7 @@ Starts v (closed s) disk = Holds v (closed s) disk
 Starts v p disk = ⊥
 
 -- the events of a command, the one in doubt last
-abbrev pub events_of : Outcome → Events
+abbrev pub events_of : CommandOutcome → Events
 events_of o = with_doubt o.acknowledged o.in_doubt
 
 -- These bytes stand for the list of a prefix of the events so far that holds every acknowledged one: of what was known of
@@ -50,7 +49,7 @@ pub record IsReached (k : Known) (command : Events) (image : List ℕ) : Type 0 
   pub list : Releases
   pub after : list_after (events ++ more) ≡ Some list
   pub image_of : IsImageOf image list
-  pub start : HasStart (events ++ more) image
+  pub start : HasStart k.ran (events ++ more) image
 
 -- At each moment of a command on a disk on which no node is known. A creation leaves no store, or one with its event, behind a
 -- moment up to which no more than the first byte was written; one in doubt may have had no such moment, and leaves nothing new on a
@@ -65,7 +64,7 @@ MomentsOf v [] None old new = LeavesOnly v old new (v.may_leave old)
 MomentsOf v acknowledged doubt old new = LeavesOnly v old new (λ c. v.may_leave old c ⊎ IsLeftByBoot (v.seen old) c)
 
 -- At each moment of a command with this outcome.
-abbrev pub Moments : {D : Type 0} → Device D → Place → Outcome → D → D → Type 0
+abbrev pub Moments : {D : Type 0} → Device D → Place → CommandOutcome → D → D → Type 0
 Moments v (raw bytes) o old new = MomentsOf v o.acknowledged o.in_doubt old new
 Moments v (closed s) o old new = LeavesOnly v old new (IsReached s.known (events_of o))
 Moments v (running events extent ps) o old new = LeavesOnly v old new (IsReached (settled events) (events_of o))

@@ -4,7 +4,7 @@ use Rattle.rel_disk.specs.Damage.{Only}
 use Rattle.rel_list.specs.Releases.{Bundle, Releases}
 use Rattle.rel_list.specs.Event.{list_after}
 use Rattle.rel_list.specs.Event.Event.{made, boot as booting}
-use Rattle.node_store.specs.Events.{Events, Stored, with_doubt, certain, HasStart, IsStoredAs, IsOfPrefix}
+use Rattle.node_store.specs.Events.{Events, Stored, with_doubt, at_rest_since, BeginWith, HasStart, IsStoredAs, IsOfPrefix}
 use Rattle.node_store.specs.Image.{extent_of, IsImageOf}
 use Rattle.session_input.specs.Commands.{Command}
 use Rattle.rel_session.specs.Device.{Device, LeavesOnly}
@@ -22,6 +22,13 @@ acknowledged_at (raw bytes) = []
 acknowledged_at (closed s) = s.known.acknowledged
 acknowledged_at (running events extent ps) = events
 acknowledged_at (dead s) = s.known.acknowledged
+
+-- the events behind which a node last ran there
+abbrev pub ran_at : Place → Events
+ran_at (raw bytes) = []
+ran_at (closed s) = s.known.ran
+ran_at (running events extent ps) = events
+ran_at (dead s) = s.known.ran
 
 -- the store is known there
 abbrev pub IsKnown : Place → Type 0
@@ -42,16 +49,17 @@ Finds (running events extent ps) found = found ≡ events
 Finds (dead s) events = MayBe s events
 
 -- Behind a reply the acknowledged events are those that it found, with its own at the end. A store that is known stays
--- so, and one with an acknowledged event is known.
-pub record Keeps (p : Place) (a : Reply) : Type 0 where
+-- so, and one with an acknowledged event is known. A node ran no sooner than before.
+pub record KeepsEvents (p : Place) (a : Reply) : Type 0 where
   pub found : Events
   pub finds : Finds p found
   pub are : acknowledged_at a.after ≡ found ++ a.outcome.acknowledged
   pub known : IsKnown p ⊎ (a.outcome.acknowledged ≢ []) → IsKnown a.after
+  pub ran : BeginWith (ran_at p) (ran_at a.after)
 
 -- Each reply keeps the acknowledged events.
 abbrev pub EachKeeps : Source → Type 0
-EachKeeps source = (p : Place) (c : Command) (a : Reply) → Transition source p c a → Keeps p a
+EachKeeps source = (p : Place) (c : Command) (a : Reply) → Transition source p c a → KeepsEvents p a
 
 -- where the disk stands behind these replies
 abbrev pub place_after : Place → List Reply → Place
@@ -65,13 +73,14 @@ HaveAll before [] events = events ≡ before
 HaveAll before (a ∷ more) events =
     (settled : Events) × HaveAll (before ++ (settled ++ a.outcome.acknowledged)) more events
 
--- the bytes stand for the list of events that begin with these, and have a start record of those events
-pub record StandsForAll (events : Events) (image : List ℕ) : Type 0 where
+-- the bytes stand for the list of events that begin with these, and have a start record of those events, but of none before a
+-- node ran
+pub record StandsForAll (ran events : Events) (image : List ℕ) : Type 0 where
   pub more : Events
   pub list : Releases
   pub after : list_after (events ++ more) ≡ Some list
   pub image_of : IsImageOf image list
-  pub start : HasStart (events ++ more) image
+  pub start : HasStart ran (events ++ more) image
 
 -- the store is known before the replies, or one of them acknowledges an event
 abbrev pub BecomesKnown : Place → List Reply → Type 0
@@ -79,14 +88,15 @@ BecomesKnown p [] = IsKnown p
 BecomesKnown p (a ∷ more) = (IsKnown p ⊎ (a.outcome.acknowledged ≢ [])) ⊎ BecomesKnown a.after more
 
 -- Behind the first replies of a session the acknowledged events are those before it with those of these replies, and
--- at each moment from there on a crash leaves the list of events that begin with them.
+-- at each moment from there on a crash leaves the list of events that begin with them; and a start record that is no older than
+-- the last event behind which a node ran.
 pub record KeepsAll {D : Type 0} (v : Device D) (p : Place) (first rest : List Reply) (old new : D) : Type 0 where
   pub mid : D
   pub before : Executes v p first old mid
   pub behind : Executes v (place_after p first) rest mid new
   pub known : IsKnown (place_after p first)
   pub have_all : HaveAll (acknowledged_at p) first (acknowledged_at (place_after p first))
-  pub moments : LeavesOnly v mid new (StandsForAll (acknowledged_at (place_after p first)))
+  pub moments : LeavesOnly v mid new (StandsForAll (ran_at (place_after p first)) (acknowledged_at (place_after p first)))
 
 -- No moment of a session loses an acknowledged event.
 abbrev pub LosesNothing : {D : Type 0} → Device D → Source → Type 0
@@ -108,30 +118,31 @@ BeginsWhereOneEnded {D} v =
 -- One begins on a disk that holds nothing but what a crash left, and all these events are acknowledged then.
 abbrev pub BeginsBehindACrash : {D : Type 0} → Device D → Type 0
 BeginsBehindACrash {D} v =
-    (events : Events) (image : List ℕ) (disk : D) → StandsForAll events image → Only image (v.may_leave disk)
-    → (more : Events) × Starts v (closed (certain (events ++ more) (extent_of image))) disk
+    (ran events : Events) (image : List ℕ) (disk : D) → StandsForAll ran events image → Only image (v.may_leave disk)
+    → (more : Events) × Starts v (closed (at_rest_since ran (events ++ more) (extent_of image))) disk
 
 -- A next session begins on this disk: it is the one that was handed back, or holds what a crash left at some moment.
 abbrev pub IsNextDisk : {D : Type 0} → Device D → D → D → D → Type 0
 IsNextDisk v mid new later =
     (later ≡ new) ⊎ ((image : List ℕ) × v.left_since new (v.moment mid) image × Only image (v.may_leave later))
 
--- All these events are acknowledged on the disk, and so over as many sessions: each begins where they are, and behind
--- any of its replies a crash may come, or its end.
-abbrev pub Lasts : {D : Type 0} → Device D → Source → ℕ → Events → D → Type 0
-Lasts v base zero events disk =
-    (s : Stored) × (more : Events) × Starts v (closed s) disk × (s.known.acknowledged ≡ events ++ more)
-Lasts {D} v base (suc n) events disk =
-    (s : Stored) × (more : Events) × Starts v (closed s) disk × (s.known.acknowledged ≡ events ++ more)
+-- All these events are acknowledged on the disk, and a node ran no sooner than behind the first of them; and so over as many
+-- sessions: each begins where they are, and behind any of its replies a crash may come, or its end.
+abbrev pub Lasts : {D : Type 0} → Device D → Source → ℕ → Events → Events → D → Type 0
+Lasts v base zero ran events disk =
+    (s : Stored) × (more : Events) × Starts v (closed s) disk × (s.known.acknowledged ≡ events ++ more) × BeginWith ran s.known.ran
+Lasts {D} v base (suc n) ran events disk =
+    (s : Stored) × (more : Events) × Starts v (closed s) disk × (s.known.acknowledged ≡ events ++ more) × BeginWith ran s.known.ran
     × ((files : Files) (commands : Feed Command) (ending : Ending) (first rest : List Reply) (mid new later : D)
     → Replies base files (closed s) commands ending (first ++ rest) → Executes v (closed s) first disk mid
     → Executes v (place_after (closed s) first) rest mid new → IsNextDisk v mid new later
-    → (all : Events) × HaveAll (events ++ more) first all × Lasts v base n all later)
+    → (all : Events) × HaveAll (events ++ more) first all × Lasts v base n (ran_at (place_after (closed s) first)) all later)
 
--- Where a store is known, no number of sessions and crashes loses an acknowledged event.
+-- Where a store is known, no number of sessions and crashes loses an acknowledged event, or brings back a start record from before
+-- a node last ran.
 abbrev pub LosesNothingEver : {D : Type 0} → Device D → Source → Type 0
 LosesNothingEver {D} v base =
-    (n : ℕ) (s : Stored) (disk : D) → Starts v (closed s) disk → Lasts v base n s.known.acknowledged disk
+    (n : ℕ) (s : Stored) (disk : D) → Starts v (closed s) disk → Lasts v base n s.known.ran s.known.acknowledged disk
 
 -- the device fails in none of the replies
 abbrev pub NoneFails : List Reply → Type 0

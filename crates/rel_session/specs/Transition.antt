@@ -35,8 +35,8 @@ use Rattle.rel_session.specs.Node.{Place, releases_after, just_booted, at_rest, 
 use Rattle.rel_session.specs.Node.Place.{raw, closed, running, dead}
 use Rattle.rel_session.specs.Installation.{Installs, restarted, upgrade_outcome}
 pub use Rattle.node_answer.specs.Lines.{check_line, done_line, ok_line}
-use Rattle.node_answer.specs.Refusals.{Refusal, refusal_of, refusal_line, refusal_for}
-use Rattle.node_answer.specs.Refusals.Refusal.{full, exists, dead as dead_node}
+use Rattle.node_answer.specs.Refusals.{NodeRefusal, refusal_of, refusal_line, refusal_for}
+use Rattle.node_answer.specs.Refusals.NodeRefusal.{full, exists, dead as dead_node}
 
 -- what a node that runs answers by its releases and its processes
 abbrev pub told : (Releases → Processes → List ℕ) → Place → List ℕ
@@ -70,7 +70,7 @@ pub data Action : Type 0 where
   tells_start : Action
   calls : Calls → Action
 
-abbrev pub refuses : Refusal → Action
+abbrev pub refuses : NodeRefusal → Action
 refuses why = answers (refusal_line why)
 
 -- `create`, by what the path brings

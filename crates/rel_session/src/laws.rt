@@ -15,7 +15,8 @@ fn a_disk_stands_for_one_list()
 }
 
 /// Each reply keeps the acknowledged events. At each moment of a session, ended or broken off, a crash leaves the list
-/// of events that begin with all those acknowledged before that moment.
+/// of events that begin with all those acknowledged before that moment, and a start record that is no older than the last of them
+/// behind which a node ran.
 pub fn a_crash_loses_nothing_acknowledged<D: Disk, F: Files>()
     ensures replies { (files : F) → EachKeeps (F.gives files) }
     ensures accepted { IsOfAccepted }
@@ -23,7 +24,7 @@ pub fn a_crash_loses_nothing_acknowledged<D: Disk, F: Files>()
 {}
 
 /// A session may begin on the disk that another handed back, and on one that holds what a crash left of it. No number of
-/// sessions and crashes loses an acknowledged event.
+/// sessions and crashes loses an acknowledged event, or brings back a start record from before a node last ran.
 pub fn a_session_begins_where_another_ended<D: Disk, F: Files>()
     ensures ended { BeginsWhereOneEnded D.Disk }
     ensures crashed { BeginsBehindACrash D.Disk }
@@ -40,8 +41,9 @@ pub fn a_doubt_is_reported_as_a_failure<F: Files>()
     ensures { (files : F) → TellsDoubt (F.gives files) }
 {}
 
-/// Where the device does not fail, an input has one answer from each place with nothing in doubt: no two, where a read of
-/// a file has one answer, and one there is, where each read has one.
+/// Where neither the device fails nor memory is refused to a compaction, an input has one answer from each place with nothing in
+/// doubt. No two sessions that come to the end of their input, or of what is taken of it, answer otherwise, where a read of a file
+/// has one answer. And one answer there is, where each read has one.
 pub fn an_input_has_one_answer<D: Disk, F: Files>()
     ensures one { (files : F) → HaveOneAnswer (F.gives files) }
     ensures written { (files : F) → HaveOneText D.Disk (F.gives files) }
@@ -56,10 +58,10 @@ pub fn an_empty_disk_begins_with_a_making<D: Disk, F: Files>()
     ensures { (files : F) → BeginsWithAMaking D.Disk (F.gives files) }
 {}
 
-/// Two runs of the same commands from one place that have written the same text have the same events, acknowledged and
-/// in doubt, command by command, where the same installations end with a restart. So a text tells which they are, whether the
-/// device failed or not. What ends with a restart has to be known, since its answer has a line more, which may be that of the
-/// next command.
+/// Two runs of the same commands from one place that came to the end of their input, or of what is taken of it, and have written
+/// the same text have the same events, acknowledged and in doubt, command by command, where the same installations end with a
+/// restart. So a text tells which they are, whether the device failed or not. What ends with a restart has to be known, since its
+/// answer has a line more, which may be that of the next command.
 pub fn a_text_tells_one_run<D: Disk, F: Files>()
     ensures one { (files : F) → TellsOneRun (F.gives files) }
 

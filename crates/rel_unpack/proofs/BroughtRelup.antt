@@ -5,7 +5,7 @@ use Rattle.erl_term.specs.Within.{IsWithin}
 use Rattle.erl_term.proofs.Limits.{keeps_limits}
 use Rattle.rel_check.specs.Relup.{relup_mismatch}
 use Rattle.rel_check.specs.declared.relup.RelupMismatch.{RelupMismatch}
-use Rattle.relup_file.specs.File.{HasFileTerm}
+use Rattle.rel_files.specs.File.{HasFileTerm}
 use Rattle.relup_file.specs.Form.{IsRelupTerm}
 use Rattle.erl_term.specs.Value.{Value}
 use Rattle.rel_unpack.specs.Refusal.{Refusal}

@@ -8,7 +8,7 @@ use Rattle.erl_term.specs.Value.{Value, Values}
 use Rattle.erl_term.specs.Value.Value.{tuple}
 use Rattle.erl_term.specs.Value.Values.{no_values, value}
 use Rattle.rel_files.specs.Name.{IsName}
-use Rattle.rel_files.specs.Parts.{list_in, pair_in, three}
+use Rattle.rel_files.specs.Parts.{list_in, pair_in, three, word_in}
 use Rattle.rel_files.specs.Sketch.{name_in, names_of, version_or_empty}
 use Rattle.rel_files.proofs.Options.{mapped, chained}
 use Rattle.rel_files.proofs.Texts.{from_names}
@@ -17,7 +17,7 @@ use Rattle.app_file.specs.Parts.{Entries, Contents, contents, contents_in, entri
 use Rattle.mod_table.specs.declared.child.ChildKind.{ChildKind}
 use Rattle.mod_table.specs.declared.child.Restart.{Restart}
 use Rattle.mod_table.specs.declared.table.Table.TheVariants.{Worker, Super}
-use Rattle.mod_table.specs.Children.{ChildParts, atom_in, child_in, child_of_parts, child_parts, children_in, is_shutdown, kind_in, lists_only, restart_in, start_in}
+use Rattle.mod_table.specs.Children.{ChildParts, child_in, child_of_parts, child_parts, children_in, is_shutdown, kind_in, lists_only, restart_in, start_in}
 use Rattle.mod_table.specs.File.{table_in}
 use Rattle.worker_table.specs.Headed.{worker_in}
 use Rattle.mod_table.specs.Headed.{super_in}
@@ -90,7 +90,7 @@ child_named : (p : ChildParts) (c : ChildSpec) → child_of_parts p ≡ Some c �
 child_named p c is =
     let made : List ℕ → List ℕ → Restart → ChildKind → Option ChildSpec = λ id start restart kind.
     if is_shutdown p.shutdown && lists_only start p.modules then Some (record { id = id; start = start; restart = restart; kind = kind }) else None in
-    let (id, has_id, of_id) = chained (λ id. option_and_then (λ start. option_and_then (λ restart. option_and_then (made id start restart) (kind_in p.kind)) (restart_in p.restart)) (start_in p.start)) (atom_in p.id) c is in
+    let (id, has_id, of_id) = chained (λ id. option_and_then (λ start. option_and_then (λ restart. option_and_then (made id start restart) (kind_in p.kind)) (restart_in p.restart)) (start_in p.start)) (word_in p.id) c is in
     let (start, has_start, of_start) = chained (λ start. option_and_then (λ restart. option_and_then (made id start restart) (kind_in p.kind)) (restart_in p.restart)) (start_in p.start) c of_id in
     let (restart, has_restart, of_restart) = chained (λ restart. option_and_then (made id start restart) (kind_in p.kind)) (restart_in p.restart) c of_start in
     let (kind, has_kind, of_kind) = chained (made id start restart) (kind_in p.kind) c of_restart in

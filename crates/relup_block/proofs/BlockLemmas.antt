@@ -1,6 +1,7 @@
 -- The instructions of a block, by what they load, change, suspend and resume.
-use Rattle.std.proofs.Common.{◌≡◌, refl, ap, sym, subst, ◌∙◌, ℕ, true, false, List, [], ◌∷◌, ◌++◌, map, reverse, filter, filter_map, flat_map, Some, IsPermutation}
+use Rattle.std.proofs.Common.{◌≡◌, refl, ap, sym, subst, ◌∙◌, ℕ, true, false, List, [], ◌∷◌, ◌++◌, map, reverse, filter, filter_map, flat_map, Some, IsPermutation, if◌then◌else◌}
 use Rattle.std.proofs.lemmas.List.{append_assoc, append-nil, map-append}
+use Rattle.std.proofs.lemmas.Grind.{flat_map-append as of_both}
 use Rattle.std.proofs.lemmas.List.Sorted.{IsPermutation-refl, IsPermutation-trans, IsPermutation-map, IsPermutation-filter_both}
 use Rattle.relup_instruction.specs.declared.instruction.Direction.{Direction}
 use Rattle.relup_instruction.specs.declared.instruction.Direction.TheVariants.{Up, Down}
@@ -10,7 +11,7 @@ use Rattle.relup_block.specs.declared.order.ChoiceRule.TheVariants.{DependentsFi
 use Rattle.relup_block.specs.Order.{BlockItemForm, order}
 use Rattle.relup_block.specs.Order.BlockItemForm.{updated, loaded}
 use Rattle.relup_block.specs.Block.{suspension, resumption, change, purging, is_of_kind, over, suspending, loading, changing, resuming, updating, in_orders, block}
-use Rattle.relup_block.specs.Laws.{load_by, changed_by, suspended_by, resumed_by, Loads, LoadsEachOnce, ChangesEachOnce, SuspendsEachOnce, ResumesSuspended, LoadsBeforeChange, ChangesBeforeLoad}
+use Rattle.relup_block.specs.Laws.{load_by, changed_by, suspended_by, resumed_by, Loads, LoadsEachOnce, ChangesEachOnce, SuspendsEachOnce, ResumesSuspended, LoadsBeforeChange, ChangesBeforeLoad, is_change, SuspendsMeanwhile}
 use Rattle.relup_block.proofs.PermutationLemmas.{order_same, order_has_items, order_filter}
 
 -- A block is in two orders.
@@ -22,10 +23,6 @@ abbrev conversion : Direction → List ChangeForm → Instruction
 conversion d cs = code_change (record { mode = Some d; changes = cs })
 
 module _ {A : Type 0} (f : Instruction → List A) where
-  pub of_both : (is js : List Instruction) → flat_map f (is ++ js) ≡ flat_map f is ++ flat_map f js
-  of_both [] js = refl
-  of_both (i ∷ is) js = ap (λ (as' : List A). f i ++ as') (of_both is js) ∙ sym (append_assoc (f i) (flat_map f is) (flat_map f js))
-
   -- loads of which it makes nothing
   of_loads : ((p : PurgingForm) → f (load p) ≡ []) → (xs : List BlockItemForm) → flat_map f (loading xs) ≡ []
   of_loads none [] = refl
@@ -43,14 +40,14 @@ module _ {A : Type 0} (f : Instruction → List A) where
   of_block : (d : Direction) (ss xs : List BlockItemForm)
       → flat_map f (in_orders d ss xs) ≡ flat_map f (suspending ss) ++ (flat_map f (updating d xs) ++ flat_map f (resuming ss))
   of_block d ss xs =
-      of_both (suspending ss) (updating d xs ++ resuming ss)
-      ∙ ap (λ (as' : List A). flat_map f (suspending ss) ++ as') (of_both (updating d xs) (resuming ss))
+      of_both f (suspending ss) (updating d xs ++ resuming ss)
+      ∙ ap (λ (as' : List A). flat_map f (suspending ss) ++ as') (of_both f (updating d xs) (resuming ss))
 
   of_down : (xs : List BlockItemForm) → flat_map f (updating Down xs)
       ≡ flat_map f (loading (filter (is_of_kind true) xs)) ++ (flat_map f (changing Down xs) ++ flat_map f (loading (filter (is_of_kind false) xs)))
   of_down xs =
-      of_both (loading (filter (is_of_kind true) xs)) (changing Down xs ++ loading (filter (is_of_kind false) xs))
-      ∙ ap (λ (as' : List A). flat_map f (loading (filter (is_of_kind true) xs)) ++ as') (of_both (changing Down xs) (loading (filter (is_of_kind false) xs)))
+      of_both f (loading (filter (is_of_kind true) xs)) (changing Down xs ++ loading (filter (is_of_kind false) xs))
+      ∙ ap (λ (as' : List A). flat_map f (loading (filter (is_of_kind true) xs)) ++ as') (of_both f (changing Down xs) (loading (filter (is_of_kind false) xs)))
 
   -- where nothing is made of suspending and resuming
   of_updates : ((ss : List SuspensionForm) → f (suspend ss) ≡ []) → ((names : List (List ℕ)) → f (resume names) ≡ [])
@@ -64,7 +61,7 @@ module _ {A : Type 0} (f : Instruction → List A) where
   of_no_updates : ((p : PurgingForm) → f (load p) ≡ []) → ((d : Direction) (cs : List ChangeForm) → f (conversion d cs) ≡ [])
       → (d : Direction) (xs : List BlockItemForm) → flat_map f (updating d xs) ≡ []
   of_no_updates loads changes Up xs =
-      of_both (loading xs) (changing Up xs) ∙ (λ j. of_loads loads xs j ++ of_none (conversion Up) (changes Up) (filter_map change xs) j)
+      of_both f (loading xs) (changing Up xs) ∙ (λ j. of_loads loads xs j ++ of_none (conversion Up) (changes Up) (filter_map change xs) j)
   of_no_updates loads changes Down xs =
       of_down xs
       ∙ (λ j. of_loads loads (filter (is_of_kind true) xs) j
@@ -153,16 +150,20 @@ abbrev conversion_by : Instruction → List ConversionForm
 conversion_by (code_change c) = c ∷ []
 conversion_by i = []
 
-nothing_behind : {A : Type 0} (xs ys : List A) → xs ++ ys ≡ [] → ys ≡ []
-nothing_behind [] ys e = e
-nothing_behind (x ∷ xs) ys e = absurd cc
+nothing_in_either : {A : Type 0} (xs ys : List A) → xs ++ ys ≡ [] → (xs ≡ []) × (ys ≡ [])
+nothing_in_either [] ys e = (refl, e)
+nothing_in_either (x ∷ xs) ys e = absurd cc
+
+-- Where nothing is made of instructions, nothing is made of one of them, and of those behind it.
+none_from_one_on : {A : Type 0} (f : Instruction → List A) (front rest : List Instruction) (i : Instruction)
+    → flat_map f (front ++ (i ∷ rest)) ≡ [] → (f i ≡ []) × (flat_map f rest ≡ [])
+none_from_one_on f front rest i e =
+    nothing_in_either (f i) (flat_map f rest) (nothing_in_either (flat_map f front) _ (sym (of_both f front (i ∷ rest)) ∙ e)).1
 
 has_one : (front rest : List Instruction) (c : ConversionForm) → flat_map conversion_by (front ++ (code_change c ∷ rest)) ≡ [] → ⊥
-has_one [] rest c e = nil_apart e
-  where
-    nil_apart : c ∷ flat_map conversion_by rest ≡ [] → ⊥
-    nil_apart f = absurd cc
-has_one (i ∷ front) rest c e = has_one front rest c (nothing_behind (conversion_by i) _ e)
+has_one front rest c e =
+    let none : c ∷ [] ≡ [] = (none_from_one_on conversion_by front rest (code_change c) e).0 in
+    absurd cc
 
 only_one : (before after front rest : List Instruction) (c d : ConversionForm) → flat_map conversion_by before ≡ [] → flat_map conversion_by after ≡ []
     → before ++ (code_change d ∷ after) ≡ front ++ (code_change c ∷ rest) → (before ≡ front) × (d ≡ c) × (after ≡ rest)
@@ -177,7 +178,7 @@ only_one (i ∷ before) after [] rest c d p q e =
 only_one (i ∷ before) after (j ∷ front) rest c d p q e =
     let head : i ≡ j = cc in
     let tail : before ++ (code_change d ∷ after) ≡ front ++ (code_change c ∷ rest) = cc in
-    let there = only_one before after front rest c d (nothing_behind (conversion_by i) _ p) q tail in
+    let there = only_one before after front rest c d (nothing_in_either (conversion_by i) _ p).1 q tail in
     ((λ k. head k ∷ there.0 k), there.1, there.2)
 
 -- one instruction that changes states between two parts that change none
@@ -238,4 +239,63 @@ changes_before_load xs front rest c is =
       subst (IsPermutation (filter_map change xs)) there.1 (order_same change DependentsFirst xs),
       subst (IsPermutation (map purging (filter (is_of_kind false) xs))) (sym (loads_last ss others) ∙ ap (flat_map load_by) there.2)
           (IsPermutation-map purging _ _ (order_filter (is_of_kind false) DependentsFirst xs)),
+    )
+
+-- Meanwhile the modules of all updates are suspended.
+
+-- the instruction, where it loads a module or changes states
+abbrev itself_if_change : Instruction → List Instruction
+itself_if_change i = if is_change i then i ∷ [] else []
+
+is_not_left_out : (i : Instruction) → is_change i ≡ true → itself_if_change i ≡ [] → ⊥
+is_not_left_out i is none =
+    let some : i ∷ [] ≡ [] = sym (ap (λ b. if b then i ∷ [] else []) is) ∙ none in
+    absurd cc
+
+module _ {A : Type 0} (f : Instruction → List A) where
+  -- Where no change stands in the first part, and nothing is made of the second, nothing is made of what stands behind a change.
+  none_behind_a_change : (first second front rest : List Instruction) (i : Instruction) → is_change i ≡ true
+      → flat_map itself_if_change first ≡ [] → flat_map f second ≡ [] → first ++ second ≡ front ++ (i ∷ rest) → flat_map f rest ≡ []
+  none_behind_a_change [] second front rest i is quiet none e = (none_from_one_on f front rest i (sym (ap (flat_map f) e) ∙ none)).1
+  none_behind_a_change (k ∷ first) second [] rest i is quiet none e =
+      let head : i ≡ k = cc in
+      absurd (is_not_left_out i is (ap itself_if_change head ∙ (nothing_in_either (itself_if_change k) _ quiet).0))
+  none_behind_a_change (k ∷ first) second (j ∷ front) rest i is quiet none e =
+      let tail : first ++ second ≡ front ++ (i ∷ rest) = cc in
+      none_behind_a_change first second front rest i is (nothing_in_either (itself_if_change k) _ quiet).1 none tail
+
+  -- Where nothing is made of the first part, and no change stands in the second, nothing is made of what stands before a change.
+  none_before_a_change : (first second front rest : List Instruction) (i : Instruction) → is_change i ≡ true
+      → flat_map f first ≡ [] → flat_map itself_if_change second ≡ [] → first ++ second ≡ front ++ (i ∷ rest) → flat_map f front ≡ []
+  none_before_a_change [] second front rest i is none quiet e =
+      absurd (is_not_left_out i is (none_from_one_on itself_if_change front rest i (sym (ap (flat_map itself_if_change) e) ∙ quiet)).0)
+  none_before_a_change (k ∷ first) second [] rest i is none quiet e = refl
+  none_before_a_change (k ∷ first) second (j ∷ front) rest i is none quiet e =
+      let head : j ≡ k = cc in
+      let tail : first ++ second ≡ front ++ (i ∷ rest) = cc in
+      let nothing = nothing_in_either (f k) (flat_map f first) none in
+      λ t. (ap f head ∙ nothing.0) t ++ none_before_a_change first second front rest i is nothing.1 quiet tail t
+
+-- In a block nothing is suspended behind the suspending, and nothing is resumed before the resuming.
+suspends_none_later : (d : Direction) (ss xs : List BlockItemForm) → flat_map suspended_by (updating d xs ++ resuming ss) ≡ []
+suspends_none_later d ss xs =
+    of_both suspended_by (updating d xs) (resuming ss)
+    ∙ (λ j. of_no_updates suspended_by (λ p. refl) (λ e cs. refl) d xs j ++ of_none suspended_by resume (λ names. refl) (reverse (filter_map resumption ss)) j)
+
+resumes_none_earlier : (d : Direction) (ss xs : List BlockItemForm) → flat_map resumed_by (suspending ss ++ updating d xs) ≡ []
+resumes_none_earlier d ss xs =
+    of_both resumed_by (suspending ss) (updating d xs)
+    ∙ (λ j. of_none resumed_by suspend (λ ss'. refl) (filter_map suspension ss) j ++ of_no_updates resumed_by (λ p. refl) (λ e cs. refl) d xs j)
+
+pub suspends_meanwhile : SuspendsMeanwhile
+suspends_meanwhile d xs front rest i block_is is =
+    let orders = in_two_orders d xs in
+    let ss = orders.0 in
+    let ys = orders.1 in
+    let shape : suspending ss ++ (updating d ys ++ resuming ss) ≡ front ++ (i ∷ rest) = sym orders.2 ∙ block_is in (
+      none_behind_a_change suspended_by (suspending ss) (updating d ys ++ resuming ss) front rest i is
+          (of_none itself_if_change suspend (λ ss'. refl) (filter_map suspension ss)) (suspends_none_later d ss ys) shape,
+      none_before_a_change resumed_by (suspending ss ++ updating d ys) (resuming ss) front rest i is
+          (resumes_none_earlier d ss ys) (of_none itself_if_change resume (λ names. refl) (reverse (filter_map resumption ss)))
+          (append_assoc (suspending ss) (updating d ys) (resuming ss) ∙ shape),
     )

@@ -1,5 +1,5 @@
 -- Laws of blocks, above the definition of their instructions.
-use Rattle.std.specs.Prelude.{◌≡◌, ℕ, ◌<◌, true, false, List, [], ◌∷◌, ◌++◌, map, reverse, filter, IsPermutation}
+use Rattle.std.specs.Prelude.{◌≡◌, ℕ, ◌<◌, Bool, true, false, List, [], ◌∷◌, ◌++◌, map, reverse, filter, IsPermutation}
 use Rattle.relup_instruction.specs.declared.instruction.Direction.{Direction}
 use Rattle.relup_instruction.specs.declared.instruction.Direction.TheVariants.{Up, Down}
 use Rattle.relup_instruction.specs.Instruction.{SuspensionForm, PurgingForm, ChangeForm, ConversionForm, Instruction}
@@ -90,3 +90,15 @@ abbrev pub ChangesBeforeLoad : Type 0
 ChangesBeforeLoad = (xs : List BlockItemForm) (front rest : List Instruction) (c : ConversionForm)
     → block Down xs ≡ front ++ (code_change c ∷ rest)
     → Loads (filter (is_of_kind true) xs) front × Changes xs c.changes × Loads (filter (is_of_kind false) xs) rest
+
+-- The instruction loads a module or changes states.
+abbrev pub is_change : Instruction → Bool
+is_change (load p) = true
+is_change (code_change c) = true
+is_change i = false
+
+-- Meanwhile the modules of all updates are suspended: none is suspended behind such an instruction, and none is resumed before it.
+abbrev pub SuspendsMeanwhile : Type 0
+SuspendsMeanwhile = (d : Direction) (xs : List BlockItemForm) (front rest : List Instruction) (i : Instruction)
+    → block d xs ≡ front ++ (i ∷ rest) → is_change i ≡ true
+    → (flat_map suspended_by rest ≡ []) × (flat_map resumed_by front ≡ [])

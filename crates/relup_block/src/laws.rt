@@ -1,5 +1,5 @@
 //! Laws of blocks, above their definition. Each function does nothing: its contract is the law.
-ghost use Rattle.relup_block.specs.Laws.{OrderHasItems, FollowsDependencies, LoadsEachOnce, ChangesEachOnce, SuspendsEachOnce, ResumesSuspended, LoadsBeforeChange, ChangesBeforeLoad};
+ghost use Rattle.relup_block.specs.Laws.{OrderHasItems, FollowsDependencies, LoadsEachOnce, ChangesEachOnce, SuspendsEachOnce, ResumesSuspended, LoadsBeforeChange, ChangesBeforeLoad, SuspendsMeanwhile};
 
 /// An order of a block has its items, each once.
 pub fn an_order_has_each_item_once()
@@ -40,4 +40,9 @@ pub fn going_up_loads_before_it_changes()
 /// Going down, states are changed before modules are loaded; those of static updates alone are loaded before.
 pub fn going_down_changes_before_it_loads()
     ensures { ChangesBeforeLoad }
+{}
+
+/// While modules are loaded and states are changed, the modules of all updates are suspended.
+pub fn all_updates_are_suspended_meanwhile()
+    ensures { SuspendsMeanwhile }
 {}

@@ -1,7 +1,6 @@
 -- What a relup file says, or its fault.
 use Rattle.std.proofs.Common.{◌≡◌, ◌≢◌, ℕ, List, [], ◌∷◌, string_bytes, Result, Ok, Err, MatchResult, IfOk, IfErr, IsErr, IsErrAnd, ◌⊎◌, inl, inr, refl, sym, ap, subst, ◌∙◌}
 use Rattle.erl_term.specs.TermFault.{TermFault}
-use Rattle.erl_term.specs.TermFault.TheVariants as term
 use Rattle.erl_term.specs.Value.{Value}
 use Rattle.erl_term.specs.Grammar.{Reading, Reads}
 use Rattle.erl_term.specs.Faults.{IsFault}
@@ -11,26 +10,23 @@ use Rattle.rel_files.specs.declared.fault.FileFault.{FileFault}
 use Rattle.rel_files.specs.declared.fault.FileFault.TheVariants as file
 use Rattle.rel_files.specs.Fault.{Fault}
 use Rattle.rel_files.specs.Fault.Fault.{bad_term, bad_shape, duplicate, bad_version}
+use Rattle.rel_files.specs.File.{HasFileTerm}
 use Rattle.rel_files.specs.Kind.{HasNoTerm, IsCountFault}
 use Rattle.relup_file.specs.declared.fault.RelupFault.{RelupFault}
 use Rattle.relup_file.specs.declared.fault.RelupFault.TheVariants.{BadTerm, BadShape, NoMemory}
-use Rattle.relup_file.specs.Fault.{relup_fault_of, relup_fault_of_file}
+use Rattle.relup_file.specs.Fault.{relup_fault_of_file}
 use Rattle.relup_file.specs.Relup.{RelupForm}
 use Rattle.relup_file.specs.Form.{IsRelupTerm}
 use Rattle.relup_file.specs.Parts.{relup_in}
-use Rattle.relup_file.specs.File.{HasFileTerm, SaysRelup, HasTermFault, IsTermFault, HaveFault, IsRelupFault}
+use Rattle.relup_file.specs.File.{SaysRelup, HasTermFault, IsTermFault, HaveFault, IsRelupFault}
 use Rattle.relup_file.proofs.RelupLemmas.{relup_in-term, from_relup, from_fault, relup_in-fault}
 
 -- a fault of the terms is the file's
-of_bad_term : (bytes : List ℕ) (e : TermFault) → IsFault 64 bytes e → relup_fault_of e ≢ NoMemory → IsRelupFault bytes (relup_fault_of e)
-of_bad_term bytes term.NoMemory fault other = absurd (other refl)
-of_bad_term bytes e fault other = fault
-
-of_no_row : (bytes : List ℕ) (e : TermFault) → HasNoTerm bytes (bad_term e) → relup_fault_of e ≢ NoMemory → IsRelupFault bytes (relup_fault_of e)
-of_no_row bytes e (inl (d, is, fault)) other = let same : d ≡ e = cc in of_bad_term bytes e (subst (IsFault 64 bytes) same fault) other
-of_no_row bytes e (inr ([], reads, is)) other = absurd cc
-of_no_row bytes e (inr (r ∷ [], reads, is)) other = absurd is
-of_no_row bytes e (inr (r ∷ s ∷ rs, reads, is)) other = absurd cc
+of_no_row : (bytes : List ℕ) (e : TermFault) → HasNoTerm bytes (bad_term e) → IsRelupFault bytes (BadTerm e)
+of_no_row bytes e (inl (d, is, fault)) = let same : d ≡ e = cc in subst (IsFault 64 bytes) same fault
+of_no_row bytes e (inr ([], reads, is)) = absurd cc
+of_no_row bytes e (inr (r ∷ [], reads, is)) = absurd is
+of_no_row bytes e (inr (r ∷ s ∷ rs, reads, is)) = absurd cc
 
 -- none or several terms are no outer shape
 of_count : (bytes : List ℕ) (f : Fault) → ((e : TermFault) → f ≡ bad_term e → ⊥) → HasNoTerm bytes f → IsRelupFault bytes (BadShape 0)
@@ -41,7 +37,7 @@ of_count bytes f row (inr (r ∷ s ∷ rs, reads, is)) = (r ∷ s ∷ rs, reads,
 
 -- the fault of a file that hasn't one term
 pub tells_terms : (bytes : List ℕ) (f : FileFault) → (f ≢ file.NoMemory → IsCountFault bytes f) → relup_fault_of_file f ≢ NoMemory → IsRelupFault bytes (relup_fault_of_file f)
-tells_terms bytes (file.BadTerm e) h other = of_no_row bytes e (h (λ same. absurd cc)) other
+tells_terms bytes (file.BadTerm e) h other = of_no_row bytes e (h (λ same. absurd cc))
 tells_terms bytes (file.BadShape at) h other = of_count bytes (bad_shape at) (λ e is. absurd cc) (h (λ same. absurd cc))
 tells_terms bytes (file.Duplicate name) h other = of_count bytes (duplicate (string_bytes name)) (λ e is. absurd cc) (h (λ same. absurd cc))
 tells_terms bytes file.BadVersion h other = of_count bytes bad_version (λ e is. absurd cc) (h (λ same. absurd cc))

@@ -4,12 +4,11 @@ use Rattle.std.specs.List.{AllByRecursion}
 use Rattle.std.specs.Option.{option_map, option_and_then}
 use Rattle.erl_term.specs.Value.{Value, Values, values_of}
 use Rattle.erl_term.specs.Value.Value.{list}
-use Rattle.rel_files.specs.Parts.{list_in}
-use Rattle.rel_files.specs.Sketch.{count}
+use Rattle.rel_files.specs.Parts.{list_in, triple_in}
+use Rattle.rel_files.specs.Sketch.{count, version_in}
 use Rattle.rel_files.proofs.Options.{mapped, chained}
 use Rattle.relup_instruction.specs.Instruction.{Instruction}
 use Rattle.relup_instruction.specs.Form.{triple_term, instruction_term, SpellsScript}
-use Rattle.relup_instruction.specs.Parts.{triple_in, version_in}
 use Rattle.relup_instruction.proofs.Pieces.{from_list, from_triple, version_in-text, from_version}
 use Rattle.relup_instruction.proofs.InstructionLemmas.{list_of_values}
 use Rattle.relup_file.specs.declared.fault.RelupFault.{RelupFault}

@@ -1,21 +1,14 @@
 -- The fault of a relup file.
 use Rattle.std.specs.Prelude.{ℕ, List, ◌++◌, codes, decimal}
-use Rattle.erl_term.specs.TermFault.{TermFault}
-use Rattle.erl_term.specs.TermFault.TheVariants as term
 use Rattle.erl_term.specs.FaultTexts.{term_fault_text}
 use Rattle.rel_files.specs.declared.fault.FileFault.{FileFault}
 use Rattle.rel_files.specs.declared.fault.FileFault.TheVariants as file
 use Rattle.relup_file.specs.declared.fault.RelupFault.{RelupFault}
 use Rattle.relup_file.specs.declared.fault.RelupFault.TheVariants.{BadTerm, BadShape, NoMemory}
 
--- the fault of a file that is no row of terms; out of memory says nothing of the terms
-abbrev pub relup_fault_of : TermFault → RelupFault
-relup_fault_of term.NoMemory = NoMemory
-relup_fault_of e = BadTerm e
-
 -- the fault of a file that hasn't one term
 abbrev pub relup_fault_of_file : FileFault → RelupFault
-relup_fault_of_file (file.BadTerm e) = relup_fault_of e
+relup_fault_of_file (file.BadTerm e) = BadTerm e
 relup_fault_of_file file.NoMemory = NoMemory
 relup_fault_of_file f = BadShape 0
 

@@ -3,15 +3,11 @@ use Rattle.std.specs.Prelude.{◌≡◌, ◌⊎◌, ℕ, ◌+◌, List, [], ◌�
 use Rattle.erl_term.specs.Value.{Value}
 use Rattle.erl_term.specs.Grammar.{Reads, Reading}
 use Rattle.erl_term.specs.Faults.{IsFault}
-use Rattle.erl_term.specs.OneTerm
+use Rattle.rel_files.specs.File.{HasFileTerm}
 use Rattle.relup_file.specs.declared.fault.RelupFault.{RelupFault}
 use Rattle.relup_file.specs.declared.fault.RelupFault.TheVariants.{BadTerm, BadShape, NoMemory}
 use Rattle.relup_file.specs.Relup.{EntryForm, RelupForm}
 use Rattle.relup_file.specs.Form.{IsEntryTerm, AreEntryTerms, IsOuter, IsRelupTerm}
-
--- The file has one term, and it is this.
-abbrev pub HasFileTerm : List ℕ → Value → Type 0
-HasFileTerm bytes v = OneTerm.HasTerm 64 bytes v
 
 -- The file says this relup.
 abbrev pub SaysRelup : List ℕ → RelupForm → Type 0

@@ -3,9 +3,9 @@ use Rattle.std.specs.Prelude.{◌≡◌, ℕ, ◌+◌, List, [], ◌∷◌, Opti
 use Rattle.std.specs.Option.{option_map, option_and_then}
 use Rattle.erl_term.specs.Value.{Value, Values}
 use Rattle.erl_term.specs.Value.Values.{no_values, value}
-use Rattle.rel_files.specs.Parts.{list_in}
-use Rattle.rel_files.specs.Sketch.{count}
-use Rattle.relup_instruction.specs.Parts.{triple_in, version_in, script_in}
+use Rattle.rel_files.specs.Parts.{list_in, triple_in}
+use Rattle.rel_files.specs.Sketch.{count, version_in}
+use Rattle.relup_instruction.specs.Parts.{script_in}
 use Rattle.relup_file.specs.declared.fault.RelupFault.{RelupFault}
 use Rattle.relup_file.specs.declared.fault.RelupFault.TheVariants.{BadTerm, BadShape, NoMemory}
 use Rattle.relup_file.specs.Relup.{EntryForm, RelupForm}

@@ -8,8 +8,8 @@ ghost use Rattle.relup_file.specs.Parts.{entry_in, entries_in, relup_in, TellsBa
 use crate::outline::outer_in;
 use crate::{Relup, RelupEntry, RelupFault};
 use erl_term::Term;
-use rel_files::parts::list_in;
-use relup_instruction::members::{triple_in, version_in};
+use rel_files::parts::{list_in, triple_in};
+use rel_files::text::version_in;
 use relup_instruction::script_in;
 use std::alloc::{AllocError, Global};
 

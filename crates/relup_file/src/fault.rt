@@ -1,7 +1,7 @@
 //! Why bytes are no relup.
 ghost use Rattle.std.specs.Prelude.{◌≡◌};
 ghost use Rattle.relup_file.specs.declared.fault.RelupFault.TheVariants.{NoMemory};
-ghost use Rattle.relup_file.specs.Fault.{relup_fault_of, relup_fault_of_file};
+ghost use Rattle.relup_file.specs.Fault.{relup_fault_of_file};
 
 use erl_term::TermFault;
 use rel_files::FileFault;
@@ -36,23 +36,12 @@ impl<T: Drop> From<AllocFailed<T>> for RelupFault {
     }
 }
 
-impl From<TermFault> for RelupFault {
-    ghost from_gives = { λ e f. f ≡ relup_fault_of e };
-
-    fn from(fault: TermFault) -> RelupFault {
-        match fault {
-            TermFault::NoMemory => RelupFault::NoMemory,
-            fault => RelupFault::BadTerm(fault),
-        }
-    }
-}
-
 impl From<FileFault> for RelupFault {
     ghost from_gives = { λ e f. f ≡ relup_fault_of_file e };
 
     fn from(fault: FileFault) -> RelupFault {
         match fault {
-            FileFault::BadTerm(fault) => RelupFault::from(fault),
+            FileFault::BadTerm(fault) => RelupFault::BadTerm(fault),
             FileFault::NoMemory => RelupFault::NoMemory,
             _ => RelupFault::BadShape(0),
         }

@@ -6,8 +6,8 @@ ghost use Rattle.relup_file.specs.Parts.{outer_in};
 ghost use Rattle.relup_file.specs.Outline.{outer_of};
 
 use erl_term::Term;
-use rel_files::parts::list_in;
-use relup_instruction::members::{triple_in, version_in};
+use rel_files::parts::{list_in, triple_in};
+use rel_files::text::version_in;
 use std::alloc::{AllocError, Global};
 
 /// `{Vsn, [Entry], [Entry]}`, whatever the entries are.

@@ -4,7 +4,8 @@ ghost use Rattle.erl_term.specs.Value.{value_of};
 ghost use Rattle.erl_term.specs.Within.{IsWithin};
 ghost use Rattle.relup_file.specs.Relup.{RelupForm, relup_of};
 ghost use Rattle.relup_file.specs.Form.{IsRelupTerm, IsRelup};
-ghost use Rattle.relup_file.specs.File.{HasFileTerm, SaysRelup, IsTermFault, IsRelupFault};
+ghost use Rattle.rel_files.specs.File.{HasFileTerm};
+ghost use Rattle.relup_file.specs.File.{SaysRelup, IsTermFault, IsRelupFault};
 
 use crate::entries::relup_in;
 use crate::{Relup, RelupFault};

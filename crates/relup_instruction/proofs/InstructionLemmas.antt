@@ -7,11 +7,12 @@ use Rattle.erl_term.specs.Value.Value.{atom, tuple}
 use Rattle.erl_term.specs.Value.Values.{no_values, value}
 use Rattle.rel_files.specs.Name.{IsName}
 use Rattle.rel_files.proofs.Options.{mapped, chained}
+use Rattle.rel_files.specs.Sketch.{names_in}
 use Rattle.relup_instruction.specs.Instruction.{Instruction}
 use Rattle.relup_instruction.specs.Instruction.Instruction.{load_object_code, point_of_no_return, suspend, load, code_change, resume, remove, purge, stop, start, apply, sync_nodes, restart_new_emulator, restart_emulator}
 use Rattle.relup_instruction.specs.Form.{one, command, atoms_term, instruction_term, IsInstruction, SpellsScript}
-use Rattle.relup_instruction.specs.Parts.{all_in, one_in, modules_in, fetch_in, suspensions_in, purging_in, conversion_in, call_in, bare_in, over_modules, single_in, tagged_in, instruction_in, script_in}
-use Rattle.relup_instruction.proofs.Pieces.{choose, all_in-terms, from_all, from_one, modules_in-atoms, from_modules}
+use Rattle.relup_instruction.specs.Parts.{all_in, one_in, fetch_in, suspensions_in, purging_in, conversion_in, call_in, bare_in, over_modules, single_in, tagged_in, instruction_in, script_in}
+use Rattle.relup_instruction.proofs.Pieces.{choose, all_in-terms, from_all, from_one, names_in-atoms, from_names_in}
 use Rattle.relup_instruction.proofs.PayloadLemmas.{fetch_in-term, from_fetch, suspensions_in-term, from_suspensions, purging_in-term, from_purging, conversion_in-term, from_conversion, call_in-term, from_call}
 
 pub instruction_in-term : (i : Instruction) → IsInstruction i → instruction_in (instruction_term i) ≡ Some i
@@ -20,11 +21,11 @@ instruction_in-term point_of_no_return h = refl
 instruction_in-term (suspend ss) h = ap (option_map suspend) (suspensions_in-term ss h)
 instruction_in-term (load p) h = ap (option_map load) (purging_in-term p h)
 instruction_in-term (code_change c) h = ap (option_map code_change) (conversion_in-term c h)
-instruction_in-term (resume ns) h = ap (option_and_then (over_modules (codes "resume"))) (modules_in-atoms ns h)
+instruction_in-term (resume ns) h = ap (option_and_then (over_modules (codes "resume"))) (names_in-atoms ns h)
 instruction_in-term (remove p) h = ap (option_map remove) (purging_in-term p h)
-instruction_in-term (purge ns) h = ap (option_and_then (over_modules (codes "purge"))) (modules_in-atoms ns h)
-instruction_in-term (stop ns) h = ap (option_and_then (over_modules (codes "stop"))) (modules_in-atoms ns h)
-instruction_in-term (start ns) h = ap (option_and_then (over_modules (codes "start"))) (modules_in-atoms ns h)
+instruction_in-term (purge ns) h = ap (option_and_then (over_modules (codes "purge"))) (names_in-atoms ns h)
+instruction_in-term (stop ns) h = ap (option_and_then (over_modules (codes "stop"))) (names_in-atoms ns h)
+instruction_in-term (start ns) h = ap (option_and_then (over_modules (codes "start"))) (names_in-atoms ns h)
 instruction_in-term (apply c) h = ap (option_map apply) (call_in-term c h)
 instruction_in-term (sync_nodes vs) h = refl
 instruction_in-term restart_new_emulator h = refl
@@ -70,8 +71,8 @@ from_single s v i e =
     (λ e3. choose P s (codes "load") _ _ i (λ is here. of_one (codes "load") s load _ _ (λ a. refl) (λ a h. h) v (purging_in v) (from_purging v) i is here)
     (λ e4. choose P s (codes "remove") _ _ i (λ is here. of_one (codes "remove") s remove _ _ (λ a. refl) (λ a h. h) v (purging_in v) (from_purging v) i is here)
     (λ e5. choose P s (codes "apply") _ _ i (λ is here. of_one (codes "apply") s apply _ _ (λ a. refl) (λ a h. h) v (call_in v) (from_call v) i is here)
-    (λ e6. let names = chained (over_modules s) (modules_in v) i e6 in
-    let read = from_modules v names.0 names.1 in
+    (λ e6. let names = chained (over_modules s) (names_in v) i e6 in
+    let read = from_names_in v names.0 names.1 in
     let there = from_over s names.0 i read.1 names.2 in
     ((λ j. command s (one (read.0 j))) ∙ there.0, there.1)) e5) e4) e3) e2) e
 

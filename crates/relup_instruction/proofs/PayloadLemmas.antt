@@ -7,37 +7,37 @@ use Rattle.erl_term.specs.Value.Value.{atom, list}
 use Rattle.erl_term.specs.Value.Values.{no_values, value}
 use Rattle.rel_files.specs.Name.{IsName}
 use Rattle.rel_files.specs.Form.{list_of}
-use Rattle.rel_files.specs.Parts.{list_in, pair_in}
-use Rattle.rel_files.specs.Sketch.{name_in}
+use Rattle.rel_files.specs.Parts.{list_in, pair_in, triple_in, word_in}
+use Rattle.rel_files.specs.Sketch.{name_in, version_in, names_in}
 use Rattle.rel_files.proofs.Options.{mapped, chained}
 use Rattle.relup_instruction.specs.declared.instruction.Direction.{Direction}
 use Rattle.relup_instruction.specs.declared.instruction.Timeout.{Timeout}
 use Rattle.relup_instruction.specs.declared.instruction.PurgeMode.{PurgeMode}
 use Rattle.relup_instruction.specs.Instruction.{FetchForm, SuspensionForm, PurgingForm, ChangeForm, ConversionForm, CallForm}
 use Rattle.relup_instruction.specs.Form.{one, pair_term, triple_term, text_term, atoms_term, purge_word, timeout_term, limited_term, fetch_term, suspension_term, purging_term, change_term, mode_members, conversion_members, call_term, IsFetch, IsSuspension, IsChange}
-use Rattle.relup_instruction.specs.Parts.{all_in, one_in, triple_in, word_in, version_in, modules_in, purge_mode_in, mode_in, timeout_in, fetch_in, limited_in, suspension_in, suspensions_in, purging_in, change_in, changes_in, with_changes, with_mode, conversion_in, call_in}
-use Rattle.relup_instruction.proofs.Pieces.{all_in-terms, from_all, from_list, from_one, from_pair, from_triple, from_word, name_in-atom, from_name, modules_in-atoms, from_modules, version_in-text, from_version, purge_mode_of-word, from_purge_mode, direction_of-word, from_mode, timeout_in-term, from_timeout}
+use Rattle.relup_instruction.specs.Parts.{all_in, one_in, purge_mode_in, mode_in, timeout_in, fetch_in, limited_in, suspension_in, suspensions_in, purging_in, change_in, changes_in, with_changes, with_mode, conversion_in, call_in}
+use Rattle.relup_instruction.proofs.Pieces.{all_in-terms, from_all, from_list, from_one, from_pair, from_triple, from_word, name_in-atom, from_name, names_in-atoms, from_names_in, version_in-text, from_version, purge_mode_of-word, from_purge_mode, direction_of-word, from_mode, timeout_in-term, from_timeout}
 
 abbrev fetched : List ℕ → List ℕ → List (List ℕ) → FetchForm
 fetched app vsn modules = record { app = app; vsn = vsn; modules = modules }
 
 pub fetch_in-term : (f : FetchForm) → IsFetch f → fetch_in (fetch_term f) ≡ Some f
 fetch_in-term f h =
-    let modules = modules_in (atoms_term f.modules) in
+    let modules = names_in (atoms_term f.modules) in
     ap (option_and_then (λ (app : List ℕ). option_and_then (λ (vsn : List ℕ). option_map (fetched app vsn) modules) (version_in (text_term f.vsn)))) (name_in-atom f.app h.0)
     ∙ ap (option_and_then (λ (vsn : List ℕ). option_map (fetched f.app vsn) modules)) (version_in-text f.vsn h.1)
-    ∙ ap (option_map (fetched f.app f.vsn)) (modules_in-atoms f.modules h.2)
+    ∙ ap (option_map (fetched f.app f.vsn)) (names_in-atoms f.modules h.2)
 
 pub from_fetch : (v : Value) (f : FetchForm) → fetch_in v ≡ Some f → (v ≡ fetch_term f) × IsFetch f
 from_fetch v f e =
     let P : FetchForm → Type 0 = λ g. (v ≡ fetch_term g) × IsFetch g in
-    let t = chained (λ (t : Value × Value × Value). option_and_then (λ (app : List ℕ). option_and_then (λ (vsn : List ℕ). option_map (fetched app vsn) (modules_in t.2)) (version_in t.1)) (name_in t.0)) (triple_in v) f e in
-    let app = chained (λ (app : List ℕ). option_and_then (λ (vsn : List ℕ). option_map (fetched app vsn) (modules_in t.0.2)) (version_in t.0.1)) (name_in t.0.0) f t.2 in
-    let vsn = chained (λ (vsn : List ℕ). option_map (fetched app.0 vsn) (modules_in t.0.2)) (version_in t.0.1) f app.2 in
-    let modules = mapped (fetched app.0 vsn.0) (modules_in t.0.2) f vsn.2 in
+    let t = chained (λ (t : Value × Value × Value). option_and_then (λ (app : List ℕ). option_and_then (λ (vsn : List ℕ). option_map (fetched app vsn) (names_in t.2)) (version_in t.1)) (name_in t.0)) (triple_in v) f e in
+    let app = chained (λ (app : List ℕ). option_and_then (λ (vsn : List ℕ). option_map (fetched app vsn) (names_in t.0.2)) (version_in t.0.1)) (name_in t.0.0) f t.2 in
+    let vsn = chained (λ (vsn : List ℕ). option_map (fetched app.0 vsn) (names_in t.0.2)) (version_in t.0.1) f app.2 in
+    let modules = mapped (fetched app.0 vsn.0) (names_in t.0.2) f vsn.2 in
     let a = from_name t.0.0 app.0 app.1 in
     let b = from_version t.0.1 vsn.0 vsn.1 in
-    let c = from_modules t.0.2 modules.0 modules.1 in
+    let c = from_names_in t.0.2 modules.0 modules.1 in
     subst P modules.2 (from_triple v t.0 t.1 ∙ (λ j. triple_term (a.0 j) (b.0 j) (c.0 j)), (a.1, b.1, c.1))
 
 abbrev timed : List ℕ → Timeout → SuspensionForm

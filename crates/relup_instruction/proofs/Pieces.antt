@@ -8,8 +8,8 @@ use Rattle.erl_term.specs.Value.{Value, Values, values_of}
 use Rattle.erl_term.specs.Value.Value.{int, atom, list, tuple}
 use Rattle.erl_term.specs.Value.Values.{no_values, value}
 use Rattle.rel_files.specs.Name.{is_name, IsName, IsVersion}
-use Rattle.rel_files.specs.Parts.{list_in, pair_in}
-use Rattle.rel_files.specs.Sketch.{name_in, names_of, text_in}
+use Rattle.rel_files.specs.Parts.{list_in, pair_in, triple_in, word_in}
+use Rattle.rel_files.specs.Sketch.{name_in, names_of, text_in, version_in, names_in}
 use Rattle.rel_files.proofs.Options.{mapped, chained, passed}
 use Rattle.rel_files.proofs.Texts.{names_of-atoms, from_names, text_in-numbers, from_text}
 use Rattle.relup_instruction.specs.declared.instruction.Direction.{Direction}
@@ -19,7 +19,7 @@ use Rattle.relup_instruction.specs.declared.instruction.Timeout.TheVariants.{Def
 use Rattle.relup_instruction.specs.declared.instruction.PurgeMode.{PurgeMode}
 use Rattle.relup_instruction.specs.declared.instruction.PurgeMode.TheVariants.{Soft, Brutal}
 use Rattle.relup_instruction.specs.Form.{one, pair_term, triple_term, text_term, atoms_term, purge_word, direction_word, timeout_term, is_natural, IsTimeout}
-use Rattle.relup_instruction.specs.Parts.{all_in, one_in, triple_in, word_in, version_in, modules_in, purge_mode_of, purge_mode_in, direction_of, mode_in, timeout_in}
+use Rattle.relup_instruction.specs.Parts.{all_in, one_in, purge_mode_of, purge_mode_in, direction_of, mode_in, timeout_in}
 
 -- which of two words a text is
 pub choose : {A : Type 0} (P : Type 0) (s w : List ℕ) (a b : Option A) (x : A) → (s ≡ w → a ≡ Some x → P) → (b ≡ Some x → P)
@@ -82,11 +82,11 @@ from_name (atom t) s e =
     (ap atom same, subst IsName same valid.0)
 from_name v s e = absurd cc
 
-pub modules_in-atoms : (ns : List (List ℕ)) → AllByRecursion IsName ns → modules_in (atoms_term ns) ≡ Some ns
-modules_in-atoms ns h = names_of-atoms ns h
+pub names_in-atoms : (ns : List (List ℕ)) → AllByRecursion IsName ns → names_in (atoms_term ns) ≡ Some ns
+names_in-atoms ns h = names_of-atoms ns h
 
-pub from_modules : (v : Value) (ns : List (List ℕ)) → modules_in v ≡ Some ns → (v ≡ atoms_term ns) × AllByRecursion IsName ns
-from_modules v ns e =
+pub from_names_in : (v : Value) (ns : List (List ℕ)) → names_in v ≡ Some ns → (v ≡ atoms_term ns) × AllByRecursion IsName ns
+from_names_in v ns e =
     let listed = chained names_of (list_in v) ns e in
     let names = from_names listed.0 ns listed.2 in
     (from_list v listed.0 listed.1 ∙ ap list names.0, names.1)

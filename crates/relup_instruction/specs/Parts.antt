@@ -5,8 +5,8 @@ use Rattle.std.specs.Str.{bytes_eq}
 use Rattle.erl_term.specs.Value.{Value, Values}
 use Rattle.erl_term.specs.Value.Value.{int, atom, tuple}
 use Rattle.erl_term.specs.Value.Values.{no_values, value}
-use Rattle.rel_files.specs.Parts.{list_in, pair_in, three}
-use Rattle.rel_files.specs.Sketch.{name_in, names_of, text_in}
+use Rattle.rel_files.specs.Parts.{list_in, pair_in, triple_in, word_in}
+use Rattle.rel_files.specs.Sketch.{name_in, names_in, version_in}
 use Rattle.relup_instruction.specs.declared.instruction.Direction.{Direction}
 use Rattle.relup_instruction.specs.declared.instruction.Direction.TheVariants.{Up, Down}
 use Rattle.relup_instruction.specs.declared.instruction.Timeout.{Timeout}
@@ -26,22 +26,6 @@ all_in f (value v vs) = option_and_then (λ a. option_map (λ as'. a ∷ as') (a
 abbrev pub one_in : Values → Option Value
 one_in (value v no_values) = Some v
 one_in vs = None
-
--- the three members of a tuple
-abbrev pub triple_in : Value → Option (Value × Value × Value)
-triple_in (tuple vs) = three vs
-triple_in v = None
-
--- the text of an atom
-abbrev pub word_in : Value → Option (List ℕ)
-word_in (atom s) = Some s
-word_in v = None
-
-abbrev pub version_in : Value → Option (List ℕ)
-version_in v = option_and_then (text_in 0x21) (list_in v)
-
-abbrev pub modules_in : Value → Option (List (List ℕ))
-modules_in v = option_and_then names_of (list_in v)
 
 abbrev pub purge_mode_of : List ℕ → Option PurgeMode
 purge_mode_of s =
@@ -70,7 +54,7 @@ timeout_in (int n) = if is_natural n then Some (Milliseconds n) else None
 timeout_in v = None
 
 abbrev pub fetch_in : Value → Option FetchForm
-fetch_in v = option_and_then (λ t. option_and_then (λ app. option_and_then (λ vsn. option_map (λ modules. record { app = app; vsn = vsn; modules = modules }) (modules_in t.2)) (version_in t.1)) (name_in t.0)) (triple_in v)
+fetch_in v = option_and_then (λ t. option_and_then (λ app. option_and_then (λ vsn. option_map (λ modules. record { app = app; vsn = vsn; modules = modules }) (names_in t.2)) (version_in t.1)) (name_in t.0)) (triple_in v)
 
 abbrev pub limited_in : Value × Value → Option SuspensionForm
 limited_in p = option_and_then (λ name. option_map (λ t. record { name = name; timeout = Some t }) (timeout_in p.1)) (name_in p.0)
@@ -131,7 +115,7 @@ other_single_in s v =
     if bytes_eq s (codes "load") then option_map load (purging_in v)
     else if bytes_eq s (codes "remove") then option_map remove (purging_in v)
     else if bytes_eq s (codes "apply") then option_map apply (call_in v)
-    else option_and_then (over_modules s) (modules_in v)
+    else option_and_then (over_modules s) (names_in v)
 
 -- a word and one term
 abbrev pub single_in : List ℕ → Value → Option Instruction

@@ -5,13 +5,11 @@ ghost use Rattle.erl_term.specs.Value.{members_of, value_of};
 ghost use Rattle.relup_instruction.specs.Instruction.{fetch_of, suspension_of, purging_of, change_of, conversion_of, call_of};
 ghost use Rattle.relup_instruction.specs.Parts.{all_in, fetch_in, limited_in, suspension_in, suspensions_in, purging_in, change_in, changes_in, with_changes, with_mode, conversion_in, call_in};
 
-use crate::members::{
-    mode_in, modules_in, one_in, purge_mode_in, timeout_in, triple_in, version_in, word_in,
-};
+use crate::members::{mode_in, one_in, purge_mode_in, timeout_in};
 use crate::{Call, Change, Conversion, Direction, Fetch, Purging, Suspension};
 use erl_term::{Term, copy_terms};
-use rel_files::parts::{list_in, pair_in};
-use rel_files::text::name_in;
+use rel_files::parts::{list_in, pair_in, triple_in, word_in};
+use rel_files::text::{name_in, names_in, version_in};
 use std::alloc::{AllocError, Global};
 
 // `{App, Vsn, [Mod]}`.
@@ -27,7 +25,7 @@ pub(crate) fn fetch_in(alloc: Global, term: &Term) -> Result<Option<Fetch>, Allo
     let Some(vsn) = version_in(alloc, vsn)? else {
         return Ok(None);
     };
-    let Some(modules) = modules_in(alloc, modules)? else {
+    let Some(modules) = names_in(alloc, modules)? else {
         return Ok(None);
     };
     Ok(Some(Fetch {

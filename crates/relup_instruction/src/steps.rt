@@ -2,13 +2,15 @@
 ghost use Rattle.std.specs.Prelude.{◌≡◌, IfOk, map, string_bytes};
 ghost use Rattle.std.specs.Option.{option_map, option_and_then};
 ghost use Rattle.erl_term.specs.Value.{members_of, value_of};
+ghost use Rattle.rel_files.specs.Sketch.{names_in};
 ghost use Rattle.relup_instruction.specs.Instruction.{instruction_of, script_of};
-ghost use Rattle.relup_instruction.specs.Parts.{all_in, bare_in, modules_in, over_modules, single_in, other_single_in, tagged_in, instruction_in, script_in};
+ghost use Rattle.relup_instruction.specs.Parts.{all_in, bare_in, over_modules, single_in, other_single_in, tagged_in, instruction_in, script_in};
 
 use crate::Instr;
-use crate::members::{modules_in, one_in};
+use crate::members::one_in;
 use crate::payloads::{call_in, conversion_in, fetch_in, purging_in, suspensions_in};
 use erl_term::{Term, copy_terms};
+use rel_files::text::names_in;
 use std::alloc::{AllocError, Global};
 
 fn bare_in(word: &str) -> Option<Instr>
@@ -37,9 +39,9 @@ fn over_modules(word: &str, names: Vec<String>) -> Option<Instr>
 
 fn of_modules(alloc: Global, word: &str, term: &Term) -> Result<Option<Instr>, AllocError>
     ensures { IfOk result (λ o. option_map instruction_of o
-        ≡ option_and_then (over_modules word.now) (modules_in (value_of term.now))) }
+        ≡ option_and_then (over_modules word.now) (names_in (value_of term.now))) }
 {
-    match modules_in(alloc, term)? {
+    match names_in(alloc, term)? {
         Some(names) => Ok(over_modules(word, names)),
         None => Ok(None),
     }

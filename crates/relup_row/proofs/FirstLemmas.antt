@@ -29,7 +29,7 @@ filter_all : (p : MentionForm → Bool) → ((m : MentionForm) → p m ≡ true)
 filter_all p all [] = refl
 filter_all p all (m ∷ ms) = rw (all m, filter_all p all ms) refl
 
-filter_both : (p q : MentionForm → Bool) (ms : List MentionForm) → filter q (filter p ms) ≡ filter (λ m. p m && q m) ms
+pub filter_both : (p q : MentionForm → Bool) (ms : List MentionForm) → filter q (filter p ms) ≡ filter (λ m. p m && q m) ms
 filter_both p q [] = refl
 filter_both p q (m ∷ ms) =
     elim (p m) as (λ b. filter q (cond b (m ∷ filter p ms) (filter p ms)) ≡ cond (b && q m) (m ∷ filter (λ n. p n && q n) ms) (filter (λ n. p n && q n) ms))

@@ -4,3 +4,4 @@ pub mod FirstLemmas
 pub mod NameLemmas
 pub mod WalkLemmas
 pub mod FetchLemmas
+pub mod OnceLemmas

@@ -14,6 +14,7 @@
 mod calls;
 mod copies;
 mod fetches;
+pub mod laws;
 mod modules;
 mod release;
 mod rows;

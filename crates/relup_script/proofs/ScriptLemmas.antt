@@ -3,7 +3,7 @@ use Rattle.std.proofs.Common.{◌≡◌, ℕ, ◌+◌, ◌<◌, suc, Bool, true,
 use Rattle.std.specs.Prelude.{is_some, IsTrue, ◌==◌}
 use Rattle.std.proofs.lemmas.Bool.Decides.{nat_tests}
 use Rattle.std.specs.List.{AllByRecursion}
-use Rattle.std.specs.Option.{option_map}
+use Rattle.std.specs.Option.{option_map, option_or}
 use Rattle.rel_files.proofs.Options.{mapped, both, both_true}
 use Rattle.relup_script.specs.declared.fault.ScriptFault.{ScriptFault}
 use Rattle.relup_script.specs.declared.fault.ScriptFault.TheVariants.{NoPoint, TwoPoints, Misplaced, Unsupported}
@@ -11,7 +11,7 @@ use Rattle.relup_script.specs.declared.script.Side.{Side}
 use Rattle.relup_script.specs.declared.script.Side.TheVariants.{Early, Late}
 use Rattle.relup_instruction.specs.Instruction.{Instruction}
 use Rattle.relup_instruction.specs.Instruction.Instruction.{point_of_no_return}
-use Rattle.relup_script.specs.Script.{is_point, is_supported, may_precede, may_follow, is_restart, may_stand, IsRight, AreRight, is_end, points, IsRunnable, fault_at, IsFirstFault, HasWrong, IsScriptFault, split_point, first_fault, part_fault, split_fault, script_fault}
+use Rattle.relup_script.specs.Script.{is_point, is_supported, may_precede, may_follow, is_restart, may_stand, IsRight, AreRight, is_end, points, IsRunnable, fault_at, IsFirstFault, HasWrong, IsScriptFault, split_point, part_fault, split_fault, script_fault}
 
 -- The faults of one side.
 right_none : (side : Side) (is_last : Bool) (n : ℕ) (i : Instruction) → IsRight side is_last i → fault_at side is_last n i ≡ None
@@ -33,14 +33,14 @@ all_right side n [] e = tt
 all_right side n (i ∷ is) e = go (all_right side (n + 1) is) (fault_at side (is_end is) (n + 1) i) refl e
   where
     go : (part_fault side (n + 1) is ≡ None → AreRight side is) → (o : Option ScriptFault) → fault_at side (is_end is) (n + 1) i ≡ o
-        → first_fault o (part_fault side (n + 1) is) ≡ None → AreRight side (i ∷ is)
+        → option_or o (part_fault side (n + 1) is) ≡ None → AreRight side (i ∷ is)
     go more None p q = (none_right side (is_end is) (n + 1) i p, more q)
     go more (Some f) p q = absurd cc
 
 right_all : (side : Side) (n : ℕ) (is : List Instruction) → AreRight side is → part_fault side n is ≡ None
 right_all side n [] h = refl
 right_all side n (i ∷ is) h =
-    ap (λ (o : Option ScriptFault). first_fault o (part_fault side (n + 1) is)) (right_none side (is_end is) (n + 1) i h.0) ∙ right_all side (n + 1) is h.1
+    ap (λ (o : Option ScriptFault). option_or o (part_fault side (n + 1) is)) (right_none side (is_end is) (n + 1) i h.0) ∙ right_all side (n + 1) is h.1
 
 not_nothing : (n : ℕ) → (suc n == 0) ≡ false
 not_nothing n = grind (arith, nat_tests)
@@ -55,7 +55,7 @@ from_part side n [] f e = absurd cc
 from_part side n (i ∷ is) f e = go (from_part side (n + 1) is f) (fault_at side (is_end is) (n + 1) i) refl e
   where
     go : (part_fault side (n + 1) is ≡ Some f → IsFirstFault side (n + 1) is f) → (o : Option ScriptFault) → fault_at side (is_end is) (n + 1) i ≡ o
-        → first_fault o (part_fault side (n + 1) is) ≡ Some f → IsFirstFault side n (i ∷ is) f
+        → option_or o (part_fault side (n + 1) is) ≡ Some f → IsFirstFault side n (i ∷ is) f
     go more (Some g) p q = record { front = []; wrong = i; rest = is; is = refl; right = tt; fault = p ∙ q }
     go more None p q =
         let there = more q in
@@ -72,11 +72,11 @@ from_part side n (i ∷ is) f e = go (from_part side (n + 1) is f) (fault_at sid
 
 part_first : (side : Side) (n : ℕ) (front : List Instruction) (wrong : Instruction) (rest : List Instruction) (f : ScriptFault) → AllByRecursion (IsRight side false) front
     → fault_at side (is_end rest) (n + (length front + 1)) wrong ≡ Some f → part_fault side n (front ++ (wrong ∷ rest)) ≡ Some f
-part_first side n [] wrong rest f h e = ap (λ (o : Option ScriptFault). first_fault o (part_fault side (n + 1) rest)) e
+part_first side n [] wrong rest f h e = ap (λ (o : Option ScriptFault). option_or o (part_fault side (n + 1) rest)) e
 part_first side n (i ∷ front) wrong rest f h e =
     let number : n + 1 + (length front + 1) ≡ n + (suc (length front) + 1) = omega arith in
     let inner : is_end (front ++ (wrong ∷ rest)) ≡ false = no_end front wrong rest in
-    ap (λ (o : Option ScriptFault). first_fault o (part_fault side (n + 1) (front ++ (wrong ∷ rest)))) (ap (λ (b : Bool). fault_at side b (n + 1) i) inner ∙ right_none side false (n + 1) i h.0)
+    ap (λ (o : Option ScriptFault). option_or o (part_fault side (n + 1) (front ++ (wrong ∷ rest)))) (ap (λ (b : Bool). fault_at side b (n + 1) i) inner ∙ right_none side false (n + 1) i h.0)
     ∙ part_first side (n + 1) front wrong rest f h.1 (ap (λ (m : ℕ). fault_at side (is_end rest) m wrong) number ∙ e)
 
 first_part : (side : Side) (n : ℕ) (part : List Instruction) (f : ScriptFault) → IsFirstFault side n part f → part_fault side n part ≡ Some f
@@ -194,7 +194,7 @@ none_split is h = go (split_point is) refl
 
 -- a split script without a further point
 abbrev sides : Halves → Option ScriptFault
-sides p = first_fault (part_fault Early 0 p.0) (part_fault Late (length p.0 + 1) p.1)
+sides p = option_or (part_fault Early 0 p.0) (part_fault Late (length p.0 + 1) p.1)
 
 alone : (script before after : List Instruction) → script ≡ before ++ (point_of_no_return ∷ after) → points before ≡ 0 → points after ≡ 0 → script_fault script ≡ sides (before, after)
 alone script before after is early late =
@@ -205,9 +205,9 @@ alone script before after is early late =
 pub is_runnable : (script : List Instruction) → IsRunnable script → script_fault script ≡ None
 is_runnable script h =
     alone script h.before h.after h.is (pointless Early h.before h.early) (pointless Late h.after h.late)
-    ∙ (λ j. first_fault (right_all Early 0 h.before h.early j) (right_all Late (length h.before + 1) h.after h.late j))
+    ∙ (λ j. option_or (right_all Early 0 h.before h.early j) (right_all Late (length h.before + 1) h.after h.late j))
 
-neither : (a b : Option ScriptFault) → first_fault a b ≡ None → (a ≡ None) × (b ≡ None)
+neither : (a b : Option ScriptFault) → option_or a b ≡ None → (a ≡ None) × (b ≡ None)
 neither None b e = (refl, e)
 neither (Some f) b e = absurd cc
 
@@ -241,7 +241,7 @@ pub fault_is : (script : List Instruction) (f : ScriptFault) → script_fault sc
 fault_is script f e = go (split_point script) refl e
   where
     on_sides : (p : Halves) → split_point script ≡ Some p → points script ≡ 1 → (o : Option ScriptFault) → part_fault Early 0 p.0 ≡ o
-        → first_fault o (part_fault Late (length p.0 + 1) p.1) ≡ Some f → IsScriptFault script f
+        → option_or o (part_fault Late (length p.0 + 1) p.1) ≡ Some f → IsScriptFault script f
     on_sides p is one (Some g) early q =
         let first = from_part Early 0 p.0 f (early ∙ q) in
         tells_wrong script f _ (record { before = p.0; after = p.1; is = (from_split script p is).0; one = one; first = inl first }) (at_instruction Early (is_end first.rest) _ first.wrong f first.fault)
@@ -281,8 +281,8 @@ wrong script f h =
     late = omega (arith, count)
 
     go : IsFirstFault Early 0 h.before f ⊎ (AreRight Early h.before × IsFirstFault Late (length h.before + 1) h.after f) → sides (h.before, h.after) ≡ Some f
-    go (inl first) = ap (λ (o : Option ScriptFault). first_fault o (part_fault Late (length h.before + 1) h.after)) (first_part Early 0 h.before f first)
-    go (inr (right, first)) = (λ j. first_fault (right_all Early 0 h.before right j) (first_part Late (length h.before + 1) h.after f first j))
+    go (inl first) = ap (λ (o : Option ScriptFault). option_or o (part_fault Late (length h.before + 1) h.after)) (first_part Early 0 h.before f first)
+    go (inr (right, first)) = (λ j. option_or (right_all Early 0 h.before right j) (first_part Late (length h.before + 1) h.after f first j))
 
 pub is_fault : (script : List Instruction) (f : ScriptFault) → IsScriptFault script f → script_fault script ≡ Some f
 is_fault script NoPoint h = ap split_fault (none_split script h)
@@ -330,7 +330,7 @@ late_unsupported n [] f h e = absurd cc
 late_unsupported n (i ∷ is) f h e = go (late_unsupported (n + 1) is f h.1) (is_supported i) (may_stand Late (is_end is) i) h.0 e
   where
     go : (part_fault Late (n + 1) is ≡ Some f → (m : ℕ) × (f ≡ Unsupported m)) → (a b : Bool) → b ≡ true
-        → first_fault (if a then (if b then None else Some (Misplaced (n + 1))) else Some (Unsupported (n + 1))) (part_fault Late (n + 1) is) ≡ Some f
+        → option_or (if a then (if b then None else Some (Misplaced (n + 1))) else Some (Unsupported (n + 1))) (part_fault Late (n + 1) is) ≡ Some f
         → (m : ℕ) × (f ≡ Unsupported m)
     go more true true p q = more q
     go more true false p q = absurd cc
@@ -342,5 +342,5 @@ pub only_unsupported : (script before after : List Instruction) → script ≡ b
 only_unsupported script before after is early late f h =
     let right = all_early before early in
     late_unsupported (length before + 1) after f late
-    (sym (ap (λ (o : Option ScriptFault). first_fault o (part_fault Late (length before + 1) after)) (right_all Early 0 before right))
+    (sym (ap (λ (o : Option ScriptFault). option_or o (part_fault Late (length before + 1) after)) (right_all Early 0 before right))
     ∙ (sym (alone script before after is (pointless Early before right) (no_points_behind after late)) ∙ is_fault script f h))

@@ -1,7 +1,7 @@
 -- What may stand where in a script, and why a script isn't run (OTP: appup(4); what stands before the point is this project's own).
 use Rattle.std.specs.Prelude.{◌≡◌, ◌⊎◌, ℕ, ◌+◌, ◌<◌, Bool, true, false, ◌&&◌, ◌||◌, ◌==◌, not, IsTrue, List, [], ◌∷◌, ◌++◌, length, Option, None, Some, is_some, codes, if◌then◌else◌}
 use Rattle.std.specs.List.{AllByRecursion, list_any}
-use Rattle.std.specs.Option.{option_map}
+use Rattle.std.specs.Option.{option_map, option_or}
 use Rattle.std.specs.Str.{bytes_eq}
 use Rattle.erl_term.specs.Value.{Values}
 use Rattle.erl_term.specs.Value.Value.{atom}
@@ -160,21 +160,16 @@ abbrev pub split_point : List Instruction → Option (List Instruction × List I
 split_point [] = None
 split_point (i ∷ is) = if is_point i then Some ([], is) else option_map (λ p. (i ∷ p.0, p.1)) (split_point is)
 
--- the first of two faults
-abbrev pub first_fault : Option ScriptFault → Option ScriptFault → Option ScriptFault
-first_fault (Some f) o = Some f
-first_fault None o = o
-
 -- the first fault on a side, behind so many instructions
 abbrev pub part_fault : Side → ℕ → List Instruction → Option ScriptFault
 part_fault side n [] = None
-part_fault side n (i ∷ is) = first_fault (fault_at side (is_end is) (n + 1) i) (part_fault side (n + 1) is)
+part_fault side n (i ∷ is) = option_or (fault_at side (is_end is) (n + 1) i) (part_fault side (n + 1) is)
 
 abbrev pub split_fault : Option (List Instruction × List Instruction) → Option ScriptFault
 split_fault None = Some NoPoint
 split_fault (Some p) =
     if is_some (split_point p.1) then Some TwoPoints
-    else first_fault (part_fault Early 0 p.0) (part_fault Late (length p.0 + 1) p.1)
+    else option_or (part_fault Early 0 p.0) (part_fault Late (length p.0 + 1) p.1)
 
 abbrev pub script_fault : List Instruction → Option ScriptFault
 script_fault script = split_fault (split_point script)

@@ -1,6 +1,6 @@
 -- Which script leads from one release to another (OTP: release_handler:install_release/1).
-use Rattle.std.specs.Prelude.{ℕ, List, Option, None, Some}
-use Rattle.std.specs.Option.{option_map, option_and_then}
+use Rattle.std.specs.Prelude.{ℕ, List, Option}
+use Rattle.std.specs.Option.{option_map, option_and_then, option_or}
 use Rattle.std.specs.List.{find}
 use Rattle.std.specs.Str.{bytes_eq}
 use Rattle.erl_term.specs.Value.{Value, value_of}
@@ -35,10 +35,6 @@ upgrade vsn relup = option_map (of_entry Up) (option_and_then (λ (r : RelupForm
 abbrev pub downgrade : List ℕ → Option RelupForm → Option FoundForm
 downgrade vsn relup = option_map (of_entry Down) (option_and_then (λ (r : RelupForm). entry_for vsn r.downs) relup)
 
-abbrev pub first_found : Option FoundForm → Option FoundForm → Option FoundForm
-first_found (Some f) other = Some f
-first_found None other = other
-
 -- the upgrade in the target's relup from the running version, else the downgrade in the running release's relup to the target
 abbrev pub script_between : List ℕ → Option RelupForm → List ℕ → Option RelupForm → Option FoundForm
-script_between target target_relup running running_relup = first_found (upgrade running target_relup) (downgrade target running_relup)
+script_between target target_relup running running_relup = option_or (upgrade running target_relup) (downgrade target running_relup)

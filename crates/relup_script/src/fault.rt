@@ -8,7 +8,8 @@ pub enum ScriptFault {
     NoPoint,
     /// It has more than one.
     TwoPoints,
-    /// The first instruction at fault stands on the wrong side of the point.
+    /// The first instruction at fault stands where it may not: on the wrong side of the point, or a `restart_emulator` that is not
+    /// the last one.
     Misplaced(usize),
     /// The first instruction at fault can't be run anywhere.
     Unsupported(usize),

@@ -9,7 +9,7 @@ use crate::calls::{is_error, is_supported_call};
 use relup_instruction::Instr;
 
 // A side of the point of no return.
-#[derive(Clone, Copy, PartialEq, Eq)]
+#[derive(Clone, Copy)]
 pub(crate) enum Side {
     Early,
     Late,

@@ -1,10 +1,7 @@
 -- The names in a made relup are names, and its versions are versions.
-use Rattle.std.proofs.Common.{refl, sym, subst, ℕ, Bool, true, false, List, [], ◌∷◌, ◌++◌, map, reverse, filter, filter_map, flat_map, find, Option, None, Some, is_some, Result, Ok, Err, IfSome, IfOk, if◌then◌else◌, bytes_eq, IsPermutation}
-use Rattle.std.proofs.lemmas.List.Elements.{All-from_recursion, recursion_from_All, All-filter}
-use Rattle.std.proofs.lemmas.List.Sorted.{All-permutation}
+use Rattle.std.proofs.Common.{refl, sym, subst, ℕ, Bool, true, false, List, [], ◌∷◌, ◌++◌, map, reverse, filter, filter_map, flat_map, Option, None, Some, IfSome, if◌then◌else◌, bytes_eq}
 use Rattle.std.specs.List.{AllByRecursion, list_any}
-use Rattle.std.specs.Option.{option_map, option_and_then}
-use Rattle.std.specs.Result.{result_ok}
+use Rattle.std.specs.Option.{option_map}
 use Rattle.rel_files.specs.Name.{IsName}
 use Rattle.rel_files.specs.declared.release.StartType.{StartType}
 use Rattle.rel_files.specs.declared.release.StartType.TheVariants.{Load, Unloaded}
@@ -16,13 +13,10 @@ use Rattle.relup_instruction.specs.Instruction.{ChangeForm, Instruction}
 use Rattle.relup_instruction.specs.Instruction.Instruction.{load_object_code, suspend, load, code_change, resume, restart_emulator}
 use Rattle.relup_instruction.specs.Form.{IsTimeout, IsFetch, IsSuspension, IsChange, IsInstruction}
 use Rattle.relup_file.specs.Form.{IsScript, IsEntry, IsRelup}
-use Rattle.appup_file.specs.declared.search.EntryFault.{EntryFault}
 use Rattle.appup_file.specs.Form.{IsAppupInstruction}
-use Rattle.appup_file.specs.Instruction.{ChangeForm as StateForm, AppupInstruction, AppupEntryForm, AppupForm, VersionForm}
+use Rattle.appup_file.specs.Instruction.{ChangeForm as StateForm, AppupInstruction}
 use Rattle.appup_file.specs.Instruction.ChangeForm.{soft, advanced}
 use Rattle.appup_file.specs.Instruction.AppupInstruction.{update, load_module, add_module, delete_module, add_application, remove_application, restart_application, low_level}
-use Rattle.appup_file.specs.Instruction.VersionForm.{text, pattern}
-use Rattle.appup_file.specs.Search.{entries_of, ends_at, answer_of, answer_at, entry_for}
 use Rattle.relup_block.specs.Order.{BlockItemForm, is_among, order}
 use Rattle.relup_block.specs.Order.BlockItemForm.{updated, loaded}
 use Rattle.relup_block.specs.Block.{written_timeout, suspension, resumption, change_to, change, purging, is_of_kind, over, suspending, loading, changing, updating, in_orders, block}
@@ -31,47 +25,12 @@ use Rattle.relup_row.specs.Release.{RelupAppForm, RelupReleaseForm, WayForm, way
 use Rattle.relup_row.specs.Fetches.{MentionForm, mention, module_of, app_of, differs, firsts, fetch, fetches, fetching}
 use Rattle.relup_row.specs.Script.{load_plainly, remove_plainly, starting, coming, stopping, going, of_app, in_place, single, block_item, PartForm, put_item, put, parts, part_script, row_script, app_modules, loaded_by, mentions_by, mentions, written_fetch, written_fetches, asks_restart, restart_at_end, script}
 use Rattle.relup_row.specs.Script.PartForm.{a_block, a_single}
-use Rattle.relup_translate.specs.Fault.{FaultForm}
-use Rattle.relup_translate.specs.Translation.{counting, counting_appup, found, searched, by_appup, between_versions, if_other, coming_row, changing_row, going_row, rows, entry}
-use Rattle.relup_translate.specs.WellFormed.{IsWellFormedApp, IsWellFormedRelease, AreWellFormedEntries, IsWellFormedAppup, HasWellFormedAppups}
+use Rattle.relup_translate.specs.Translation.{rows, entry}
+use Rattle.relup_translate.specs.WellFormed.{IsWellFormedApp, IsWellFormedRelease, HasWellFormedAppups}
 use Rattle.relup_translate.specs.Laws.{MadeRelupsAreNamed}
 use Rattle.relup_translate.proofs.OutcomeLemmas.{sound_where_made}
-use Rattle.relup_translate.proofs.ScriptLemmas.{of_both, of_parts, of_some, of_reverse, trivially}
-
--- What holds of all of a list, and of what is made of them.
-module _ {A : Type 0} (P : A → Type 0) where
-  -- It holds of what each is made,
-  of_map : {B : Type 0} (Q : B → Type 0) (f : B → A) → ((b : B) → Q b → P (f b)) → (bs : List B) → AllByRecursion Q bs → AllByRecursion P (map f bs)
-  of_map Q f each [] h = tt
-  of_map Q f each (b ∷ bs) h = (each b h.0, of_map Q f each bs h.1)
-
-  -- of what may be made of each,
-  of_options : {B : Type 0} (Q : B → Type 0) (f : B → Option A) → ((b : B) → Q b → IfSome (f b) P) → (bs : List B) → AllByRecursion Q bs
-      → AllByRecursion P (filter_map f bs)
-  of_options Q f each bs h = of_some P Q f (λ b a q e. subst (λ (o : Option A). IfSome o P) e (each b q)) bs h
-
-  -- of those that pass a test,
-  of_filter : (test : A → Bool) (xs : List A) → AllByRecursion P xs → AllByRecursion P (filter test xs)
-  of_filter test xs h = recursion_from_All P (filter test xs) (All-filter test P xs (All-from_recursion P xs h))
-
-  -- of them in another order,
-  of_permutation : (xs ys : List A) → IsPermutation xs ys → AllByRecursion P xs → AllByRecursion P ys
-  of_permutation xs ys same h = recursion_from_All P ys (All-permutation P xs ys same (All-from_recursion P xs h))
-
-  -- of the first that passes a test,
-  of_found : (test : A → Bool) (xs : List A) → AllByRecursion P xs → IfSome (find test xs) P
-  of_found test [] h = tt
-  of_found test (x ∷ xs) h = go (test x) (of_found test xs h.1)
-    where
-      go : (b : Bool) → IfSome (find test xs) P → IfSome (if b then Some x else find test xs) P
-      go true more = h.0
-      go false more = more
-
-  -- and of what may be made of what there may be.
-  of_next : {B : Type 0} (Q : B → Type 0) (f : B → Option A) → ((b : B) → Q b → IfSome (f b) P) → (o : Option B) → IfSome o Q
-      → IfSome (option_and_then f o) P
-  of_next Q f each None h = tt
-  of_next Q f each (Some b) h = each b h
+use Rattle.relup_translate.proofs.ListLemmas.{of_both, of_map, of_parts, of_options, of_filter, of_permutation, of_reverse, of_found}
+use Rattle.relup_translate.proofs.WayLemmas.{InHigher, of_changing, of_all_rows}
 
 -- The names of these instructions are names, and their versions are versions.
 abbrev AreNamed : List Instruction → Type 0
@@ -115,14 +74,10 @@ named_in_place restart_emulator h = tt
 named_in_place i h = (h, tt)
 
 -- The releases of a way are well formed, and so are the appups of the higher one.
-abbrev HasAppups : Direction → RelupReleaseForm → RelupReleaseForm → Type 0
-HasAppups Up left target = HasWellFormedAppups target
-HasAppups Down left target = HasWellFormedAppups left
-
 record IsWellFormedWay (w : WayForm) : Type 0 where
   left : IsWellFormedRelease w.left
   target : IsWellFormedRelease w.target
-  appups : HasAppups w.direction w.left w.target
+  appups : InHigher IsAppupInstruction w.direction w.left w.target
 
 -- What is made of an instruction outside a block has names.
 named_single : (w : WayForm) → IsWellFormedWay w → (i : AppupInstruction) → IsAppupInstruction i → AreNamed (single w i)
@@ -352,110 +307,11 @@ is_script w of rs h =
           (of_parts IsInstruction AreRow (row_script w) (named_row w of) rs h) (named_restart (list_any (list_any asks_restart) rs)),
     ))
 
--- The row of an application that comes has its name,
-of_coming : (w : WayForm) (a : RelupAppForm) → IsWellFormedApp a → IfSome (coming_row w a) AreRow
-of_coming w a h = go (is_some (app_named a.name w.left))
-  where
-    go : (b : Bool) → IfSome (if b then None else Some (add_application (record { name = a.name; start = a.start }) ∷ [])) AreRow
-    go true = tt
-    go false = (h.0, tt)
-
--- and that of one that goes.
-of_going : (w : WayForm) (b : RelupAppForm) → IsWellFormedApp b → IfSome (going_row w b) AreRow
-of_going w b h = go (is_some (app_named b.name w.target))
-  where
-    go : (t : Bool) → IfSome (if t then None else Some (remove_application b.name ∷ [])) AreRow
-    go true = tt
-    go false = (h.0, tt)
-
--- The instructions that an entry answers are its own,
-of_answer : (v : VersionForm) (is : List AppupInstruction) → AreRow is → IfOk (answer_of v is) AreRow
-of_answer (text s) is h = h
-of_answer (pattern bs) is h = tt
-
--- if there is such an entry,
-of_entry : (o : Option AppupEntryForm) → IfSome o (λ (e : AppupEntryForm). AreRow e.instrs) → IfOk (answer_at o) AreRow
-of_entry None h = tt
-of_entry (Some e) h = of_answer e.vsn e.instrs h
-
--- and it is one of the appup's.
-of_entry_for : (vsn : List ℕ) (es : List AppupEntryForm) → AreWellFormedEntries es → IfOk (entry_for vsn es) AreRow
-of_entry_for vsn es h = of_entry _ (of_found (λ (e : AppupEntryForm). AreRow e.instrs) (λ (e : AppupEntryForm). ends_at vsn e.vsn) es h)
-
--- The entries of either direction are well formed.
-of_entries : (d : Direction) (p : AppupForm) → IsWellFormedAppup p → AreWellFormedEntries (entries_of d p)
-of_entries Up p h = h.0
-of_entries Down p h = h.1
-
--- A search that finds instructions finds such,
-of_search : (app vsn : List ℕ) (r : Result (List AppupInstruction) EntryFault) → IfOk r AreRow → IfOk (found app vsn r) AreRow
-of_search app vsn (Ok is) h = h
-of_search app vsn (Err e) h = tt
-
--- in an appup, if there is one.
-of_searched : (d : Direction) (app vsn : List ℕ) (o : Option AppupForm) → IfSome o IsWellFormedAppup → IfOk (searched d app vsn o) AreRow
-of_searched d app vsn None h = tt
-of_searched d app vsn (Some p) h = of_search app vsn _ (of_entry_for vsn (entries_of d p) (of_entries d p h))
-
--- An appup that counts is the application's own.
-of_counting : (a : RelupAppForm) (p : AppupForm) → IsWellFormedAppup p → IfSome (counting a p) IsWellFormedAppup
-of_counting a p h = go (bytes_eq p.vsn a.vsn)
-  where
-    go : (b : Bool) → IfSome (if b then Some p else None) IsWellFormedAppup
-    go true = h
-    go false = tt
-
--- So what the appup of an application has for a version has names,
-abbrev HasAppup : RelupAppForm → Type 0
-HasAppup a = IfSome a.appup IsWellFormedAppup
-
-of_appup : (d : Direction) (a : RelupAppForm) (vsn : List ℕ) → HasAppup a → IfOk (by_appup d a vsn) AreRow
-of_appup d a vsn h =
-    of_searched d a.name vsn (counting_appup a) (of_next IsWellFormedAppup IsWellFormedAppup (counting a) (of_counting a) a.appup h)
-
--- and the row that is taken of it.
-of_result : (r : Result (List AppupInstruction) FaultForm) → IfOk r AreRow → IfSome (result_ok r) AreRow
-of_result (Ok is) h = h
-of_result (Err f) h = tt
-
--- Another version of an application has its appup.
-of_other : (a b : RelupAppForm) → HasAppup b → IfSome (if_other a b) HasAppup
-of_other a b h = go (bytes_eq b.vsn a.vsn)
-  where
-    go : (t : Bool) → IfSome (if t then None else Some b) HasAppup
-    go true = tt
-    go false = h
-
--- Going up, it is the appup of the target that counts,
-of_upgrade : (left target : RelupReleaseForm) (a : RelupAppForm) → HasAppup a
-    → IfSome (changing_row (record { direction = Up; left = left; target = target }) a) AreRow
-of_upgrade left target a h = go (option_and_then (if_other a) (app_named a.name left))
-  where
-    go : (o : Option RelupAppForm) → IfSome (option_and_then (λ (b : RelupAppForm). result_ok (between_versions Up b a)) o) AreRow
-    go None = tt
-    go (Some b) = of_result (by_appup Up a b.vsn) (of_appup Up a b.vsn h)
-
--- and going down, that of the release that is left.
-of_downgrade : (left target : RelupReleaseForm) → HasWellFormedAppups left → (a : RelupAppForm) → Unit {0}
-    → IfSome (changing_row (record { direction = Down; left = left; target = target }) a) AreRow
-of_downgrade left target of a any =
-    of_next AreRow HasAppup (λ (b : RelupAppForm). result_ok (between_versions Down b a))
-    (λ b h. of_result (by_appup Down b a.vsn) (of_appup Down b a.vsn h))
-    (option_and_then (if_other a) (app_named a.name left))
-    (of_next HasAppup HasAppup (if_other a) (of_other a) (app_named a.name left) (of_found HasAppup (λ (b : RelupAppForm). bytes_eq b.name a.name) left.apps of))
-
--- So the rows of applications that change have names,
-of_changing : (d : Direction) (left target : RelupReleaseForm) → HasAppups d left target
-    → AllByRecursion AreRow (filter_map (changing_row (record { direction = d; left = left; target = target })) target.apps)
-of_changing Up left target of = of_options AreRow HasAppup _ (of_upgrade left target) target.apps of
-of_changing Down left target of = of_options AreRow (λ a. Unit {0}) _ (of_downgrade left target of) target.apps (trivially target.apps)
-
--- and all rows of a way.
-of_rows : (w : WayForm) → IsWellFormedWay w → AllByRecursion AreRow (rows w)
-of_rows w of =
-    of_both AreRow (filter_map (coming_row w) w.target.apps) _ (of_options AreRow IsWellFormedApp (coming_row w) (of_coming w) w.target.apps of.target.1)
-    (of_both AreRow (filter_map (changing_row w) w.target.apps) _ (of_changing w.direction w.left w.target of.appups)
-    (of_reverse AreRow (filter_map (going_row w) w.left.apps) (of_options AreRow IsWellFormedApp (going_row w) (of_going w) w.left.apps of.left.1)))
+-- The rows of a way have names.
+named_rows : (w : WayForm) → IsWellFormedWay w → AllByRecursion AreRow (rows w)
+named_rows w of =
+    of_all_rows IsAppupInstruction w IsWellFormedApp (λ a h. h.0) (λ b h. h.0) of.target.1 of.left.1
+    (of_changing IsAppupInstruction w.direction w.left w.target of.appups)
 
 -- The way between well-formed releases is well formed.
 of_way : (d : Direction) (new other : RelupReleaseForm) → IsWellFormedRelease new → HasWellFormedAppups new → IsWellFormedRelease other
@@ -469,7 +325,7 @@ is_entry : (d : Direction) (new : RelupReleaseForm) → IsWellFormedRelease new 
 is_entry d new of appups other of_other =
     let w = way_between d new other in
     let way = of_way d new other of appups of_other in
-    (of_other.0, is_script w way (rows w) (of_rows w way))
+    (of_other.0, is_script w way (rows w) (named_rows w way))
 
 -- and so is the relup.
 pub made_relups_are_named : MadeRelupsAreNamed

@@ -1,16 +1,19 @@
 -- Laws of the translation, above its definition.
-use Rattle.std.specs.Prelude.{◌≡◌, ◌⊎◌, ◌↔◌, ℕ, List, [], ◌∷◌, ◌++◌, map, None, Some, Ok, Err, bytes_eq}
-use Rattle.std.specs.List.{AllByRecursion, IsDistinct}
+use Rattle.std.specs.Prelude.{◌≡◌, ◌⊎◌, ◌↔◌, ℕ, ◌&&◌, ◌||◌, not, IsTrue, List, [], ◌∷◌, ◌++◌, map, None, Some, IfSome, Ok, Err, bytes_eq}
+use Rattle.std.specs.List.{AllByRecursion, IsDistinct, flat_map}
 use Rattle.erl_term.specs.Value.Value.{list}
 use Rattle.erl_term.specs.Value.Values.{no_values}
 use Rattle.relup_instruction.specs.declared.instruction.Direction.TheVariants.{Up, Down}
-use Rattle.relup_instruction.specs.Instruction.{Instruction}
-use Rattle.relup_instruction.specs.Instruction.Instruction.{point_of_no_return}
+use Rattle.relup_instruction.specs.Instruction.{FetchForm, Instruction}
+use Rattle.relup_instruction.specs.Instruction.Instruction.{load_object_code, point_of_no_return, load}
 use Rattle.relup_file.specs.Form.{IsRelup}
 use Rattle.relup_file.specs.Relup.{EntryForm, RelupForm}
 use Rattle.relup_script.specs.declared.fault.ScriptFault.{ScriptFault}
 use Rattle.relup_script.specs.declared.fault.ScriptFault.TheVariants.{Unsupported}
-use Rattle.relup_script.specs.Script.{IsScriptFault}
+use Rattle.relup_script.specs.Script.{may_follow, is_restart, is_end, IsScriptFault}
+use Rattle.appup_file.specs.Instruction.{AppupInstruction, AppupEntryForm, AppupForm}
+use Rattle.appup_file.specs.Instruction.AppupInstruction.{low_level}
+use Rattle.relup_block.specs.Order.{is_among}
 use Rattle.relup_row.specs.Release.{RelupAppForm, RelupReleaseForm, WayForm, way_between}
 use Rattle.relup_translate.specs.Fault.{FaultForm}
 use Rattle.relup_translate.specs.Translation.{way_fault, relup_between, translation}
@@ -54,6 +57,57 @@ NeverBoth = (ws : List WayForm) (f : FaultForm) → AreSound ws → IsFirstFault
 -- and one elsewhere.
 abbrev pub AreSoundOrFail : Type 0
 AreSoundOrFail = (ws : List WayForm) → AreSound ws ⊎ ((f : FaultForm) × IsFirstFault ws f)
+
+-- The instruction fetches modules.
+abbrev pub Fetches : Instruction → Type 0
+Fetches i = (f : FetchForm) × (i ≡ load_object_code f)
+
+-- One point of no return parts the script: before it stand fetches alone, and behind it each instruction where it may stand, a
+-- restart at the end alone.
+pub record IsParted (script : List Instruction) : Type 0 where
+  pub before : List Instruction
+  pub after : List Instruction
+  pub is : script ≡ before ++ (point_of_no_return ∷ after)
+  pub fetches : AllByRecursion Fetches before
+  pub stands : (front rest : List Instruction) (i : Instruction) → after ≡ front ++ (i ∷ rest) → IsTrue (may_follow i && (is_end rest || not (is_restart i)))
+
+-- So is each script of a relup that is made.
+abbrev pub PartsScripts : Type 0
+PartsScripts = (new : RelupReleaseForm) (ups downs : List RelupReleaseForm) (r : RelupForm)
+    → translation new ups downs ≡ Ok r
+    → AllByRecursion (λ (e : EntryForm). IsParted e.script) (r.ups ++ r.downs)
+
+-- the modules that an instruction fetches
+abbrev pub fetched_modules : Instruction → List (List ℕ)
+fetched_modules (load_object_code f) = f.modules
+fetched_modules i = []
+
+-- The module that an instruction loads, if it loads one, is among these.
+abbrev pub LoadsAmong : List (List ℕ) → Instruction → Type 0
+LoadsAmong names (load p) = IsTrue (is_among p.name names)
+LoadsAmong names i = Unit {0}
+
+-- The script fetches each module that it loads.
+abbrev pub FetchesItsLoads : List Instruction → Type 0
+FetchesItsLoads script = AllByRecursion (LoadsAmong (flat_map fetched_modules script)) script
+
+-- An instruction of an appup isn't a `load` that is written out.
+abbrev pub WritesNoLoad : AppupInstruction → Type 0
+WritesNoLoad (low_level (load p)) = ⊥
+WritesNoLoad i = Unit {0}
+
+abbrev pub EntriesWriteNoLoad : List AppupEntryForm → Type 0
+EntriesWriteNoLoad = AllByRecursion (λ (e : AppupEntryForm). AllByRecursion WritesNoLoad e.instrs)
+
+-- the appups of a release
+abbrev pub AppupsWriteNoLoad : RelupReleaseForm → Type 0
+AppupsWriteNoLoad r = AllByRecursion (λ (a : RelupAppForm). IfSome a.appup (λ (p : AppupForm). EntriesWriteNoLoad p.ups × EntriesWriteNoLoad p.downs)) r.apps
+
+-- Where the appups leave loading to their high-level instructions, each script that is made fetches what it loads.
+abbrev pub FetchesLoads : Type 0
+FetchesLoads = (new : RelupReleaseForm) (ups downs : List RelupReleaseForm) (r : RelupForm)
+    → AppupsWriteNoLoad new → translation new ups downs ≡ Ok r
+    → AllByRecursion (λ (e : EntryForm). FetchesItsLoads e.script) (r.ups ++ r.downs)
 
 -- The fault of a script, if it has one, is an instruction that can't be run anywhere.
 abbrev pub HasOnlyUnsupported : List Instruction → Type 0

@@ -1,5 +1,5 @@
 //! Laws of the translation, above its definition. Each function does nothing: its contract is the law.
-ghost use Rattle.relup_translate.specs.Laws.{MakesSoundWays, RefusesFirstFault, HaveOneFirstFault, NeverBoth, AreSoundOrFail, StandsRight, StaysItself, MadeRelupsAreNamed};
+ghost use Rattle.relup_translate.specs.Laws.{MakesSoundWays, RefusesFirstFault, HaveOneFirstFault, NeverBoth, AreSoundOrFail, PartsScripts, FetchesLoads, StandsRight, StaysItself, MadeRelupsAreNamed};
 
 /// A relup is made exactly where no way between the releases has a fault.
 pub fn a_relup_is_made_exactly_without_a_fault()
@@ -26,8 +26,19 @@ pub fn ways_are_sound_or_have_a_first_fault()
     ensures { AreSoundOrFail }
 {}
 
-/// In a script that is made `check` of `relup_script` finds no fault but an instruction that can't be run anywhere: it has one
-/// point of no return, and none in front of such an instruction stands on the wrong side of it.
+/// One point of no return parts each script that is made. Before it stand `load_object_code` alone, and behind it each
+/// instruction where it may stand, whether it can be run or not: a restart of the runtime system at the end alone.
+pub fn made_scripts_are_parted_by_their_point()
+    ensures { PartsScripts }
+{}
+
+/// A script that is made fetches each module that it loads: its `load_object_code` stand before its point. Only a `load` that an
+/// appup has itself is left to a `load_object_code` of the appup.
+pub fn made_scripts_fetch_what_they_load()
+    ensures { FetchesLoads }
+{}
+
+/// `check` of `relup_script` finds no fault in a script that is made but an instruction that can't be run anywhere.
 pub fn made_scripts_have_only_unsupported_instructions()
     ensures { StandsRight }
 {}

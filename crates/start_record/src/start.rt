@@ -74,7 +74,8 @@ fn start_in(alloc: Global, slot: &[u8; 128]) -> Result<Start, StartError>
     })
 }
 
-/// Writes a start over the one that the slot spells. Takes no memory. It is read back where both versions are texts of
+/// Writes a start in place of the one that the store has: into the other slot, and then the byte that makes it count. Takes no
+/// memory. It is read back where both versions are texts of
 /// versions (`spelled`); that they are isn't tested.
 ///
 /// Reported in this order: `TooLong` where a version is longer than 62 bytes, `MustReopen`, `Device`. Nothing has changed

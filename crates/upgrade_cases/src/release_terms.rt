@@ -2,9 +2,9 @@
 //! word of another shape counts as an empty one, and any other type as `permanent`.
 use appup_file::{AppupFault, appup_of_term};
 use erl_term::Term;
-use rel_files::parts::{four_in, list_in, pair_in};
+use rel_files::parts::{four_in, list_in, pair_in, triple_in, word_in};
+use rel_files::text::{names_in, version_in};
 use rel_files::{StartType, start_of};
-use relup_instruction::members::{modules_in, triple_in, version_in, word_in};
 use relup_translate::{ModuleNames, RelupApp, RelupRelease};
 use std::alloc::{AllocError, Global};
 
@@ -58,5 +58,5 @@ fn version(alloc: Global, term: &Term) -> Result<String, AllocError> {
 }
 
 fn module_names(alloc: Global, term: &Term) -> Result<ModuleNames, AllocError> {
-    ModuleNames::new(alloc, modules_in(alloc, term)?.unwrap_or(Vec::new(alloc)))
+    ModuleNames::new(alloc, names_in(alloc, term)?.unwrap_or(Vec::new(alloc)))
 }

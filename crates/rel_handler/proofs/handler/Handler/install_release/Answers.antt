@@ -33,6 +33,12 @@ returns-in_err-upgrade-clause-refused g c =
     refuses_with (InstallRefused g.D.Disk.failures c.args.vsn.now h h n n) c.from_residual.result c.in_err-upgrade.field-0.0 c.from_residual.ensures
     (no_upgrade g.D.Disk.failures c.args.vsn.now h c.if-self.false n c.in_err-upgrade.field-0.0 (nothing_done n c.requires.free) c.in_err-upgrade.ensures.refused))
 
+pub returns-in_err-upgrade-clause-commits : goal.returns-in_err-upgrade-clause-commits
+returns-in_err-upgrade-clause-commits g c =
+    rw (← c.self.view_is)
+    (let es = list_in c.self.inside.node in
+    unchanged g.D.Disk c.self.inside.node (rw (← c.self.view_is) at c.requires.sound) (g.met.D.Disk.only_now _) (install_event c.args.vsn.now es) (install_size c.args.vsn.now es))
+
 -- no memory is left before the script
 pub returns-in_err-event-clause-commits : goal.returns-in_err-event-clause-commits
 returns-in_err-event-clause-commits g c =
