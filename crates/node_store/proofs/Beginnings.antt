@@ -1,7 +1,8 @@
 -- Events that begin with others, and the start record that may stand behind them.
 use Rattle.std.proofs.Common.{ℕ, List, [], ◌∷◌, ◌++◌, refl, sym, ap, ◌∙◌, append-nil, append_assoc}
 use Rattle.rel_list.specs.Event.{Event}
-use Rattle.node_store.specs.Events.{Events, BeginWith, HasStart}
+use Rattle.rel_list.specs.Event.Event.{boot}
+use Rattle.node_store.specs.Events.{Events, BeginWith, AreBoots, IsOneAndBoots, HasStart}
 
 pub with_themselves : (events : Events) → BeginWith events events
 with_themselves events = ([], sym (append-nil events))
@@ -13,11 +14,23 @@ with_first first mid events (more, is) (rest, are) = (more ++ rest, are ∙ (ap 
 pub with_one_more : (first events : Events) (e : Event) → BeginWith first events → BeginWith first (events ++ e ∷ [])
 with_one_more first events e begins = with_first first events (events ++ e ∷ []) begins (e ∷ [], refl)
 
--- A start record from behind some events is one from behind the first of them.
+-- One boot more stands behind one event and boots.
+boots-push : (events : Events) → AreBoots events → AreBoots (events ++ boot ∷ [])
+boots-push [] are = tt
+boots-push (boot ∷ events) are = boots-push events are
+boots-push (e ∷ events) are = absurd are
+
+pub one_and_boots-push : (events : Events) → IsOneAndBoots events → IsOneAndBoots (events ++ boot ∷ [])
+one_and_boots-push [] are = tt
+one_and_boots-push (last ∷ boots) are = boots-push boots are
+
+-- A start record that was right behind some events was right behind the first of them.
 pub has_start_since : (ran later events : Events) (image : List ℕ) → BeginWith ran later → HasStart later events image → HasStart ran events image
 has_start_since ran later events image begins has = record {
   before = has.before;
+  later = has.later;
+  is = has.is;
+  last = has.last;
   since = with_first ran later has.before begins has.since;
-  of_events = has.of_events;
   starts = has.starts;
 }

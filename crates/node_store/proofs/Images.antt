@@ -1,5 +1,5 @@
 -- Which lists the images of a disk stand for.
-use Rattle.std.proofs.Common.{◌≡◌, ◌⊎◌, inl, inr, ⊎_elim, ℕ, ◌+◌, length, length-append, arith, Bool, true, false, List, [], ◌∷◌, ◌++◌, Some, Ok, refl, sym, ap, ◌∙◌, subst, true≢false}
+use Rattle.std.proofs.Common.{◌≡◌, ◌⊎◌, inl, inr, ⊎_elim, ℕ, ◌+◌, length, length-append, append-nil, arith, Bool, true, false, List, [], ◌∷◌, ◌++◌, Some, Ok, refl, sym, ap, ◌∙◌, subst, true≢false}
 use Rattle.rel_files.specs.Release.{Release}
 use Rattle.rel_list.specs.Releases.{Releases, has_one_shot, permanent}
 use Rattle.rel_list.specs.Event.{Event, recorded, step, list_after}
@@ -121,7 +121,7 @@ stored_before events x e size es c after image started =
       list = es;
       after = after;
       image_of = image.image_of;
-      start = record { before = events; since = with_themselves events; of_events = with_themselves events; starts = (es, after, started) };
+      start = record { before = events; later = []; is = sym (append-nil events); last = tt; since = with_themselves events; starts = (es, after, started) };
     }
 
 -- And one of the list after it has them all, compacted or not, with the start record from before it or that from behind it.
@@ -134,8 +134,9 @@ stored_after events x e size es next c after is image reaches started = record {
   after = all;
   image_of = image;
   start = ⊎_elim
-      (λ old. record { before = events; since = with_themselves events; of_events = (e ∷ [], refl); starts = (es, after, old) })
-      (λ new. record { before = events ++ e ∷ []; since = (e ∷ [], refl); of_events = with_themselves (events ++ e ∷ []); starts = (next, all, new) }) started;
+      (λ old. record { before = events; later = e ∷ []; is = refl; last = tt; since = with_themselves events; starts = (es, after, old) })
+      (λ new. record { before = events ++ e ∷ []; later = []; is = sym (append-nil (events ++ e ∷ [])); last = tt; since = (e ∷ [], refl); starts = (next, all, new) })
+      started;
 }
   where
     all : list_after (events ++ e ∷ []) ≡ Some next

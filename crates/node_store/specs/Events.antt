@@ -12,18 +12,18 @@ abbrev pub Events : Type 0
 Events = List Event
 
 -- What is known of a node's events: those whose commands were answered Ok, in order, and the one that is in doubt, if
--- there is one, since its command wasn't answered yet or the device failed in it. And the events behind which the node last ran: the
--- start record was that of the permanent release then.
+-- there is one, since its command wasn't answered yet or the device failed in it. And the events behind which the start record was last
+-- sure to be that of the permanent release, as it is wherever a node runs, and behind each command that was Ok.
 pub record Known : Type 0 where
   pub ran : Events
   pub acknowledged : Events
   pub in_doubt : Option Event
 
--- a node runs behind these events, and none is in doubt
+-- the start record is right behind these events, and none is in doubt
 abbrev pub settled : Events → Known
 settled events = record { ran = events; acknowledged = events; in_doubt = None }
 
--- a node ran behind these events, and this one is in doubt
+-- it is right behind these events, and this one is in doubt
 abbrev pub doubted : Events → Event → Known
 doubted events e = record { ran = events; acknowledged = events; in_doubt = Some e }
 
@@ -59,11 +59,25 @@ StartsBehind events image = (es : Releases) × (list_after events ≡ Some es) �
 abbrev pub BeginWith : Events → Events → Type 0
 BeginWith first events = (more : Events) × (events ≡ first ++ more)
 
--- It is that of a release that was permanent behind the first of these events: all behind which the node last ran, and perhaps more.
+-- each of them is a boot
+abbrev pub AreBoots : Events → Type 0
+AreBoots [] = Unit {0}
+AreBoots (boot ∷ events) = AreBoots events
+AreBoots (e ∷ events) = ⊥
+
+-- none; or one event, and behind it boots alone
+abbrev pub IsOneAndBoots : Events → Type 0
+IsOneAndBoots [] = Unit {0}
+IsOneAndBoots (last ∷ boots) = AreBoots boots
+
+-- It is that of the release that is permanent behind these events, or behind all but the last, where boots at the end don't count;
+-- and behind no fewer than those behind which it was last sure to be right.
 pub record HasStart (ran events : Events) (image : List ℕ) : Type 0 where
   pub before : Events
+  pub later : Events
+  pub is : events ≡ before ++ later
+  pub last : IsOneAndBoots later
   pub since : BeginWith ran before
-  pub of_events : BeginWith before events
   pub starts : StartsBehind before image
 
 -- They are no store, or stand for such a list, and have a start record of its events.
@@ -79,7 +93,7 @@ pub record Stored : Type 0 where
   pub appended : Extent
   pub compacted : Extent
 
--- a store with these events, none of them in doubt, that reaches so far; a node last ran behind the first of them
+-- a store with these events, none of them in doubt, that reaches so far; its start record was last right behind some of them
 abbrev pub at_rest_since : Events → Events → Extent → Stored
 at_rest_since ran events x = record {
   known = record { ran = ran; acknowledged = events; in_doubt = None };
@@ -88,7 +102,7 @@ at_rest_since ran events x = record {
   compacted = x;
 }
 
--- that of a node that runs
+-- one whose start record is right, as that of a node that runs
 abbrev pub certain : Events → Extent → Stored
 certain events x = at_rest_since events events x
 
@@ -113,8 +127,8 @@ abbrev pub booted_or_same : Extent → Option Releases → Extent
 booted_or_same x None = x
 booted_or_same x (Some es) = booted_extent x es
 
--- Behind these events, where the store reaches so far, a boot is in doubt; a node last ran behind the first of them. No compaction
--- follows it.
+-- Behind these events, where the store reaches so far, a boot is in doubt; the start record was last right behind some of them. No
+-- compaction follows it.
 abbrev pub uncertain_boot : Events → Events → Extent → Stored
 uncertain_boot ran events x =
     let behind = booted_or_same x (list_after events) in

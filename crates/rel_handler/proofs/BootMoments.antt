@@ -1,5 +1,6 @@
 -- What a crash leaves at each moment of a boot, and the events that a store has then.
 use Rattle.std.proofs.Common.{◌≡◌, ◌⊎◌, inl, inr, ⊎_elim, ℕ, ◌≤◌, Bool, true, false, List, [], ◌∷◌, ◌++◌, Some, refl, sym, ap, ◌∙◌, subst}
+use Rattle.std.proofs.lemmas.List.{append-nil, append_assoc}
 use Rattle.rel_disk.specs.declared.disk.Disk.{Ghosts}
 use Rattle.rel_disk.specs.Moments.{LeavesOnly}
 use Rattle.rel_disk.proofs.Moments.{joined, weakened}
@@ -25,7 +26,7 @@ use Rattle.rel_handler.specs.declared.error.BootError.{BootError}
 use Rattle.rel_handler.specs.declared.error.BootError.TheVariants as boot_error
 use Rattle.rel_handler.proofs.BootLists.{booted_recorded, extent_recorded, space_of_recorded, space_recorded}
 use Rattle.rel_handler.proofs.Boots.{IsLack}
-use Rattle.node_store.proofs.Beginnings.{with_themselves, with_one_more}
+use Rattle.node_store.proofs.Beginnings.{with_one_more, one_and_boots-push}
 use Rattle.node_store.proofs.Images.{in_same_format, settled_extent, started_by}
 use Rattle.node_store.proofs.Lists.{list_after-push}
 
@@ -163,16 +164,35 @@ module _ (s : Stored) (bytes : List ℕ) (of : IsStoredAs s bytes) where
     moved slot (es, after, started) = (es, after, started_by es es bytes c refl slot started)
 
     same_start : start_slot c ≡ start_slot bytes → HasStart ran of.events c
-    same_start slot = record { before = of.start.before; since = of.start.since; of_events = of.start.of_events; starts = moved slot of.start.starts }
+    same_start slot = record {
+      before = of.start.before;
+      later = of.start.later;
+      is = of.start.is;
+      last = of.start.last;
+      since = of.start.since;
+      starts = moved slot of.start.starts;
+    }
 
     later_start : start_slot c ≡ start_slot bytes → HasStart ran (of.events ++ boot ∷ []) c
-    later_start slot =
-        record { before = of.start.before; since = of.start.since; of_events = with_one_more of.start.before of.events boot of.start.of_events; starts = moved slot of.start.starts }
+    later_start slot = record {
+      before = of.start.before;
+      later = of.start.later ++ boot ∷ [];
+      is = ap (λ (l : Events). l ++ boot ∷ []) of.start.is ∙ append_assoc of.start.before of.start.later (boot ∷ []);
+      last = one_and_boots-push of.start.later of.start.last;
+      since = of.start.since;
+      starts = moved slot of.start.starts;
+    }
 
     -- the boot wrote it
     new_start : IsStarted (booted of.list) c → HasStart ran (of.events ++ boot ∷ []) c
-    new_start started =
-        record { before = of.events ++ boot ∷ []; since = since_with_boot; of_events = with_themselves (of.events ++ boot ∷ []); starts = (booted of.list, all, started) }
+    new_start started = record {
+      before = of.events ++ boot ∷ [];
+      later = [];
+      is = sym (append-nil (of.events ++ boot ∷ []));
+      last = tt;
+      since = since_with_boot;
+      starts = (booted of.list, all, started);
+    }
 
     module _ (left : IsLeftByBoot bytes c) where
       alike : BootAlike left.list of.list

@@ -54,8 +54,10 @@ while_creating p body start fits versions is spelled c (inr stands) =
       as_after [] (made p) [] (entry p Permanent ∷ []) c refl refl (record { bodies = body ∷ []; store = stands.records; list = first_record (format_of c) p body fits spelled; room = no_boot_space (extent_of c) (entry p Permanent ∷ []) refl }),
       record {
         before = made p ∷ [];
+        later = [];
+        is = refl;
+        last = tt;
         since = (made p ∷ [], refl);
-        of_events = ([], refl);
         starts = (entry p Permanent ∷ [], refl, started_new p start c versions is stands.start);
       },
     )

@@ -229,7 +229,7 @@ module _ {D : Type 0} (v : Device D) (laws : IsDevice v) where
   begins_behind_a_crash ran events image disk of only = (
     of.more,
     λ c now. subst (IsStoredAs (at_rest_since ran (events ++ of.more) (extent_of image))) (sym (only c now))
-        (record { events = events ++ of.more; has = (with_first ran of.start.before (events ++ of.more) of.start.since of.start.of_events, inl (refl, refl)); list = of.list; after = of.after; image_of = of.image_of; start = of.start }),
+        (record { events = events ++ of.more; has = (with_first ran of.start.before (events ++ of.more) of.start.since (of.start.later, of.start.is), inl (refl, refl)); list = of.list; after = of.after; image_of = of.image_of; start = of.start }),
   )
 
   known_at_rest : (p : Place) → IsKnown p → (s : Stored) × (at_rest p ≡ closed s) × (s.known.acknowledged ≡ acknowledged_at p) × (s.known.ran ≡ ran_at p)

@@ -21,7 +21,7 @@ use Rattle.session_input.specs.Feed.Feed.{over, cut, next}
 use Rattle.session_input.specs.Input.{most_bytes}
 use Rattle.session_input.specs.Lines.{onto, lines_of}
 use Rattle.rel_session.specs.Node.Place.{raw, closed, running, dead}
-use Rattle.rel_session.specs.AnswerLaws.{IsAtRest, HasLinePath, HaveLinePaths, ReadsLinePaths, AreOfFiles, HasVersionsAt, HasModuleVersionsAt, KeepsVersions, KeepsModuleVersions}
+use Rattle.rel_session.specs.AnswerLaws.{HasNoDoubt, HasLinePath, HaveLinePaths, ReadsLinePaths, AreOfFiles, HasVersionsAt, HasModuleVersionsAt, KeepsVersions, KeepsModuleVersions}
 use Rattle.rel_session.specs.RunLaws.{MayBe}
 use Rattle.rel_session.specs.Node.{Place}
 use Rattle.rel_session.specs.Run.{Starts}
@@ -244,7 +244,7 @@ image_versions ran events extent c of list after =
     only (since, inr has) = has.0
 
 -- a store with nothing in doubt
-store_at_rest : {D : Type 0} (v : Device D) → IsDevice v → (s : Stored) (disk : D) → IsAtRest s → ((c : List ℕ) → v.may_leave disk c → IsStoredAs s c) → HasVersionsAt (closed s)
+store_at_rest : {D : Type 0} (v : Device D) → IsDevice v → (s : Stored) (disk : D) → HasNoDoubt s → ((c : List ℕ) → v.may_leave disk c → IsStoredAs s c) → HasVersionsAt (closed s)
 store_at_rest v laws s disk sure holds =
     subst (λ t. HasVersionsAt (closed t)) (sym sure.0) (λ events list is after.
     image_versions s.known.ran s.known.acknowledged s.extent (v.seen disk) (subst (λ t. IsStoredAs t (v.seen disk)) sure.0 (holds (v.seen disk) (laws.reads_an_image disk))) list (sym (ap list_after (only events is)) ∙ after))

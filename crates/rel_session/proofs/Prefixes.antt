@@ -198,5 +198,5 @@ stored events extent list c after image started =
       list = list;
       after = after;
       image_of = image.image_of;
-      start = record { before = events; since = with_themselves events; of_events = with_themselves events; starts = (list, after, started) };
+      start = record { before = events; later = []; is = sym (append-nil events); last = tt; since = with_themselves events; starts = (list, after, started) };
     }

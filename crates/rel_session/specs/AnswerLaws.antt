@@ -60,16 +60,16 @@ TellsDoubt source =
     → Transition source p c a → a.outcome.in_doubt ≡ Some e
     → (a.outcome.failed ≡ true) × TellsFailure a.answer
 
--- Nothing is in doubt of the store, and a node last ran behind the first of its events.
-abbrev pub IsAtRest : Stored → Type 0
-IsAtRest s = (s ≡ at_rest_since s.known.ran s.known.acknowledged s.extent) × BeginWith s.known.ran s.known.acknowledged
+-- Nothing is in doubt of the store, and its start record was last right behind some of its events.
+abbrev pub HasNoDoubt : Stored → Type 0
+HasNoDoubt s = (s ≡ at_rest_since s.known.ran s.known.acknowledged s.extent) × BeginWith s.known.ran s.known.acknowledged
 
 -- A device that does not fail leaves no choice there: bytes, or a store with nothing in doubt.
 abbrev pub IsCertain : Place → Type 0
 IsCertain (raw bytes) = Unit {0}
-IsCertain (closed s) = IsAtRest s
+IsCertain (closed s) = HasNoDoubt s
 IsCertain (running events extent ps) = Unit {0}
-IsCertain (dead s) = IsAtRest s
+IsCertain (dead s) = HasNoDoubt s
 
 -- The store of a node is as short as a compaction leaves it.
 abbrev pub IsCompact : Place → Type 0

@@ -23,7 +23,7 @@ acknowledged_at (closed s) = s.known.acknowledged
 acknowledged_at (running events extent ps) = events
 acknowledged_at (dead s) = s.known.acknowledged
 
--- the events behind which a node last ran there
+-- the events behind which the start record there was last sure to be right
 abbrev pub ran_at : Place → Events
 ran_at (raw bytes) = []
 ran_at (closed s) = s.known.ran
@@ -49,7 +49,7 @@ Finds (running events extent ps) found = found ≡ events
 Finds (dead s) events = MayBe s events
 
 -- Behind a reply the acknowledged events are those that it found, with its own at the end. A store that is known stays
--- so, and one with an acknowledged event is known. A node ran no sooner than before.
+-- so, and one with an acknowledged event is known. The start record was right no sooner than before.
 pub record KeepsEvents (p : Place) (a : Reply) : Type 0 where
   pub found : Events
   pub finds : Finds p found
@@ -73,8 +73,8 @@ HaveAll before [] events = events ≡ before
 HaveAll before (a ∷ more) events =
     (settled : Events) × HaveAll (before ++ (settled ++ a.outcome.acknowledged)) more events
 
--- the bytes stand for the list of events that begin with these, and have a start record of those events, but of none before a
--- node ran
+-- the bytes stand for the list of events that begin with these, and have a start record of those events that is no older than when
+-- it was last right
 pub record StandsForAll (ran events : Events) (image : List ℕ) : Type 0 where
   pub more : Events
   pub list : Releases
@@ -89,7 +89,7 @@ BecomesKnown p (a ∷ more) = (IsKnown p ⊎ (a.outcome.acknowledged ≢ [])) �
 
 -- Behind the first replies of a session the acknowledged events are those before it with those of these replies, and
 -- at each moment from there on a crash leaves the list of events that begin with them; and a start record that is no older than
--- the last event behind which a node ran.
+-- when it was last right, as it is where a node runs.
 pub record KeepsAll {D : Type 0} (v : Device D) (p : Place) (first rest : List Reply) (old new : D) : Type 0 where
   pub mid : D
   pub before : Executes v p first old mid
@@ -126,8 +126,8 @@ abbrev pub IsNextDisk : {D : Type 0} → Device D → D → D → D → Type 0
 IsNextDisk v mid new later =
     (later ≡ new) ⊎ ((image : List ℕ) × v.left_since new (v.moment mid) image × Only image (v.may_leave later))
 
--- All these events are acknowledged on the disk, and a node ran no sooner than behind the first of them; and so over as many
--- sessions: each begins where they are, and behind any of its replies a crash may come, or its end.
+-- These events are acknowledged on the disk, and its start record is no older than it is behind `ran`; and so over as many sessions:
+-- each begins where they are, and behind any of its replies a crash may come, or its end.
 abbrev pub Lasts : {D : Type 0} → Device D → Source → ℕ → Events → Events → D → Type 0
 Lasts v base zero ran events disk =
     (s : Stored) × (more : Events) × Starts v (closed s) disk × (s.known.acknowledged ≡ events ++ more) × BeginWith ran s.known.ran
@@ -139,7 +139,7 @@ Lasts {D} v base (suc n) ran events disk =
     → (all : Events) × HaveAll (events ++ more) first all × Lasts v base n (ran_at (place_after (closed s) first)) all later)
 
 -- Where a store is known, no number of sessions and crashes loses an acknowledged event, or brings back a start record from before
--- a node last ran.
+-- it was last right.
 abbrev pub LosesNothingEver : {D : Type 0} → Device D → Source → Type 0
 LosesNothingEver {D} v base =
     (n : ℕ) (s : Stored) (disk : D) → Starts v (closed s) disk → Lasts v base n s.known.ran s.known.acknowledged disk

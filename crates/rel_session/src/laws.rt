@@ -16,7 +16,7 @@ fn a_disk_stands_for_one_list()
 
 /// Each reply keeps the acknowledged events. At each moment of a session, ended or broken off, a crash leaves the list
 /// of events that begin with all those acknowledged before that moment, and a start record that is no older than the last of them
-/// behind which a node ran.
+/// behind which it was right, as it is where a node runs.
 pub fn a_crash_loses_nothing_acknowledged<D: Disk, F: Files>()
     ensures replies { (files : F) → EachKeeps (F.gives files) }
     ensures accepted { IsOfAccepted }
@@ -24,7 +24,7 @@ pub fn a_crash_loses_nothing_acknowledged<D: Disk, F: Files>()
 {}
 
 /// A session may begin on the disk that another handed back, and on one that holds what a crash left of it. No number of
-/// sessions and crashes loses an acknowledged event, or brings back a start record from before a node last ran.
+/// sessions and crashes loses an acknowledged event, or brings back a start record from before it was last right.
 pub fn a_session_begins_where_another_ended<D: Disk, F: Files>()
     ensures ended { BeginsWhereOneEnded D.Disk }
     ensures crashed { BeginsBehindACrash D.Disk }

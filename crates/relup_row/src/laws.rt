@@ -1,7 +1,7 @@
 //! Laws of what a script fetches, above its definition. Each function does nothing: its contract is the law.
 ghost use Rattle.relup_row.specs.Laws.{FetchesOnce, FetchesMentioned};
 
-/// No module is fetched twice, however often it is mentioned.
+/// No module is fetched twice for being mentioned more than once. A `load_object_code` that an appup has itself stands beside that.
 pub fn no_module_is_fetched_twice()
     ensures { FetchesOnce }
 {}

@@ -16,7 +16,7 @@ pub enum TranslateError {
     /// No application of the target has this module. For a module that is deleted: the version of the application that is left
     /// doesn't have it.
     UnknownModule(String),
-    /// The appup of this application has a regular expression, and none of the version before it.
+    /// The appup of this application has an entry of a regular expression, and none of the version before it.
     RegexVersion(String),
     /// The releases are for other versions of the runtime system, or an appup asks for a new one.
     NeedsNewEmulator,

@@ -26,14 +26,14 @@ pub fn ways_are_sound_or_have_a_first_fault()
     ensures { AreSoundOrFail }
 {}
 
-/// One point of no return parts each script that is made. Before it stand `load_object_code` alone, and behind it each
-/// instruction where it may stand, whether it can be run or not: a restart of the runtime system at the end alone.
+/// One point of no return parts each script that is made. Before it stand `load_object_code` alone, and behind it no instruction
+/// that may not stand there, whether it can be run or not: a restart of the runtime system at the end alone.
 pub fn made_scripts_are_parted_by_their_point()
     ensures { PartsScripts }
 {}
 
-/// A script that is made fetches each module that it loads: its `load_object_code` stand before its point. Only a `load` that an
-/// appup has itself is left to a `load_object_code` of the appup.
+/// Where no appup of the higher release has a `load` of its own, each script that is made fetches each module that it loads, by a
+/// `load_object_code` before its point.
 pub fn made_scripts_fetch_what_they_load()
     ensures { FetchesLoads }
 {}

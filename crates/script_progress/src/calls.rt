@@ -16,7 +16,7 @@ ghost use Rattle.script_progress.specs.Steps.{CarriesOutLate, HasDone, Past, pro
 ghost use Rattle.script_progress.specs.Stops.{AsksMemory, app_takes_memory};
 ghost use Rattle.held_processes.specs.Following.{AreLonger};
 
-use crate::cause::failed;
+use crate::cause::failure_at_start;
 use crate::child::{call_child, child_call};
 use crate::errors::raise;
 use crate::{Cause, Failure, Progress, Site, on_no_child};
@@ -85,7 +85,7 @@ fn call_app<R: Wait>(
     match call {
         AppCall::Starts(app) => match target_library(site, app) {
             Some(library) => start_from(progress, rt, alloc, site, seat, library.as_ref()),
-            None => Err(failed(Cause::NoApp)),
+            None => Err(failure_at_start(Cause::NoApp)),
         },
         AppCall::Stops(name) => {
             stop_app(progress, rt, site, seat, &AppName { name });
@@ -124,7 +124,7 @@ fn start_from<R: Wait>(
     ) {
         Ok(()) => Ok(()),
         Err(error) => match start_cause(error) {
-            Some(cause) => Err(failed(cause)),
+            Some(cause) => Err(failure_at_start(cause)),
             None => Ok(()),
         },
     }

@@ -46,8 +46,8 @@ pub struct Failure {
     pub slot: usize,
 }
 
-// An instruction that failed before anything of it was done.
-pub(crate) fn failed(cause: Cause) -> Failure
+/// An instruction that failed before anything of it was done.
+pub fn failure_at_start(cause: Cause) -> Failure
     ensures { result ≡ (record { cause = cause; modules = 0; slot = 0 }) }
 {
     Failure {

@@ -11,7 +11,7 @@ ghost use Rattle.script_progress.specs.Stops.{AsksMemory, child_takes_memory};
 ghost use Rattle.held_processes.specs.Following.{AreLonger};
 
 use crate::calls::first_atom;
-use crate::cause::failed;
+use crate::cause::failure_at_start;
 use crate::{Cause, Failure, Progress, Site};
 use erl_term::Term;
 use held_processes::{ChildName, NotRestarted};
@@ -79,7 +79,7 @@ fn terminate_child<R: Wait>(
         .terminate_child(rt, site.table, seat, &mut progress.tree, child)
     {
         Ok(()) => Ok(false),
-        Err(_) => Err(failed(Cause::NoSuper)),
+        Err(_) => Err(failure_at_start(Cause::NoSuper)),
     }
 }
 
@@ -106,7 +106,7 @@ fn delete_child<R: Wait>(
         .delete_child(rt, site.table, seat, &mut progress.tree, child)
     {
         Ok(stays) => Ok(stays),
-        Err(_) => Err(failed(Cause::NoSuper)),
+        Err(_) => Err(failure_at_start(Cause::NoSuper)),
     }
 }
 

@@ -6,6 +6,7 @@ ghost use Rattle.script_progress.specs.InMemory.{cause_of};
 ghost use Rattle.script_progress.specs.Steps.{IsCause};
 ghost use Rattle.std.specs.Prelude.{◌≡◌, true};
 
+use crate::cause::failure_at_start;
 use crate::{Cause, Failure};
 use relup_instruction::Call;
 
@@ -14,11 +15,7 @@ pub fn raise(call: &Call) -> Failure
     requires { is_error (call_of call.now) ≡ true }
     ensures { IsCause (error_cause (call_of call.now).args) (cause_of result.cause) }
 {
-    Failure {
-        cause: cause_of_call(call),
-        modules: 0,
-        slot: 0,
-    }
+    failure_at_start(cause_of_call(call))
 }
 
 fn cause_of_call(call: &Call) -> Cause

@@ -22,7 +22,7 @@ mod progress;
 mod site;
 
 pub use calls::apply;
-pub use cause::{Cause, Failure, on_no_child};
+pub use cause::{Cause, Failure, failure_at_start, on_no_child};
 pub use errors::raise;
 pub use progress::Progress;
 pub use site::Site;

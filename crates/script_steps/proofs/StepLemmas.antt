@@ -18,12 +18,13 @@ use Rattle.relup_instruction.specs.Instruction.{ChangeForm, ConversionForm, Fetc
 use Rattle.relup_instruction.specs.Instruction.Instruction.{load_object_code, suspend, load, code_change}
 use Rattle.loaded_modules.specs.Loaded.{Module, NamedModules, library_modules, module_named, with_loaded}
 use Rattle.sup_tree.specs.Tree.{App}
+use Rattle.script_progress.specs.declared.cause.Cause.TheVariants.{NotFetched}
 use Rattle.script_progress.specs.declared.cause.Failure.{Failure}
 use Rattle.script_progress.specs.Fault.{Cause, change_fault, fetch_fault, is_stuck, load_fault, table_fault}
-use Rattle.script_progress.specs.Fault.Cause.{no_change, no_memory, not_fetched}
+use Rattle.script_progress.specs.Fault.Cause.{no_change, no_memory}
 use Rattle.script_progress.specs.InMemory.{cause_of}
 use Rattle.script_progress.specs.Script.{Run, Site, change_courses, change_within, changed, changed_once, changed_within, each_within, fetched_from, fetched_of, library_for, load_within, mode_of, old_version, on_each, processes_changed, supervisors_changed, suspended_in, tables_among, users_in, worker_in}
-use Rattle.script_progress.specs.Steps.{CarriesOut, HasDone, IsCause, IsCauseIn, Past, ProgressForm, followed_in}
+use Rattle.script_progress.specs.Steps.{CarriesOut, HasDone, IsCause, Past, ProgressForm, followed_in}
 use Rattle.script_progress.specs.Stops.{UnlessMemory, is_first_stuck, is_stuck_at}
 use Rattle.script_steps.specs.Steps.{AreDone, ChangesOnce, ChangesProcesses, FailsToChange, GivesTable}
 use Rattle.script_progress.proofs.CallLemmas.{left_true}
@@ -124,13 +125,12 @@ loaded_well s past early p a n hs got before next tree tree' v w named there don
 
 -- it wasn't fetched
 pub load_of_nothing : (s : Site) (past : Past) (early : Bool) (p : PurgingForm) (e : Failure) (a : ProgressForm) (tree : List App) (v : View)
-    → module_named p.name past.run.fetched ≡ None → HasDone past a tree v → cause_of e.cause ≡ not_fetched
+    → module_named p.name past.run.fetched ≡ None → HasDone past a tree v → e ≡ record { cause = NotFetched; modules = 0; slot = 0 }
     → CarriesOut {X = Unit {0}} s past early (load p) (Err e) a tree v v
-load_of_nothing s past early p e a tree v none done is = (
-  subst (λ (c : Cause). IsCauseIn past.first v past.run (load_fault (module_named p.name past.run.fetched) (users_in past.run) p.name) c) (sym is)
-      (ap (λ (o : Option Module). load_fault o (users_in past.run) p.name) none, seen_in past a tree v done),
+load_of_nothing s past early p e a tree v none done is = subst (λ (f : Failure). CarriesOut {X = Unit {0}} s past early (load p) (Err f) a tree v v) (sym is) (
+  (ap (λ (o : Option Module). load_fault o (users_in past.run) p.name) none, seen_in past a tree v done),
   (λ _. refl, tt),
-  subst (λ (o : Option Module). AllFollow past.first (load_within early p.name (worker_in o) e.slot (users_in past.run) past.run.courses) a.held v) (sym none) done.follow,
+  subst (λ (o : Option Module). AllFollow past.first (load_within early p.name (worker_in o) 0 (users_in past.run) past.run.courses) a.held v) (sym none) done.follow,
 )
 
 -- why a single change of code fails

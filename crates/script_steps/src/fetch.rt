@@ -13,7 +13,7 @@ ghost use Rattle.loaded_modules.specs.Loaded.{listed_in};
 use library::Library;
 use loaded_modules::Loaded;
 use relup_instruction::Fetch;
-use script_progress::{Cause, Failure, Progress, Site};
+use script_progress::{Cause, Failure, Progress, Site, failure_at_start};
 use std::alloc::Global;
 use std::rc::Rc;
 
@@ -31,11 +31,7 @@ pub(crate) fn fetch(
 {
     match fetch_from(alloc, site, &mut progress.fetched, fetch) {
         Ok(()) => Ok(()),
-        Err(cause) => Err(Failure {
-            cause,
-            modules: 0,
-            slot: 0,
-        }),
+        Err(cause) => Err(failure_at_start(cause)),
     }
 }
 

@@ -16,7 +16,7 @@ use loaded_modules::Loaded;
 use mod_table::{Table, Worker};
 use proc_table::{HandlerSeat, Pid};
 use relup_instruction::Purging;
-use script_progress::{Cause, Failure, Progress, Site};
+use script_progress::{Cause, Failure, Progress, Site, failure_at_start};
 use std::alloc::Global;
 use std::sync::Wait;
 
@@ -40,11 +40,7 @@ pub(crate) fn load<R: Wait>(
 {
     match progress.fetched.vsn(purging.name.as_str()) {
         Some(_) => load_fetched(progress, rt, alloc, site, seat, early, purging),
-        None => Err(Failure {
-            cause: Cause::NotFetched,
-            modules: 0,
-            slot: 0,
-        }),
+        None => Err(failure_at_start(Cause::NotFetched)),
     }
 }
 
@@ -106,11 +102,7 @@ fn give_table<R: Wait>(
     };
     let Some(worker) = worker_in(&progress.fetched, users.module) else {
         return if is_used(&users) {
-            Err(Failure {
-                cause: Cause::NoTable,
-                modules: 0,
-                slot: 0,
-            })
+            Err(failure_at_start(Cause::NoTable))
         } else {
             Ok(())
         };

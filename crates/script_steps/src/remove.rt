@@ -11,7 +11,7 @@ ghost use Rattle.sup_tree.specs.Tree.{supervises};
 use held_processes::Users;
 use proc_table::HandlerSeat;
 use relup_instruction::Purging;
-use script_progress::{Cause, Failure, Progress, Site};
+use script_progress::{Cause, Failure, Progress, Site, failure_at_start};
 use std::sync::Wait;
 
 // The module isn't loaded any more, unless it runs somewhere.
@@ -31,11 +31,7 @@ pub(crate) fn remove<R: Wait>(
         result (progress_of progress.new) progress.new.tree seat.old.view seat.new.view }
 {
     if is_in_use(progress, rt, site, seat, purging) {
-        return Err(Failure {
-            cause: Cause::InUse,
-            modules: 0,
-            slot: 0,
-        });
+        return Err(failure_at_start(Cause::InUse));
     }
     progress.next.remove(purging.name.as_str());
     Ok(())

@@ -8,7 +8,7 @@ use Rattle.started_members.specs.declared.member.StartedProcess.{StartedProcess}
 use Rattle.started_members.specs.Ends.{EndedInOrder, MemberEnded}
 use Rattle.started_members.specs.Members.{pids_of, process_and, process_in, processes_among}
 
-processes_of_both : (o : Option StartedProcess) (ps qs : List StartedProcess) → process_and o (ps ++ qs) ≡ process_and o ps ++ qs
+pub processes_of_both : (o : Option StartedProcess) (ps qs : List StartedProcess) → process_and o (ps ++ qs) ≡ process_and o ps ++ qs
 processes_of_both None ps qs = refl
 processes_of_both (Some p) ps qs = refl
 

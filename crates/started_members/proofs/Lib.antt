@@ -2,3 +2,4 @@ pub mod BeginLemmas
 pub mod EndLemmas
 pub mod ChangeLemmas
 pub mod PlaceLemmas
+pub mod KeepLemmas

@@ -1,5 +1,5 @@
--- Laws of processes that begin.
-use Rattle.std.specs.Prelude.{◌≡◌, ℕ, suc, ◌+◌, ◌<◌, ◌≤◌, List, [], ◌∷◌, length, None, Some}
+-- Laws of processes that begin, and of members that change.
+use Rattle.std.specs.Prelude.{◌≡◌, ℕ, suc, ◌+◌, ◌<◌, ◌≤◌, List, [], ◌∷◌, length, None, Some, IsPermutation}
 use Rattle.proc_history.specs.Histories.{replay}
 use Rattle.proc_history.specs.Values.{begun}
 use Rattle.proc_table.specs.declared.view.View.{View}
@@ -8,6 +8,10 @@ use Rattle.proc_table.specs.Views.{seen, handler_view}
 use Rattle.proc_table.specs.Free.{next_in}
 use Rattle.started_members.specs.declared.member.StartedProcess.{StartedProcess}
 use Rattle.app_members.specs.Walk.{Start}
+use Rattle.mod_table.specs.Table.{ChildSpec}
+use Rattle.started_members.specs.declared.member.Member.{Member}
+use Rattle.started_members.specs.Changes.{members_changed}
+use Rattle.started_members.specs.Members.{processes_among}
 use Rattle.started_members.specs.Begins.{beginning_of, BeganInOrder}
 
 -- Each stands where it began, with the names of its application and its id, in the first state of its table.
@@ -34,3 +38,9 @@ abbrev pub FirstSlots : Type 0
 FirstSlots = FreeFrom 0 (handler_view slots)
     × ((app : List ℕ) (ss : List Start) (n : ℕ) (v w : View) (ps : List StartedProcess) → FreeFrom n v → BeganInOrder app ss v ps w
     → AreFrom n ps × FreeFrom (n + length ps) w)
+
+-- Where the supervisors of a module get other children, the processes are those from before, in another order: none is lost, and none
+-- stands twice.
+abbrev pub KeepsProcesses : Type 0
+KeepsProcesses = (name : List ℕ) (cs : List ChildSpec) (ms : List Member)
+    → IsPermutation (processes_among ms) (processes_among (members_changed name cs ms))

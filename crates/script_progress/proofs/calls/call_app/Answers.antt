@@ -23,4 +23,4 @@ returns-in-Some-clause-memory g c =
     subst (λ (k : AppCall). AsksMemory (app_takes_memory (app_call_of k)) c.start_from.result) (sym c.in-Starts.is) (asks_memory c.start_from.result)
 
 pub returns-in-None-clause-memory : goal.returns-in-None-clause-memory
-returns-in-None-clause-memory g c = subst (λ (k : AppCall). AsksMemory {X = Unit {0}} (app_takes_memory (app_call_of k)) (Err c.failed.result)) (sym c.in-Starts.is) (λ _. refl)
+returns-in-None-clause-memory g c = subst (λ (k : AppCall). AsksMemory {X = Unit {0}} (app_takes_memory (app_call_of k)) (Err c.failure_at_start.result)) (sym c.in-Starts.is) (λ _. refl)

@@ -16,8 +16,8 @@ returns-in-Ok-clause-started g c =
 
 pub returns-in-Some-clause-started : goal.returns-in-Some-clause-started
 returns-in-Some-clause-started g c = (
-  start_fails g.past (library_of c.args.library.now) (progress_of c.args.progress.now) c.args.progress.now.tree c.args.seat.now.view (modules_in c.args.progress.now.next) c.in-Err.error (cause_of c.failed.result.cause)
+  start_fails g.past (library_of c.args.library.now) (progress_of c.args.progress.now) c.args.progress.now.tree c.args.seat.now.view (modules_in c.args.progress.now.next) c.in-Err.error (cause_of c.failure_at_start.result.cause)
       c.requires.1.1 (found_as_listed c.args.progress.now.next) c.in-Err.ensures.started.0
-      (sym c.start_cause.ensures ∙ (ap (option_map cause_of) c.in-Some.is ∙ ap (λ (f : Failure). Some (cause_of f.cause)) (sym c.failed.ensures))),
+      (sym c.start_cause.ensures ∙ (ap (option_map cause_of) c.in-Some.is ∙ ap (λ (f : Failure). Some (cause_of f.cause)) (sym c.failure_at_start.ensures))),
   c.in-Err.ensures.started.2,
 )

@@ -3,8 +3,6 @@ use Rattle.std.specs.Option.{option_map}
 use Rattle.relup_instruction.specs.Instruction.{purging_of}
 use Rattle.loaded_modules.specs.Loaded.{Module, NamedModules, module_named, modules_in}
 use Rattle.loaded_modules.proofs.NamedLemmas.{found_as_listed}
-use Rattle.script_progress.specs.declared.cause.Cause.TheVariants.{NotFetched}
-use Rattle.script_progress.specs.declared.cause.Failure.{Failure}
 use Rattle.script_progress.specs.InMemory.{site_of}
 use Rattle.script_progress.specs.Steps.{progress_of}
 use Rattle.script_steps.proofs.StepLemmas.{load_of_nothing}
@@ -30,8 +28,7 @@ pub returns-in-None-clause-carried : goal.returns-in-None-clause-carried
 returns-in-None-clause-carried g c =
     let name = c.as_str.result.now in
     let gone : modules_in c.args.progress.now.fetched name ≡ None = none_there (modules_in c.args.progress.now.fetched name) c.in-None.ensures in
-    let nothing : Failure = record { cause = NotFetched; modules = 0; slot = 0 } in
-    load_of_nothing (site_of c.args.site.now) g.past c.args.early (purging_of c.args.purging.now) nothing (progress_of c.args.progress.now) c.args.progress.now.tree c.args.seat.now.view
+    load_of_nothing (site_of c.args.site.now) g.past c.args.early (purging_of c.args.purging.now) c.failure_at_start.result (progress_of c.args.progress.now) c.args.progress.now.tree c.args.seat.now.view
     (ap (λ (n : List ℕ). module_named n g.past.run.fetched) (sym c.as_str.ensures.value)
     ∙ (ap (module_named name) (sym c.requires.1.1.fetched) ∙ (sym (found_as_listed c.args.progress.now.fetched name) ∙ gone)))
-    c.requires.1.1 refl
+    c.requires.1.1 c.failure_at_start.ensures
