@@ -4,9 +4,9 @@ use Rattle.std.specs.Option.{option_map, option_and_then}
 use Rattle.erl_term.specs.Value.{Value}
 use Rattle.rel_files.specs.declared.fault.FileFault.{FileFault}
 use Rattle.rel_files.specs.declared.fault.FileFault.TheVariants.{NoMemory}
-use Rattle.rel_files.specs.Kind.{HasTermAt}
+use Rattle.rel_files.specs.OneTermFile.{HasTermAt}
 use Rattle.rel_files.specs.Fault.{fault_of}
-use Rattle.rel_files.proofs.OneTermFiles.{never_of_term}
+use Rattle.rel_files.proofs.KindFiles.{never_of_term}
 use Rattle.app_file.specs.declared.app.App.{App}
 use Rattle.app_file.specs.Parts.{Entries, Contents, value_at, vsn_in, modules_at, top_at, contents, contents_in}
 use Rattle.app_file.specs.File.{Specification, app_files, with_term, specification_in, IsAppTerm, SaysApp, IsTermFault, IsAppFault}

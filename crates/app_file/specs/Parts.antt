@@ -3,9 +3,9 @@ use Rattle.std.specs.Prelude.{ℕ, Bool, true, false, List, [], ◌∷◌, Optio
 use Rattle.std.specs.List.{find}
 use Rattle.std.specs.Option.{option_map, option_and_then}
 use Rattle.erl_term.specs.Value.{Value, Values}
-use Rattle.erl_term.specs.Value.Value.{list, tuple}
+use Rattle.erl_term.specs.Value.Value.{list}
 use Rattle.erl_term.specs.Value.Values.{no_values, value}
-use Rattle.rel_files.specs.Parts.{list_in, pair_in, three, is_word}
+use Rattle.rel_files.specs.Parts.{list_in, pair_in, triple_in, is_word}
 use Rattle.rel_files.specs.Sketch.{name_in, names_in, version_or_empty}
 
 -- the pairs, where each is one
@@ -18,17 +18,13 @@ pub record Entries : Type 0 where
   pub name : List ℕ
   pub pairs : List (Value × Value)
 
-abbrev pub entries_of : Values → Option Entries
-entries_of vs =
+-- {application, App, [{Key, Value}]}
+abbrev pub entries_in : Value → Option Entries
+entries_in v =
     option_and_then (λ m. if is_word (codes "application") m.0 then
     option_and_then (λ name. option_map (λ pairs. record { name = name; pairs = pairs })
     (option_and_then pairs_in (list_in m.2))) (name_in m.1)
-    else None) (three vs)
-
--- {application, App, [{Key, Value}]}
-abbrev pub entries_in : Value → Option Entries
-entries_in (tuple vs) = entries_of vs
-entries_in v = None
+    else None) (triple_in v)
 
 -- the value of a key; of equal keys the first counts
 abbrev pub value_at : List ℕ → List (Value × Value) → Option Value

@@ -10,7 +10,7 @@ ghost use Rattle.app_file.specs.InMemory.{contents_of};
 use crate::pairs::{pairs_in, value_at};
 use erl_term::Term;
 use rel_files::duplicates::first_name_twice;
-use rel_files::parts::{is_word, list_in, pair_in, three};
+use rel_files::parts::{is_word, list_in, pair_in, triple_in};
 use rel_files::text::{name_in, names_in, version_or_empty};
 use std::alloc::{AllocError, Global};
 
@@ -61,10 +61,7 @@ fn entries_in(alloc: Global, term: &Term) -> Result<Option<Entries<'_>>, AllocEr
       pairs = map (λ p. (value_of p.0.now, value_of p.1.now)) e.pairs.items;
     }) entries ≡ entries_in (value_of term.now)) }
 {
-    let Term::Tuple(members) = term else {
-        return Ok(None);
-    };
-    let Some((word, name, items)) = three(members) else {
+    let Some((word, name, items)) = triple_in(term) else {
         return Ok(None);
     };
     if !is_word(word, "application") {

@@ -1,5 +1,5 @@
 -- An application, by what is found below its top, and a child that starts alone.
-use Rattle.std.proofs.Common.{◌≡◌, ℕ, suc, ◌+◌, ◌-◌, ◌<◌, ◌≤◌, true, false, List, [], ◌∷◌, length, nat_lt, Option, Some, None, if◌then◌else◌, refl, ap, sym, subst, ◌∙◌, arith}
+use Rattle.std.proofs.Common.{◌≡◌, ℕ, suc, ◌+◌, ◌-◌, ◌<◌, ◌≤◌, true, false, List, [], ◌∷◌, length, nat_lt, Option, Some, None, if◌then◌else◌, refl, ap, sym, ◌∙◌, arith}
 use Rattle.std.specs.Option.{option_or}
 use Rattle.std.proofs.lemmas.Bool.Decides.{nat_tests}
 use Rattle.app_members.specs.declared.error.MembersError.{MembersError}
@@ -53,11 +53,6 @@ crowded (NoTable m) ms many = absurd many
 -- nothing is wrong where there is no top
 pub without_top : (tables : Tables) (top : Option (List ℕ)) → worker_at_top tables top ≡ None → top_children tables top ≡ [] → app_members tables top ≡ [] → app_fault tables top ≡ None
 without_top tables top none children members = below_top tables top [] [] none children members ∙ none_wrong (children_fault 8 tables []) [] (no_children tables) (omega arith)
-
--- the top has the table of a worker
-pub worker_wrong : (tables : Tables) (top : Option (List ℕ)) (e : MembersError) (f : StartFault) → worker_at_top tables top ≡ Some f → FaultIs e (Some f) → FaultIs e (app_fault tables top)
-worker_wrong tables top e f is told =
-    subst (FaultIs e) (sym (ap (λ o. option_or o (option_or (children_fault 8 tables (top_children tables top)) (crowd_fault (app_members tables top)))) is)) told
 
 -- a child that starts alone, by its table
 pub record LoneChild (tables : Tables) (depth : ℕ) (c : ChildSpec) (left : ℕ) (m : NewMember) : Type 0 where

@@ -9,7 +9,7 @@ use thiserror::Error;
 /// reported.
 #[derive(Clone, Copy, Debug, Error)]
 pub enum MembersError<'a> {
-    /// This module has no table, or not one of the kind that a child or a top asks for.
+    /// This module, of a child, has no table or one of the other kind; or it is a top and has the table of a worker.
     #[error("NoTable")]
     NoTable(&'a str),
     /// Supervisors stand in each other deeper than 8, or there are more than 4,096 processes and supervisors.

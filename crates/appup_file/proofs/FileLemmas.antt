@@ -6,8 +6,9 @@ use Rattle.rel_files.specs.declared.fault.FileFault.{FileFault}
 use Rattle.rel_files.specs.declared.fault.FileFault.TheVariants as file
 use Rattle.rel_files.specs.Fault.{Fault}
 use Rattle.rel_files.specs.Fault.Fault.{bad_term, bad_shape, duplicate, bad_version, no_memory}
-use Rattle.rel_files.specs.Kind.{HasTermAt, HasNoTerm, IsCountFault, HasFault}
-use Rattle.rel_files.proofs.OneTermFiles.{one_fault as one_kind_fault, never_says_and_fails, says_or_fault as kind_says_or_fault}
+use Rattle.rel_files.specs.Kind.{HasFault}
+use Rattle.rel_files.specs.OneTermFile.{HasTermAt, HasNoTerm, IsCountFault}
+use Rattle.rel_files.proofs.KindFiles.{one_fault as one_kind_fault, never_says_and_fails, says_or_fault as kind_says_or_fault}
 use Rattle.appup_file.specs.declared.fault.AppupFault.{AppupFault}
 use Rattle.appup_file.specs.declared.fault.AppupFault.TheVariants.{BadTerm, BadShape, NoMemory}
 use Rattle.appup_file.specs.declared.appup.Appup.{Appup}

@@ -16,9 +16,10 @@ use Rattle.relup_instruction.specs.declared.instruction.Timeout.{Timeout}
 use Rattle.relup_instruction.specs.declared.instruction.PurgeMode.{PurgeMode}
 use Rattle.relup_instruction.specs.Instruction.{Instruction}
 use Rattle.relup_instruction.specs.Instruction.Instruction.{load_object_code, point_of_no_return, suspend, load, code_change, resume, remove, purge, stop, start, apply, sync_nodes, restart_new_emulator, restart_emulator}
-use Rattle.relup_instruction.specs.Form.{one, command, atoms_term, purge_word, timeout_term, mode_members, instruction_term, IsTimeout}
+use Rattle.relup_instruction.specs.Form.{one, command, purge_word, timeout_term, mode_members, instruction_term, IsTimeout}
 use Rattle.relup_instruction.specs.Parts.{purge_mode_in}
-use Rattle.relup_instruction.proofs.Pieces.{names_in-atoms, purge_mode_of-word, timeout_in-term}
+use Rattle.rel_files.proofs.TermParts.{names_in-atoms}
+use Rattle.relup_instruction.proofs.Pieces.{purge_mode_of-word, timeout_in-term}
 use Rattle.relup_instruction.proofs.InstructionLemmas.{instruction_in-term}
 use Rattle.appup_file.specs.declared.instruction.ModType.{ModType}
 use Rattle.appup_file.specs.declared.instruction.ModType.TheVariants.{Static, Dynamic}
@@ -28,6 +29,7 @@ use Rattle.appup_file.specs.Instruction.AppupInstruction.{update, load_module, a
 use Rattle.appup_file.specs.Form.{change_term, mod_type_word, purge_members, update_members, named, full_term, in_full, IsAppupInstruction}
 use Rattle.appup_file.specs.Parts.{change_in, mod_type_in, plain, with_dep_mods, with_post, with_ending, with_purges, with_timed, with_typed, purged_load, app_in, named_in, headed_in, high_level_in, or_low_level, appup_instruction_in}
 use Rattle.appup_file.proofs.Defaults.{silent}
+use Rattle.rel_files.specs.Terms.{atoms_term}
 
 mod_type_in-word : (k : ModType) → mod_type_in (atom (mod_type_word k)) ≡ Some k
 mod_type_in-word Static = refl

@@ -3,7 +3,6 @@ use Rattle.std.proofs.Common.{◌≡◌, ℕ, Bool, true, false, List, [], Optio
 use Rattle.std.specs.List.{AllByRecursion}
 use Rattle.std.specs.Option.{option_map, option_and_then}
 use Rattle.std.specs.Str.{bytes_eq}
-use Rattle.std.proofs.lemmas.Slice.Eq.{bytes_eq-Decides}
 use Rattle.erl_term.specs.Value.{Value, Values}
 use Rattle.erl_term.specs.Value.Value.{atom, list, tuple}
 use Rattle.erl_term.specs.Value.Values.{no_values, value}
@@ -13,13 +12,14 @@ use Rattle.rel_files.specs.Form.{start_word}
 use Rattle.rel_files.specs.Parts.{pair_in, is_word, word_in}
 use Rattle.rel_files.specs.Sketch.{name_in, start_of, names_in}
 use Rattle.rel_files.proofs.Endings.{from_start}
-use Rattle.rel_files.proofs.Options.{mapped, chained, passed}
+use Rattle.rel_files.proofs.Options.{mapped, chained, passed, choose}
 use Rattle.relup_instruction.specs.declared.instruction.Timeout.{Timeout}
 use Rattle.relup_instruction.specs.declared.instruction.Timeout.TheVariants.{Default}
 use Rattle.relup_instruction.specs.declared.instruction.PurgeMode.{PurgeMode}
-use Rattle.relup_instruction.specs.Form.{one, pair_term, atoms_term, purge_word, timeout_term, IsTimeout}
+use Rattle.relup_instruction.specs.Form.{one, purge_word, timeout_term, IsTimeout}
 use Rattle.relup_instruction.specs.Parts.{purge_mode_in, timeout_in, instruction_in}
-use Rattle.relup_instruction.proofs.Pieces.{choose, from_pair, from_word, from_name, from_names_in, from_purge_mode, from_timeout}
+use Rattle.rel_files.proofs.TermParts.{from_pair, from_word, from_name, from_names_in, from_is_word}
+use Rattle.relup_instruction.proofs.Pieces.{from_purge_mode, from_timeout}
 use Rattle.relup_instruction.proofs.InstructionLemmas.{from_instruction}
 use Rattle.appup_file.specs.declared.instruction.ModType.{ModType}
 use Rattle.appup_file.specs.declared.instruction.ModType.TheVariants.{Static, Dynamic}
@@ -30,10 +30,7 @@ use Rattle.appup_file.specs.Form.{change_term, mod_type_word, purge_members, upd
 use Rattle.appup_file.specs.Parts.{advanced_in, change_in, mod_type_of, mod_type_in, plain, with_change, with_dep_mods, with_pre, with_post, with_timeout, with_mod_type, with_ending, with_purges, with_timed, with_typed, update_in, purged_load, load_in, dependent_in, start_in, added_in, app_in, named_in, headed_in, high_level_in, or_low_level, appup_instruction_in}
 use Rattle.appup_file.proofs.Defaults.{update_defaults}
 use Rattle.appup_file.proofs.FullTerms.{loaded, depending, added, low_in_full}
-
-from_is_word : (w : List ℕ) (v : Value) → is_word w v ≡ true → v ≡ atom w
-from_is_word w (atom s) e = ap atom ((bytes_eq-Decides s w).0 e)
-from_is_word w v e = absurd cc
+use Rattle.rel_files.specs.Terms.{pair_term, atoms_term}
 
 from_change : (v : Value) (c : ChangeForm) → change_in v ≡ Some c → v ≡ change_term c
 from_change (atom s) c e =

@@ -6,9 +6,8 @@ use Rattle.erl_term.specs.Value.{Value, Values, values_of}
 use Rattle.erl_term.specs.Value.Value.{list, bin}
 use Rattle.rel_files.specs.Parts.{list_in, pair_in}
 use Rattle.rel_files.proofs.Options.{mapped, chained}
-use Rattle.relup_instruction.specs.Form.{pair_term}
 use Rattle.relup_instruction.specs.Parts.{all_in}
-use Rattle.relup_instruction.proofs.Pieces.{from_list, from_pair, version_in-text, from_version}
+use Rattle.rel_files.proofs.TermParts.{from_list, from_pair, version_in-text, from_version}
 use Rattle.relup_instruction.proofs.InstructionLemmas.{list_of_values}
 use Rattle.relup_file.specs.Parts.{outer_in}
 use Rattle.relup_file.proofs.RelupLemmas.{outer_in-term, from_outer_in}
@@ -21,6 +20,7 @@ use Rattle.appup_file.specs.File.{TermSaysAppup}
 use Rattle.appup_file.proofs.Defaults.{defaults}
 use Rattle.appup_file.proofs.FullTerms.{full}
 use Rattle.appup_file.proofs.Spellings.{spelled}
+use Rattle.rel_files.specs.Terms.{pair_term}
 
 reads : (v : Value) (i : AppupInstruction) → Spells v i → appup_instruction_in v ≡ Some i
 reads v i h = defaults v ∙ (ap appup_instruction_in h.0 ∙ full i h.1)

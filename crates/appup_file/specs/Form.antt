@@ -5,13 +5,13 @@ use Rattle.std.specs.Str.{bytes_eq}
 use Rattle.erl_term.specs.Value.{Value, Values}
 use Rattle.erl_term.specs.Value.Value.{atom, list, tuple, bin}
 use Rattle.erl_term.specs.Value.Values.{no_values, value}
-use Rattle.rel_files.specs.Form.{list_of, start_word}
+use Rattle.rel_files.specs.Form.{start_word}
 use Rattle.rel_files.specs.Name.{IsName, IsVersion}
 use Rattle.rel_files.specs.Parts.{is_word}
 use Rattle.rel_files.specs.declared.release.StartType.TheVariants.{Permanent}
 use Rattle.relup_instruction.specs.declared.instruction.PurgeMode.TheVariants.{Brutal}
 use Rattle.relup_instruction.specs.declared.instruction.Timeout.TheVariants.{Default}
-use Rattle.relup_instruction.specs.Form.{one, pair_term, command, text_term, atoms_term, purge_word, timeout_term, IsTimeout, IsInstruction}
+use Rattle.relup_instruction.specs.Form.{one, command, purge_word, timeout_term, IsTimeout, IsInstruction}
 use Rattle.relup_instruction.specs.Form as relup
 use Rattle.relup_file.specs.Form.{IsOuter}
 use Rattle.appup_file.specs.declared.instruction.ModType.{ModType}
@@ -20,6 +20,7 @@ use Rattle.appup_file.specs.Instruction.{ChangeForm, AppupInstruction, VersionFo
 use Rattle.appup_file.specs.Instruction.ChangeForm.{soft, advanced}
 use Rattle.appup_file.specs.Instruction.AppupInstruction.{update, load_module, add_module, delete_module, add_application, remove_application, restart_application, low_level}
 use Rattle.appup_file.specs.Instruction.VersionForm.{text, pattern}
+use Rattle.rel_files.specs.Terms.{list_of, pair_term, text_term, atoms_term}
 
 -- soft or {advanced, Extra}
 abbrev pub change_term : ChangeForm → Value

@@ -10,7 +10,7 @@ use crate::{Dependent, ModuleLoad};
 use erl_term::Term;
 use rel_files::text::names_in;
 use relup_instruction::PurgeMode;
-use relup_instruction::members::purge_mode_in;
+use relup_instruction::words::purge_mode_in;
 use std::alloc::{AllocError, Global};
 
 // The modules on which it depends, none where they are not written.

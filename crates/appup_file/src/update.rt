@@ -9,7 +9,7 @@ use crate::{AppupInstr, ModType, StateChange, Update};
 use erl_term::Term;
 use rel_files::parts::{is_word, pair_in, word_in};
 use rel_files::text::names_in;
-use relup_instruction::members::{purge_mode_in, timeout_in};
+use relup_instruction::words::{purge_mode_in, timeout_in};
 use relup_instruction::{PurgeMode, Timeout};
 use std::alloc::{AllocError, Global};
 

@@ -75,8 +75,3 @@ by_name None x xs = itself x xs
 abbrev pub escape : List ℕ → Character
 escape bytes =
     with_next bytes (λ x xs. if is_digit x 8 then octal (x ∷ xs) else if x == 120 then hexadecimal xs else if x == 94 then caret xs else by_name (letter_character x) x xs)
-
--- a character that stands by itself: it, or an escape and its backslash
-abbrev pub behind_backslash : Character → Character
-behind_backslash (means c size) = means c (size + 1)
-behind_backslash c = c

@@ -13,29 +13,22 @@ use Rattle.std.proofs.lemmas.Fmt.{digits_is_IsNumeral}
 use Rattle.std.proofs.lemmas.Str.{chars-encodes, encodes-chars, scalars-chars}
 use Rattle.erl_number.specs.Escapes.{front, with_next, scalar, escape}
 use Rattle.erl_number.specs.Escapes.Character.{means, senseless}
-use Rattle.erl_token.specs.Quotes.{Quoted, behind, quoted}
-use Rattle.erl_token.specs.Quotes.Quoted.{closed, faulty}
+use Rattle.erl_token.specs.Quotes.{behind, quoted}
+use Rattle.erl_token.specs.Quotes.Quoted.{closed}
 use Rattle.erl_token.specs.Lexing.{name_spelling, name_in_quotes, text_in_quotes, lex}
 use Rattle.erl_token.specs.Lexing.Token.{name, text}
 use Rattle.erl_token.specs.Lexing.Start.{token_of}
 use Rattle.erl_term.specs.Within.{IsShortName}
 use Rattle.erl_term.proofs.TokenTexts.{lex_token}
 use Rattle.erl_term.specs.Printing.{atom_character, string_character, is_printable}
-
-behind-behind : (s t : List ℕ) (m n : ℕ) (q : Quoted) → behind s m (behind t n q) ≡ behind (s ++ t) (m + n) q
-behind-behind s t m n (closed u k) = let size : m + (n + k) ≡ m + n + k = omega arith in rw size (ap (λ x. closed x (m + n + k)) (sym (append_assoc s t u)))
-behind-behind s t m n (faulty f) = refl
-
-behind-none : (q : Quoted) → behind [] 0 q ≡ q
-behind-none (closed u k) = let size : 0 + k ≡ k = omega arith in rw size refl
-behind-none (faulty f) = refl
+use Rattle.erl_token.proofs.QuoteLemmas.{behind-behind, behind-nothing}
 
 -- Within these quotes the bytes stand for the text.
 abbrev pub StandFor : ℕ → List ℕ → List ℕ → Type 0
 StandFor quote bs s = (from at : ℕ) (rest : List ℕ) → quoted quote from at 0 (bs ++ rest) ≡ behind s (length bs) (quoted quote from (at + length bs) 0 rest)
 
 stand-none : (quote : ℕ) → StandFor quote [] []
-stand-none quote from at rest = ap (λ n. quoted quote from n 0 rest) (omega arith) ∙ sym (behind-none (quoted quote from (at + 0) 0 rest))
+stand-none quote from at rest = ap (λ n. quoted quote from n 0 rest) (omega arith) ∙ sym (behind-nothing (quoted quote from (at + 0) 0 rest))
 
 stand-append : (quote : ℕ) (bs ds s t : List ℕ) → StandFor quote bs s → StandFor quote ds t → StandFor quote (bs ++ ds) (s ++ t)
 stand-append quote bs ds s t p q from at rest =
@@ -69,7 +62,7 @@ stand-all_plain quote (x ∷ xs) h =
 
 -- what an escape takes is passed over
 passed-over : (quote from at : ℕ) (bs rest : List ℕ) → quoted quote from at (length bs) (bs ++ rest) ≡ behind [] (length bs) (quoted quote from (at + length bs) 0 rest)
-passed-over quote from at [] rest = ap (λ n. quoted quote from n 0 rest) (omega arith) ∙ sym (behind-none (quoted quote from (at + 0) 0 rest))
+passed-over quote from at [] rest = ap (λ n. quoted quote from n 0 rest) (omega arith) ∙ sym (behind-nothing (quoted quote from (at + 0) 0 rest))
 passed-over quote from at (x ∷ xs) rest =
     let size : 1 + length xs ≡ length (x ∷ xs) = omega arith in
     let place : at + 1 + length xs ≡ at + length (x ∷ xs) = omega arith in

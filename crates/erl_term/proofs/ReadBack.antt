@@ -27,6 +27,7 @@ use Rattle.erl_term.proofs.Characters.{values-characters_of}
 use Rattle.erl_term.proofs.Joins.{AreApart, join-apart, term_apart}
 use Rattle.erl_term.proofs.QuotedTexts.{stand-atom, stand-string, chars-string, lex_quoted_name, lex_string}
 use Rattle.erl_term.proofs.TokenTexts.{IsBehind, lex_token, lex_name, lex_number}
+use Rattle.erl_term.proofs.Passes.{last_to-end}
 
 -- Rows
 
@@ -54,11 +55,6 @@ row-none at rest = record { items = []; spelled = refl; all = ap (λ n. lex n 0 
 abbrev row-one : (at : ℕ) (s rest : List ℕ) (t : Token) →
     lex at 0 (s ++ rest) ≡ record { token = t; from = at; to = at + length s } ∷ lex (at + length s) 0 rest → Row at s rest (t ∷ [])
 row-one at s rest t e = record { items = record { token = t; from = at; to = at + length s } ∷ []; spelled = refl; all = e }
-
-last_to-append : (is : List Item) (i : Item) → last_to (is ++ i ∷ []) ≡ i.to
-last_to-append [] i = refl
-last_to-append (j ∷ []) i = refl
-last_to-append (j ∷ k ∷ is) i = last_to-append (k ∷ is) i
 
 -- Terms
 
@@ -181,7 +177,7 @@ spells-bracket v p m l r first last s ts means fits whole is opens closes stop r
   row = λ at rest e. record { items = (between at rest).items; spelled = (between at rest).spelled ∙ sym is; all = (between at rest).all };
   from = λ at rest e. refl;
   to = λ at rest e.
-      last_to-append (record { token = first; from = at; to = at + length l } ∷ (row (at + length l) (r ++ rest) (stop rest)).items)
+      last_to-end (record { token = first; from = at; to = at + length l } ∷ (row (at + length l) (r ++ rest) (stop rest)).items)
       (record { token = last; from = at + length l + length s; to = at + length l + length s + length r })
       ∙ omega (arith, length-append l (s ++ r), length-append s r);
 }

@@ -19,7 +19,7 @@ use Rattle.erl_term.specs.Machine.{Level, State, Progress, kind_of, bracket_of, 
 use Rattle.erl_term.specs.Machine.State.{begun, whole, inside}
 use Rattle.erl_term.specs.Machine.Kind.{leaf}
 use Rattle.erl_term.proofs.Passes.{progress, reading, closes, kind_of-closes, next_leaf, next_closing, bracket_of-with_member}
-use Rattle.erl_term.proofs.StateLemmas.{same_bracket}
+use Rattle.erl_term.proofs.StateLemmas.{same_bracket, some_same}
 use Rattle.erl_term.proofs.Viability.{plain, zero_adds, runs_on, viable_front, may_come, may_not_come}
 
 -- Members and ends of brackets
@@ -35,9 +35,6 @@ close_refused limit done (whole r) b h = rw (kind_of-closes b) refl
 close_refused limit done (inside First l ls) b h = rw (kind_of-closes b, h) refl
 close_refused limit done (inside Next l ls) b h = rw (kind_of-closes b) refl
 close_refused limit done (inside Later l ls) b h = rw (kind_of-closes b, h) refl
-
-some_same : {A : Type 0} (a b : A) → Some a ≡ Some b → a ≡ b
-some_same a b e = cc
 
 put_keeps : (done : List Reading) (l : Level) (ls : List Level) (q : Progress) (b : Bracket) (v : Value) → is_same (bracket_of l.members) b ≡ false → (o : Option (List ℕ))
     → option_map (λ bs. progress done (put (reading v 0 0) bs (l ∷ ls))) o ≡ Some q → is_inside q.state b ≡ false

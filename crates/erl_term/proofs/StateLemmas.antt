@@ -68,7 +68,7 @@ Row limit (inside slot l ls) row =
 abbrev pub Stands : ℕ → Progress → List Item → Type 0
 Stands limit p is = (before row : List Item) × (is ≡ before ++ row) × AreTerms limit before p.done × Row limit p.state row
 
-some_same : {A : Type 0} (a b : A) → Some a ≡ Some b → a ≡ b
+pub some_same : {A : Type 0} (a b : A) → Some a ≡ Some b → a ≡ b
 some_same a b e = cc
 
 free_stands : (limit : ℕ) (s : State) (ls : List Level) (row : List Item) → open_levels s ≡ Some ls → Row limit s row → Free limit ls row

@@ -35,7 +35,7 @@ use Rattle.sup_tree.specs.Stops.{StopsApp}
 use Rattle.sup_tree.specs.Tree.{App, app_pids, members_of}
 use Rattle.started_members.specs.Members.{pids_of, process_and, process_in, processes_among}
 use Rattle.app_members.specs.Walk.{Start, app_members, app_starts}
-use Rattle.held_processes.specs.Applications.{IsWhyNot, Scene, StartsIn, all_begun, all_ended, all_stopped, begun_at, ended_at, held_ended, known, match_pid, pids_for, state_ended, room_in, round_in, scene_at, taken_at, with_started, with_stopped, with_stopped_app}
+use Rattle.held_processes.specs.Applications.{IsWhyNot, Scene, StartsIn, all_begun, all_ended, all_stopped, begun_at, ended_at, held_ended, known, match_pid, pids_for, state_ended, room_in, round_in, scene_at, taken_at, with_stopped, with_stopped_app}
 use Rattle.held_processes.specs.Course.{Course, Courses, Hold, add_alone, added, course_after, if_held, let_go, add}
 use Rattle.held_processes.specs.Course.Hold.{not_held, until_point, until_resumed}
 use Rattle.held_processes.specs.Course.Operation.{give_up}
@@ -200,12 +200,6 @@ starts_in followed hs v apps name top tables (Err e) apps' w f legal s = (
   s.1,
   subst (AllFollow followed.first followed.courses hs) (sym s.2) f,
 )
-
--- whether it is started or not, courses are followed
-pub starts_follow : {X : Type 0} (first : View) (name : List ℕ) (top : Option (List ℕ)) (tables : Tables) (s : Scene) (r : Result X StartError) (apps : List App) (hs : HeldSlots) (w : View)
-    → StartsIn first name top tables s r apps hs w → (courses : Courses) × AllFollow first courses hs w
-starts_follow first name top tables s (Ok x) apps hs w is = ((with_started name top tables s).courses, is.follow)
-starts_follow first name top tables s (Err e) apps hs w is = (s.courses, is.2)
 
 -- a process that ends
 

@@ -38,7 +38,7 @@ use Rattle.held_processes.proofs.ChangeLemmas.{held_value}
 use Rattle.held_processes.proofs.FollowLemmas.{at_slot, follow_same, past_of}
 use Rattle.held_processes.proofs.LongerLemmas.{end_longer, look_longer, same_longer}
 use Rattle.held_processes.proofs.LookLemmas.{looked_at}
-use Rattle.held_processes.proofs.SlotLemmas.{gives_back, longer_both, longer_still, looked_value}
+use Rattle.held_processes.proofs.SlotLemmas.{gives_back, longer_both, longer_still, looked_value, free_case, held_case}
 
 pub terminates_in : {X E : Type 0} (followed : Followed) (hs : HeldSlots) (v : View) (apps : List App) (name id : List ℕ) (r : Result X E) (apps' : List App) (w : View) → has_one_supervisor name apps ≡ true
     → AllFollow followed.first (held_ended (pids_of (processes_among (child_members name id apps))) followed.courses) hs v → TerminatesChild name id apps v r apps' w
@@ -49,14 +49,6 @@ terminates_in followed hs v apps name id (Err e) apps' w one f t = absurd (true�
 
 -- a process that is held, and one that isn't
 
-held_is : {X : Type 0} (k : Hold) (a b : X) → (k ≡ not_held → ⊥) → if_held k a b ≡ a
-held_is not_held a b really = absurd (really refl)
-held_is until_point a b really = refl
-held_is until_resumed a b really = refl
-
-free_is : {X : Type 0} (k : Hold) (a b : X) → k ≡ not_held → if_held k a b ≡ b
-free_is k a b is = ap (λ (j : Hold). if_held j a b) is
-
 -- whether it is held, and stays, is told
 pub tells_stay : (stay : Stay) (pid : Pid) (hs : HeldSlots) (o : Option Bool) → o ≡ option_map (process_stays stay pid) (option_map (λ (h : HeldForm). h.held.value) (slice_index_or hs pid.slot None)) → TellsStay stay pid hs o
 tells_stay stay pid hs o there first cs v f = by (slice_index_or hs pid.slot None) there (f.each pid.slot pid.inside).at
@@ -65,11 +57,11 @@ tells_stay stay pid hs o there first cs v f = by (slice_index_or hs pid.slot Non
         → IsAt pid.slot (cs pid.slot) (part_of v.parts pid.slot) place → o ≡ if_held (cs pid.slot).hold (Some (held_stays stay pid (values_seen v) cs)) None
     by None is at =
         let free : IsFree (cs pid.slot) (part_of v.parts pid.slot) = at in
-        is ∙ sym (free_is (cs pid.slot).hold (Some (held_stays stay pid (values_seen v) cs)) None free.hold)
+        is ∙ sym (free_case (cs pid.slot).hold (Some (held_stays stay pid (values_seen v) cs)) None free.hold)
     by (Some h) is at =
         let held : IsHeld pid.slot (cs pid.slot) (part_of v.parts pid.slot) h = at in
         is ∙ (ap (λ x. Some (process_stays stay pid x)) (held_value pid.slot (cs pid.slot) (part_of v.parts pid.slot) h held)
-        ∙ sym (held_is (cs pid.slot).hold (Some (held_stays stay pid (values_seen v) cs)) None held.really))
+        ∙ sym (held_case (cs pid.slot).hold (Some (held_stays stay pid (values_seen v) cs)) None held.really))
 
 -- so it is known whether it is held
 pub held_so : {X : Type 0} (k : Hold) (x y : X) → Some x ≡ if_held k (Some y) None → (k ≢ not_held) × (x ≡ y)
@@ -114,7 +106,7 @@ given_up_gone values pid cs really =
     let e = entry 0 given_up in
     let course : give_up_at p cs p ≡ let_go (add given_up c) =
     ap (λ (b : Bool). if b then if_held c.hold (course_after give_up c) c else c) (same_slot p)
-    ∙ (held_is c.hold (course_after give_up c) c really ∙ held_is c.hold (let_go (add given_up c)) (add_alone given_up c) really) in
+    ∙ (held_case c.hold (course_after give_up c) c really ∙ held_case c.hold (let_go (add given_up c)) (add_alone given_up c) really) in
     let all : added (let_go (add given_up c)).blocks ++ [] ≡ (added c.blocks ++ c.pending) ++ e ∷ [] =
     append-nil (added c.blocks ++ (c.pending ++ e ∷ [])) ∙ sym (append_assoc (added c.blocks) c.pending (e ∷ [])) in
     let value : known values (give_up_at p cs) p ≡ after (replay_from (values p) (added c.blocks ++ c.pending)) given_up =
@@ -139,7 +131,7 @@ pub left_alone : (slot : ℕ) (cs : Courses) → (cs slot).hold ≡ not_held →
 left_alone slot cs free p = by (p == slot) refl
   where
     by : (b : Bool) → (p == slot) ≡ b → (if b then if_held (cs p).hold (course_after give_up (cs p)) (cs p) else cs p) ≡ cs p
-    by true is = free_is (cs p).hold (course_after give_up (cs p)) (cs p) (ap (λ q. (cs q).hold) (is_slot p slot is) ∙ free)
+    by true is = free_case (cs p).hold (course_after give_up (cs p)) (cs p) (ap (λ q. (cs q).hold) (is_slot p slot is) ∙ free)
     by false is = refl
 
 pub seen_where : (first : View) (cs : Courses) (hs : HeldSlots) (v : View) → AllFollow first cs hs v → AreSeen first cs v

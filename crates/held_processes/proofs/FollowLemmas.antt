@@ -8,7 +8,7 @@ use mathlib.Core.Logic.{dite}
 use Rattle.proc_table.specs.declared.view.View.{View}
 use Rattle.proc_table.specs.Agrees.{slots}
 use Rattle.proc_table.specs.Parts.{part_of}
-use Rattle.held_processes.specs.Course.{Course, Courses, Operation, Users, course_after, on_module, runs}
+use Rattle.held_processes.specs.Course.{Courses, Operation, Users, course_after, on_module, runs}
 use Rattle.held_processes.specs.Following.{HeldForm, HeldSlots, Follows, AllFollow}
 use Rattle.held_processes.specs.Operations.{up_to}
 use Rattle.held_processes.specs.Slots.{SlotPast, IsFollowed, Steps}
@@ -18,8 +18,8 @@ abbrev pub past_of : View → Courses → ℕ → SlotPast
 past_of first cs p = record { lent = first.lent; first = part_of first.parts p; course = cs p }
 
 -- courses that are the same in each slot
-pub same_courses : (first : View) (cs ds : Courses) (hs : HeldSlots) (v : View) → ((p : ℕ) → p < slots → cs p ≡ ds p) → AllFollow first cs hs v → AllFollow first ds hs v
-same_courses first cs ds hs v same f = record {
+pub follow_same : (first : View) (cs ds : Courses) (hs : HeldSlots) (v : View) → ((p : ℕ) → p < slots → cs p ≡ ds p) → AllFollow first cs hs v → AllFollow first ds hs v
+follow_same first cs ds hs v same f = record {
   handler = f.handler;
   count = f.count;
   lent = f.lent;
@@ -71,7 +71,7 @@ up_to_others n ds cs q ne = let same : nat_lt q (n + 1) ≡ nat_lt q n = grind (
 -- a slot that is passed over
 pub pass_over : (first : View) (ds cs : Courses) (hs : HeldSlots) (v : View) (n : ℕ) → ds n ≡ cs n → AllFollow first (up_to n ds cs) hs v → AllFollow first (up_to (n + 1) ds cs) hs v
 pass_over first ds cs hs v n same f =
-    same_courses first (up_to n ds cs) (up_to (n + 1) ds cs) hs v (λ p inside. dite (ℕ_discrete p n)
+    follow_same first (up_to n ds cs) (up_to (n + 1) ds cs) hs v (λ p inside. dite (ℕ_discrete p n)
     (λ e. subst (λ q. up_to n ds cs q ≡ up_to (n + 1) ds cs q) (sym e) (up_to_here n ds cs ∙ (sym same ∙ sym (up_to_more n ds cs))))
     (λ ne. sym (up_to_others n ds cs p ne))) f
 
@@ -90,10 +90,10 @@ step_none first ds cs hs v w n place inside f s =
 
 -- no slot was reached yet, and each was
 pub none_reached : (first : View) (ds cs : Courses) (hs : HeldSlots) (v : View) → AllFollow first cs hs v → AllFollow first (up_to 0 ds cs) hs v
-none_reached first ds cs hs v f = same_courses first cs (up_to 0 ds cs) hs v (λ p inside. sym (up_to_none ds cs p)) f
+none_reached first ds cs hs v f = follow_same first cs (up_to 0 ds cs) hs v (λ p inside. sym (up_to_none ds cs p)) f
 
 pub all_reached : (first : View) (ds cs : Courses) (hs : HeldSlots) (v : View) (n : ℕ) → slots ≤ n → AllFollow first (up_to n ds cs) hs v → AllFollow first ds hs v
-all_reached first ds cs hs v n far f = same_courses first (up_to n ds cs) ds hs v (λ p inside. up_to_all n ds cs p (omega arith)) f
+all_reached first ds cs hs v n far f = follow_same first (up_to n ds cs) ds hs v (λ p inside. up_to_all n ds cs p (omega arith)) f
 
 -- whom an operation on a module is for
 pub on_user : (users : Users) (name : List ℕ) (op : Operation) (cs : Courses) (p : ℕ) → runs name (users p) ≡ true → course_after op (cs p) ≡ on_module users name op cs p
@@ -101,13 +101,3 @@ on_user users name op cs p is = sym (ap (λ b. if b then course_after op (cs p) 
 
 pub on_other : (users : Users) (name : List ℕ) (op : Operation) (cs : Courses) (p : ℕ) → runs name (users p) ≡ false → on_module users name op cs p ≡ cs p
 on_other users name op cs p is = ap (λ b. if b then course_after op (cs p) else cs p) is
-
--- courses that are the same in each slot are followed alike
-pub follow_same : (first : View) (cs ds : Courses) (hs : HeldSlots) (v : View) → ((p : ℕ) → p < slots → cs p ≡ ds p) → AllFollow first cs hs v → AllFollow first ds hs v
-follow_same first cs ds hs v same f = record {
-  handler = f.handler;
-  count = f.count;
-  lent = f.lent;
-  long = f.long;
-  each = λ p inside. subst (λ (c : Course). Follows first.lent p (part_of first.parts p) c (part_of v.parts p) (slice_index_or hs p None)) (same p inside) (f.each p inside);
-}

@@ -7,10 +7,9 @@ use Rattle.proc_history.specs.Events.{HistoryEntry}
 use Rattle.proc_table.specs.declared.pid.Pid.{Pid}
 use Rattle.proc_table.specs.declared.view.View.{View}
 use Rattle.proc_table.specs.Agrees.{slots}
-use Rattle.proc_table.specs.Calls.{Made, Joined}
 use Rattle.proc_table.specs.Free.{BeganLowest}
 use Rattle.proc_table.specs.Holds.{Holding, Released}
-use Rattle.proc_table.specs.Parts.{Part, part_of, unseen}
+use Rattle.proc_table.specs.Parts.{Part, unseen}
 use Rattle.proc_table.specs.Views.{handler_view, is_out}
 use Rattle.proc_table.specs.Waits.{HeldAtLast}
 use Rattle.proc_table.proofs.WaitLemmas.{held_and_released}
@@ -24,8 +23,7 @@ use Rattle.started_members.specs.Ends.{EndedInOrder, ending}
 use Rattle.sup_tree.specs.Stops.{StopsApp}
 use Rattle.sup_tree.specs.Tree.{App, app_pids}
 use Rattle.app_members.specs.Walk.{Start, app_starts}
-use Rattle.held_processes.specs.Course.{Courses}
-use Rattle.held_processes.specs.Following.{AreLeft, HoldsNothing}
+use Rattle.held_processes.specs.Following.{HoldsNothing}
 use Rattle.held_processes.specs.Laws.{StartsHoldNothing}
 
 -- a slot that was held is given back
@@ -67,17 +65,6 @@ stops_nothing name apps v (Err e) apps' w n s = subst HoldsNothing (sym s.2) n
 pub starts_hold_nothing : StartsHoldNothing
 starts_hold_nothing = (λ name top tables apps v r apps' w. starts_nothing name top tables apps v r apps' w, λ name apps v r apps' w. stops_nothing name apps v r apps' w)
 
--- nor behind a script
-pub left_nothing : (first : View) (cs : Courses) (v : View) → AreLeft first cs v → HoldsNothing v
-left_nothing first cs v a = record { handler = a.handler; out = λ p inside. (a.each p inside).out }
-
--- nor behind a pass that is made, or taken back
-pub made_nothing : (v w pass : View) → HoldsNothing v → Made v w pass → HoldsNothing w
-made_nothing v w pass n m = record { handler = m.handler.0 ∙ n.handler; out = λ p inside. ap (λ (ps : List Part). (part_of ps p).out) m.handler.1 ∙ n.out p inside }
-
-pub joined_nothing : (v pass w : View) → HoldsNothing v → Joined v pass w → HoldsNothing w
-joined_nothing v pass w n j = record { handler = j.number ∙ n.handler; out = λ p inside. j.out_is p ∙ n.out p inside }
-
--- nor at a new table
+-- the handler of a new table holds nothing
 pub first_nothing : HoldsNothing (handler_view slots)
 first_nothing = record { handler = refl; out = λ p inside. ap (λ (x : Part). x.out) (get_or-replicate slots p unseen unseen inside) }

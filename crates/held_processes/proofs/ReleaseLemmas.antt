@@ -5,9 +5,7 @@ use native.Mathlib.Decide.{ℕ_discrete}
 use mathlib.Core.Logic.{dite}
 use Rattle.proc_table.specs.declared.view.View.{View}
 use Rattle.proc_table.specs.Agrees.{slots}
-use Rattle.proc_table.specs.Calls.{Elsewhere}
 use Rattle.proc_table.specs.Parts.{Part, part_of}
-use Rattle.proc_table.specs.Views.{seen}
 use Rattle.held_processes.specs.declared.processes.Which.{Which}
 use Rattle.held_processes.specs.declared.processes.Which.TheVariants.{Of, UntilPoint}
 use Rattle.held_processes.specs.Course.{Hold, Course, Courses, at_point, course_after, if_held, let_go}
@@ -153,10 +151,6 @@ may_end first cs behind hs left h v is e =
     let last = last_going first cs behind hs left (Some h) v is e in
     let held : IsHeld n (cs n) (part_of v.parts n) h = last.at in
     subst (λ q. IsFollowed (past_of first cs q) q (cs q) v (Some h)) (sym held.slot) (record { handler = e.handler; lent = e.lent; follows = last })
-
--- of one slot, with the others as before
-pub seen_all : (p : ℕ) (v w : View) → seen w p ≡ seen v p → Elsewhere p v w → (q : ℕ) → seen w q ≡ seen v q
-seen_all p v w here e q = dite (ℕ_discrete q p) (λ is. subst (λ z. seen w z ≡ seen v z) (sym is) here) (λ ne. ap (λ (x : Part). x.seen) (e.others q ne))
 
 -- what is given back as it was leaves the blocks
 pub left_dropped : (first : View) (cs : Courses) (v : View) → AreLeft first (λ p. dropped (cs p)) v → AreLeft first cs v

@@ -1,5 +1,5 @@
 -- The handler's own entries tell with which round a process can begin in each slot, whatever calls of others came meanwhile.
-use Rattle.std.proofs.Common.{◌≡◌, ℕ, zero, suc, ◌+◌, ◌<◌, ◌≤◌, ◌==◌, Bool, if◌then◌else◌, List, [], ◌∷◌, ◌++◌, Option, Some, None, is_some, option_map, slice_index_or, refl, ap, sym, subst, subst₂, ◌∙◌, arith, append_assoc}
+use Rattle.std.proofs.Common.{◌≡◌, ℕ, zero, suc, ◌+◌, ◌<◌, ◌≤◌, Bool, if◌then◌else◌, List, [], ◌∷◌, ◌++◌, Option, Some, None, is_some, option_map, slice_index_or, refl, ap, sym, subst, subst₂, ◌∙◌, arith, append_assoc}
 use Rattle.std.specs.Option.{option_or}
 use native.Mathlib.Bridge.{le_prop}
 use native.Mathlib.Decide.{ℕ_discrete}
@@ -11,7 +11,7 @@ use Rattle.proc_history.specs.Events.Event.{begin, call, loaded, changed, stoppe
 use Rattle.proc_history.specs.Histories.{replay, replay_from, LegalFrom, IsLegal}
 use Rattle.proc_history.specs.Values.{nothing, after, next_round}
 use Rattle.proc_history.proofs.Entries.{replay-append, legal_prefix}
-use Rattle.proc_history.proofs.StandLemmas.{StandAlike, others_leave}
+use Rattle.proc_history.proofs.StandLemmas.{StandAlike, others_leave, next_alike}
 use Rattle.proc_table.specs.declared.pid.Pid.{Pid}
 use Rattle.proc_table.specs.declared.view.View.{View}
 use Rattle.proc_table.specs.Agrees.{slots}
@@ -83,9 +83,6 @@ pub known_free : (first : View) (cs : Courses) (hs : HeldSlots) (v : View) (p : 
     → StandAlike (known (values_seen first) cs p) (replay (seen v p))
 known_free first cs hs v p f legal inside none =
     subst (λ es. StandAlike (known (values_seen first) cs p) (replay_from (replay (seen v p)) es)) none (known_alike first cs hs v p f legal inside)
-
-next_alike : (x y : Value) → StandAlike x y → next_round y ≡ next_round x
-next_alike x y a = λ i. if a.stands i then None else if a.round i == 4294967295 then None else Some (a.round i + 1)
 
 -- with which round a process can begin in a slot
 pub next_is : (first : View) (cs : Courses) (hs : HeldSlots) (v : View) (p : ℕ) → AllFollow first cs hs v → IsLegal (seen v p) → p < slots

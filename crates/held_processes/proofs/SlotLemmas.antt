@@ -18,8 +18,7 @@ use Rattle.proc_table.specs.Parts.{Part}
 use Rattle.proc_table.specs.Views.{seen, is_out}
 use Rattle.proc_table.specs.Waits.{HeldAtLast, HeldSince}
 use Rattle.proc_table.proofs.WaitLemmas.{since, elsewhere_left}
-use Rattle.held_processes.specs.Course.{Hold, Course, add, add_alone, added, course_after, if_held, let_go, load_free}
-use Rattle.held_processes.specs.Course.Operation.{give_up}
+use Rattle.held_processes.specs.Course.{Hold, Course, add, add_alone, added, if_held, let_go, load_free}
 use Rattle.held_processes.specs.Course.Hold.{not_held, until_point, until_resumed}
 use Rattle.held_processes.specs.Following.{AreLonger, AreStrangers, Stand, HeldForm, IsHeld, IsFree}
 use Rattle.held_processes.specs.Slots.{SlotPast, IsFollowed, Steps, dropped, taken, value_with}
@@ -277,18 +276,3 @@ may_give_up past p v place h k f there is =
     let slot : k.slot ≡ p = ap (λ (x : Holding). x.slot) is ∙ held.slot in
     let more = adds past p past.course v h given_up (after h.held.value given_up) held_now (λ z. z) tt refl in
     subst₂ (λ q (x : Holding). IsFollowed (record past { course = c }) q c v (Some (record h { held = x }))) (sym slot) (sym is) (with_course past p c c v _ more)
-
-pub gave_up : (past : SlotPast) (p : ℕ) (v : View) (place : Option HeldForm) (h : HeldForm) (k : Holding) (w : View) → IsFollowed past p past.course v place → place ≡ Some h
-    → k ≡ record { slot = h.held.slot; value = after h.held.value given_up }
-    → Steps (record past { course = add given_up past.course }) k.slot (let_go (add given_up past.course)) v None w
-    → Steps past p (if_held past.course.hold (course_after give_up past.course) past.course) v None w
-gave_up past p v place h k w f there is s =
-    let c = past.course in
-    let held_now = subst (IsFollowed past p c v) there f in
-    let held : IsHeld p c _ h = held_now.follows.at in
-    let slot : k.slot ≡ p = ap (λ (x : Holding). x.slot) is ∙ held.slot in
-    let really : (c.hold ≡ not_held) → ⊥ = held.really in
-    let there_now = subst (λ q. Steps (record past { course = add given_up c }) q (let_go (add given_up c)) v None w) slot s in
-    let one = held_case c.hold (let_go (add given_up c)) (add_alone given_up c) really in
-    let two = held_case c.hold (course_after give_up c) c really in
-    subst (λ d. Steps past p d v None w) (sym (two ∙ one)) (record { follows = there_now.follows; elsewhere = there_now.elsewhere })

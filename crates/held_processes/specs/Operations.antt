@@ -67,7 +67,7 @@ is_held_user users name cs p = runs name (users p) && is_held (cs p).hold
 abbrev pub holds_user : Users → List ℕ → Courses → Bool
 holds_user users name cs = any_slot (is_held_user users name cs)
 
--- whether the code of a process of the module can't be changed: it is held, and has no row for that
+-- whether the code of a process of the module can't be changed: it is held and up, and has no row for that
 abbrev pub lacks_row_at : OldVersion → term.Value → Values → Users → List ℕ → Courses → ℕ → Bool
 lacks_row_at old extra seen users name cs p = is_held_user users name cs p && not (finds_row old extra (now_in seen cs p))
 
@@ -85,7 +85,7 @@ uses_up seen users name cs = any_slot (is_up_user seen users name cs)
 abbrev pub is_used : Users → List ℕ → Bool
 is_used users name = any_slot (λ p. runs name (users p))
 
--- Each process of the module that is held has its row, or the one in this slot is the first that lacks it.
+-- Each process of the module that is held and up has its row, or the one in this slot is the first that lacks it.
 abbrev pub FindsRows : {X : Type 0} → OldVersion → term.Value → Values → Users → List ℕ → Courses → Result X Undone → Type 0
 FindsRows old extra seen users name cs (Ok x) = lacks_row old extra seen users name cs ≡ false
 FindsRows old extra seen users name cs (Err e) = e.slot < slots × (is_lowest (lacks_row_at old extra seen users name cs) e.slot ≡ true)

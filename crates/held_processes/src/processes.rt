@@ -105,7 +105,7 @@ impl HeldProcesses {
         self.perform(rt, table, seat, users, Step::Load(alloc, worker, keep))
     }
 
-    /// The code of the processes of the module that are held is changed. Where one of them has no row for that, those in
+    /// The code of the processes of the module that are held and up is changed. Where one of them has no row for that, those in
     /// higher slots aren't changed. It takes no memory.
     pub fn change(&mut self, users: &Users<'_>, old: &Old, extra: &Term) -> Result<(), Undone>
         ensures { Changes (users_of users.now.tree.now) users.now.module.now

@@ -191,7 +191,7 @@ fn start<R: Wait>(
     }
 }
 
-/// Changes the code of the process, if it is held. It is false, and nothing changes, where its table has no row for that.
+/// Changes the code of the process, if it is held and up. It is false, and nothing changes, where its table has no row for that.
 pub(crate) fn change(place: &mut Option<HeldProcess>, old: &Old, extra: &Term) -> bool
     ensures { ChangesAt (old_of old.now) (value_of extra.now) place.old result place.new }
 {

@@ -2,12 +2,12 @@
 use Rattle.std.proofs.Common.{◌≡◌, ℕ, true, List, [], ◌∷◌, map, codes, Option, None, Some, Result, Ok, Err, IfOk, MatchOption, refl, sym, ap, subst, ◌∙◌}
 use Rattle.std.specs.Prelude.{if◌then◌else◌}
 use Rattle.std.specs.Option.{option_map}
-use Rattle.std.proofs.lemmas.Slice.Eq.{bytes_eq-Decides}
 use Rattle.erl_term.specs.Value.{Value, Values, values_of}
-use Rattle.erl_term.specs.Value.Value.{atom, list, tuple}
-use Rattle.erl_term.specs.Value.Values.{no_values, value}
-use Rattle.rel_files.specs.Parts.{list_in, three, is_word}
+use Rattle.erl_term.specs.Value.Value.{atom, list}
+use Rattle.rel_files.specs.Parts.{list_in, triple_in, is_word}
+use Rattle.rel_files.specs.Terms.{triple_term}
 use Rattle.rel_files.proofs.Options.{mapped, chained, passed, both, both_true}
+use Rattle.rel_files.proofs.TermParts.{from_list, from_triple, from_is_word}
 use Rattle.app_file.specs.Parts.{contents_in}
 use Rattle.app_file.specs.File.{Specification, IsAppTerm, specification_in, with_term}
 use Rattle.worker_table.specs.Same.{is_same}
@@ -23,30 +23,16 @@ terms ts = values_of (map (λ (t : TableTerm). t.term) ts)
 
 -- the term with these parts
 abbrev pub with_parts : Value × Values → Value
-with_parts p = tuple (value (atom (codes "lib")) (value p.0 (value (list p.1) no_values)))
-
-from_word : (word : List ℕ) (v : Value) → is_word word v ≡ true → v ≡ atom word
-from_word word (atom s) e = ap atom ((bytes_eq-Decides s word).0 e)
-from_word word v e = absurd cc
-
-from_list : (v : Value) (vs : Values) → list_in v ≡ Some vs → v ≡ list vs
-from_list (list ws) vs e = let same : ws ≡ vs = cc in ap list same
-from_list v vs e = absurd cc
-
-from_three : (vs : Values) (p : Value × Value × Value) → three vs ≡ Some p → vs ≡ value p.0 (value p.1 (value p.2 no_values))
-from_three (value v (value w (value x no_values))) p e =
-    let same : (v, w, x) ≡ p = cc in ap (λ (q : Value × Value × Value). value q.0 (value q.1 (value q.2 no_values))) same
-from_three vs p e = absurd cc
+with_parts p = triple_term (atom (codes "lib")) p.0 (list p.1)
 
 pub from_parts : (v : Value) (p : Value × Values) → term_parts v ≡ Some p → v ≡ with_parts p
-from_parts (tuple vs) p e =
-    let (m, found, rest) = chained (λ (m : Value × Value × Value). if is_word (codes "lib") m.0 then option_map (λ (ts : Values). (m.1, ts)) (list_in m.2) else None) (three vs) p e in
+from_parts v p e =
+    let (m, found, rest) = chained (λ (m : Value × Value × Value). if is_word (codes "lib") m.0 then option_map (λ (ts : Values). (m.1, ts)) (list_in m.2) else None) (triple_in v) p e in
     let (word, listed) = passed (is_word (codes "lib") m.0) (option_map (λ (ts : Values). (m.1, ts)) (list_in m.2)) p rest in
     let (ts, tables, same) = mapped (λ (ts : Values). (m.1, ts)) (list_in m.2) p listed in
-    ap tuple (from_three vs m found)
-    ∙ (λ j. tuple (value (from_word (codes "lib") m.0 word j) (value m.1 (value (from_list m.2 ts tables j) no_values))))
+    from_triple v m found
+    ∙ (λ j. triple_term (from_is_word (codes "lib") m.0 word j) m.1 (from_list m.2 ts tables j))
     ∙ ap with_parts same
-from_parts v p e = absurd cc
 
 -- the parts of a library's term
 pub parts_there : (l : Library) → term_parts (library_term l) ≡ Some (l.app.whole, terms (tables_there l.tables))

@@ -3,13 +3,13 @@ use Rattle.std.specs.Prelude.{◌≡◌, ℕ, Bool, true, false, ◌&&◌, List,
 use Rattle.std.specs.Option.{option_map, option_and_then}
 use Rattle.std.specs.Str.{bytes_eq}
 use Rattle.erl_term.specs.Value.{Value, Values}
-use Rattle.erl_term.specs.Value.Value.{atom, tuple}
-use Rattle.rel_files.specs.Form.{tuple_of, list_of}
-use Rattle.rel_files.specs.Parts.{list_in, three, is_word}
+use Rattle.erl_term.specs.Value.Value.{atom}
+use Rattle.rel_files.specs.Parts.{list_in, triple_in, is_word}
 use Rattle.rel_files.specs.Release.{Application}
 use Rattle.app_file.specs.File.{Specification, IsAppTerm}
 use Rattle.mod_table.specs.declared.table.Table.{Table}
 use Rattle.mod_table.specs.File.{IsTableTerm, name_of}
+use Rattle.rel_files.specs.Terms.{tuple_of, list_of}
 use Rattle.worker_table.specs.Same.{is_same}
 
 -- what a `.mod` file says, and its whole term
@@ -44,13 +44,9 @@ tables_there (Some t ∷ ts) = t ∷ tables_there ts
 abbrev pub library_term : Library → Value
 library_term l = tuple_of (atom (codes "lib") ∷ l.app.whole ∷ list_of (map (λ (t : TableTerm). t.term) (tables_there l.tables)) ∷ [])
 
-abbrev pub parts_of : Values → Option (Value × Values)
-parts_of vs = option_and_then (λ m. if is_word (codes "lib") m.0 then option_map (λ ts. (m.1, ts)) (list_in m.2) else None) (three vs)
-
 -- AppTerm and the ModTerms of such a term
 abbrev pub term_parts : Value → Option (Value × Values)
-term_parts (tuple vs) = parts_of vs
-term_parts v = None
+term_parts v = option_and_then (λ m. if is_word (codes "lib") m.0 then option_map (λ ts. (m.1, ts)) (list_in m.2) else None) (triple_in v)
 
 -- the same terms of two files
 abbrev pub is_same_table : Option TableTerm → Option TableTerm → Bool

@@ -13,7 +13,7 @@ use crate::tables::{had_memory, placed_in};
 use app_file::{App, app_of_term};
 use erl_term::Term;
 use mod_table::ModFile;
-use rel_files::parts::{is_word, list_in, three};
+use rel_files::parts::{is_word, list_in, triple_in};
 use std::alloc::{AllocError, Global};
 use std::rc::Rc;
 
@@ -49,10 +49,7 @@ fn parts_in(term: &Term) -> Option<(&Term, &[Term])>
     ensures { option_map (λ p. (value_of p.0.now, members_of p.1.now)) result
         ≡ term_parts (value_of term.now) }
 {
-    let Term::Tuple(members) = term else {
-        return None;
-    };
-    let (word, app, tables) = three(members)?;
+    let (word, app, tables) = triple_in(term)?;
     if !is_word(word, "lib") {
         return None;
     }

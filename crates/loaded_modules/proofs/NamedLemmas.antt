@@ -1,17 +1,15 @@
--- Modules by their names, where one is loaded or isn't any more.
-use Rattle.std.proofs.Common.{◌≡◌, ℕ, Bool, true, false, cond, not, List, [], ◌∷◌, map, Option, Some, None, Ordering, Less, Equal, Greater, refl, sym, ap, ◌∙◌}
-use Rattle.std.specs.BTreeMap.{insert_entry}
-use Rattle.std.specs.Cmp.Lexicographic.{slice_cmp, nat_list_eq_equiv}
+-- Modules by their names, and the list of them.
+use Rattle.std.proofs.Common.{◌≡◌, ℕ, Bool, true, false, cond, not, List, [], ◌∷◌, map, Some, None, Equal, refl, sym, ap, ◌∙◌}
+use Rattle.std.specs.Cmp.Lexicographic.{slice_cmp}
 use Rattle.std.specs.List.{AllZip, filter}
 use Rattle.std.specs.Map.{lookup, remove_entry}
-use Rattle.std.specs.Option.{option_map, option_or}
-use Rattle.std.specs.Ordering.{nat_cmp, is_eq, match_ordering}
+use Rattle.std.specs.Option.{option_map}
+use Rattle.std.specs.Ordering.{nat_cmp, is_eq}
 use Rattle.std.specs.Str.{bytes_eq}
 use Rattle.std.proofs.lemmas.Map.Text.{is_eq-slice_cmp}
-use Rattle.std.proofs.lemmas.Map.Entries.{lookup-filter-keys}
 use Rattle.std.proofs.lemmas.Slice.Eq.{bytes_eq-Decides}
 use Rattle.loaded_modules.specs.Laws.{FoundAsListed}
-use Rattle.loaded_modules.specs.Loaded.{Module, NamedModules, module_in, module_named, with_loaded, without_module}
+use Rattle.loaded_modules.specs.Loaded.{module_in}
 
 -- what is found among entries is found in what is read of them, where the keys are tested alike
 pub lookup-read : {K L X Y : Type 0} (test : K → Bool) (test' : L → Bool) (f : K → L) (g : X → Y) → ((k : K) → test k ≡ test' (f k)) → (es : List (K × X))
@@ -29,62 +27,15 @@ lookup-read {K} {L} {X} {Y} test test' f g same (e ∷ es) =
 pub found_as_listed : FoundAsListed
 found_as_listed l name = lookup-read _ (bytes_eq name) _ module_in (λ k. is_eq-slice_cmp name _) l.modules.entries
 
--- one more module is loaded
+-- names that are the same
 
 pub same_name : (name q : List ℕ) → slice_cmp nat_cmp name q ≡ Equal → name ≡ q
 same_name name q is = (bytes_eq-Decides name q).0 (sym (is_eq-slice_cmp name q) ∙ ap is_eq is)
 
-apart : (name q : List ℕ) → slice_cmp nat_cmp name q ≡ Greater → bytes_eq name q ≡ false
-apart name q is = sym (is_eq-slice_cmp name q) ∙ ap is_eq is
-
--- of two that are found the same, one is enough
-cond_again : {X : Type 0} (b : Bool) (x y : X) (o : Option X) → cond b (Some x) o ≡ cond b (Some x) (cond b (Some y) o)
-cond_again true x y o = refl
-cond_again false x y o = refl
-
--- two that aren't found both are found in any order
-cond_swapped : {X : Type 0} (a b : Bool) (x y : X) (o : Option X) → (b ≡ true → a ≡ false) → cond a (Some x) (cond b (Some y) o) ≡ cond b (Some y) (cond a (Some x) o)
-cond_swapped false b x y o never = refl
-cond_swapped true false x y o never = refl
-cond_swapped true true x y o never = let no = never refl in absurd cc
-
-pub module_named-insert_entry : (ms : NamedModules) (name q : List ℕ) (m : Module)
-    → module_named q (insert_entry (slice_cmp nat_cmp) ms name m) ≡ cond (bytes_eq q name) (Some m) (module_named q ms)
-module_named-insert_entry [] name q m = refl
-module_named-insert_entry (e ∷ es) name q m = go (slice_cmp nat_cmp name e.0) refl (module_named-insert_entry es name q m)
-  where
-    go : (r : Ordering) → slice_cmp nat_cmp name e.0 ≡ r → module_named q (insert_entry (slice_cmp nat_cmp) es name m) ≡ cond (bytes_eq q name) (Some m) (module_named q es)
-        → module_named q (match_ordering r ((name, m) ∷ e ∷ es) ((e.0, m) ∷ es) (e ∷ insert_entry (slice_cmp nat_cmp) es name m)) ≡ cond (bytes_eq q name) (Some m) (module_named q (e ∷ es))
-    go Less is later = refl
-    go Equal is later =
-        cond_again (bytes_eq q e.0) m e.1 (module_named q es) ∙ ap (λ n. cond (bytes_eq q n) (Some m) (module_named q (e ∷ es))) (sym (same_name name e.0 is))
-    go Greater is later =
-        ap (cond (bytes_eq q e.0) (Some e.1)) later
-        ∙ cond_swapped (bytes_eq q e.0) (bytes_eq q name) e.1 m (module_named q es)
-        (λ same. ap (λ n. bytes_eq n e.0) ((bytes_eq-Decides q name).0 same) ∙ apart name e.0 is)
-
 pub itself : (name : List ℕ) → bytes_eq name name ≡ true
 itself name = (bytes_eq-Decides name name).1 refl
 
--- a module that is loaded is what is loaded under its name
-pub named_itself : (o : Option Module) (name : List ℕ) (ms : NamedModules) → module_named name (with_loaded o name ms) ≡ option_or o (module_named name ms)
-named_itself None name ms = refl
-named_itself (Some m) name ms = module_named-insert_entry ms name name m ∙ ap (λ b. cond b (Some m) (module_named name ms)) (itself name)
-
--- what is loaded under other names stays
-pub named_other : (o : Option Module) (name q : List ℕ) (ms : NamedModules) → bytes_eq q name ≡ false → module_named q (with_loaded o name ms) ≡ module_named q ms
-named_other None name q ms other = refl
-named_other (Some m) name q ms other = module_named-insert_entry ms name q m ∙ ap (λ b. cond b (Some m) (module_named q ms)) other
-
--- a module isn't loaded any more
-
-pub named_removed : (name : List ℕ) (ms : NamedModules) → module_named name (without_module name ms) ≡ None
-named_removed name ms = lookup-filter-keys (bytes_eq name) (λ k. not (bytes_eq name k)) false (λ k same. ap not same) ms
-
-pub named_kept : (name q : List ℕ) (ms : NamedModules) → bytes_eq q name ≡ false → module_named q (without_module name ms) ≡ module_named q ms
-named_kept name q ms other =
-    lookup-filter-keys (bytes_eq q) (λ k. not (bytes_eq name k)) true
-    (λ k same. ap not (ap (bytes_eq name) (sym ((bytes_eq-Decides q k).0 same)) ∙ (nat_list_eq_equiv.symm name q ∙ other))) ms
+-- entries that are taken out, or copied
 
 -- Where no entry passes the test, all are left without those that do.
 none_passes : {K L X Y : Type 0} (test : K → Bool) (test' : L → Bool) (f : K → L) (g : X → Y) → ((k : K) → test k ≡ test' (f k)) → (es : List (K × X)) → lookup test es ≡ None

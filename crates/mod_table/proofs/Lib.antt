@@ -1,2 +1,3 @@
 pub mod MemberLemmas
 pub mod Readings
+pub mod FormLemmas

@@ -4,7 +4,7 @@ use Rattle.erl_term.specs.Value.{Value}
 use Rattle.rel_files.specs.declared.fault.FileFault.{FileFault}
 use Rattle.rel_files.specs.declared.fault.FileFault.TheVariants.{NoMemory}
 use Rattle.rel_files.specs.Fault.{fault_of}
-use Rattle.rel_files.proofs.OneTermFiles.{never_of_term}
+use Rattle.rel_files.proofs.KindFiles.{never_of_term}
 use Rattle.mod_table.specs.declared.table.Table.{Table}
 use Rattle.mod_table.specs.File.{mod_files, IsTableTerm, IsTermFault, SaysTable}
 

@@ -6,7 +6,8 @@ use Rattle.erl_term.specs.Value.{Value}
 use Rattle.rel_files.specs.declared.fault.FileFault.{FileFault}
 use Rattle.rel_files.specs.Fault.{fault_of}
 use Rattle.rel_files.specs.Name.{is_text}
-use Rattle.rel_files.specs.Kind.{Kind, TermSays, HasTermAt, HasTermFault, Says, HasFault}
+use Rattle.rel_files.specs.Kind.{Kind, TermSays, HasTermFault, Says, HasFault}
+use Rattle.rel_files.specs.OneTermFile.{HasTermAt}
 use Rattle.mod_table.specs.declared.table.Table.{Table}
 use Rattle.mod_table.specs.declared.table.Table.TheVariants.{Worker, Super}
 use Rattle.worker_table.specs.Parts.{tagged_in}

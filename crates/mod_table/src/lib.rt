@@ -6,7 +6,8 @@
 //! and says nothing of the file.
 //! Contracts see a `Super`, as they do a `Worker`, as its table alone (specs/Table).
 //!
-//! The functions of `laws` say of these definitions that each file says one table or has one fault, and not both.
+//! The functions of `laws` say of these definitions that each file says one table or has one fault, and not both, and that a
+//! term says a table exactly where it has the form of that table (specs/Form).
 //!
 //! Only tested: that a file is read where memory is there. Trusted: the toolchain alone.
 #![tactic(auto)]

@@ -7,9 +7,9 @@ use Rattle.std.proofs.lemmas.List.{map-append, map_more}
 use Rattle.erl_term.specs.Printing.{text_of}
 use Rattle.erl_term.specs.Value.{Value, value_of}
 use Rattle.erl_term.specs.declared.term.Term.{Term}
-use Rattle.node_listing.specs.Listing.{text_value}
 use Rattle.relup_script.specs.Search.{FoundForm}
-use Rattle.node_answer.specs.Lines.{checked_line, installed_text, names_value, ok_line}
+use Rattle.node_answer.specs.Lines.{checked_line, ok_line}
+use Rattle.rel_files.specs.Terms.{text_term}
 
 -- one more term, of what stands in its place
 pub term_more : {A : Type 0} (f : A → Value) (all : List A) (i : ℕ) (a : A) (old new : List Term) (term : Term) → i < length all → a ≡ get_or all i a → value_of term ≡ f a → new ≡ old ++ term ∷ []
@@ -18,21 +18,13 @@ term_more f all i a old new term within at made grown so_far =
     let spelled : map f (take (i + 1) all) ≡ map f (take i all) ++ f a ∷ [] = map_more f all i a within ∙ ap (λ b. map f (take i all) ++ f b ∷ []) (sym at) in
     (ap (map value_of) grown ∙ map-append value_of old (term ∷ [])) ∙ ((λ j. so_far j ++ made j ∷ []) ∙ sym spelled)
 
--- the line of an installation
-pub tells_installed : (line : Result (String Global) AllocError) (first second third other : List ℕ) (descr : Value) (stale : List (List ℕ))
-    → IfOk line (λ s. string_bytes s ≡ codes "ok " ++ (first ++ (codes " " ++ (second ++ (codes " " ++ (third ++ codes "\n"))))))
-    → first ≡ text_of (text_value other) → second ≡ text_of descr → third ≡ text_of (names_value stale) → IfOk line (λ s. string_bytes s ≡ installed_text other descr stale)
-tells_installed (Err e) first second third other descr stale told is has then = tt
-tells_installed (Ok s) first second third other descr stale told is has then =
-    told ∙ (λ j. codes "ok " ++ (is j ++ (codes " " ++ (has j ++ (codes " " ++ (then j ++ codes "\n"))))))
-
 -- the line of a script
 pub tells_found : (line : Result (String Global) AllocError) (other descr : List ℕ) (f : FoundForm) → IfOk line (λ s. string_bytes s ≡ codes "ok " ++ (other ++ (codes " " ++ (descr ++ codes "\n"))))
-    → other ≡ text_of (text_value f.other) → descr ≡ text_of f.descr → IfOk line (λ s. string_bytes s ≡ checked_line (Ok f))
+    → other ≡ text_of (text_term f.other) → descr ≡ text_of f.descr → IfOk line (λ s. string_bytes s ≡ checked_line (Ok f))
 tells_found (Err e) other descr f told is has = tt
 tells_found (Ok s) other descr f told is has =
     told ∙ ap (λ t. codes "ok " ++ t) (sym (append_assoc other (codes " " ++ descr) (codes "\n"))) ∙ ap (λ t. codes "ok " ++ ((t ++ (codes " " ++ descr)) ++ codes "\n")) is
-    ∙ ap (λ t. codes "ok " ++ ((text_of (text_value f.other) ++ (codes " " ++ t)) ++ codes "\n")) has
+    ∙ ap (λ t. codes "ok " ++ ((text_of (text_term f.other) ++ (codes " " ++ t)) ++ codes "\n")) has
 
 -- the line of a start
 pub tells_versions : (line : Result (String Global) AllocError) (erts vsn : List ℕ) → IfOk line (λ s. string_bytes s ≡ codes "ok " ++ (erts ++ (codes " " ++ (vsn ++ codes "\n"))))

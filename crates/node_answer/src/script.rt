@@ -4,16 +4,17 @@ ghost use Rattle.erl_term.specs.Value.{value_of};
 ghost use Rattle.erl_term.specs.Value.Value.{atom};
 ghost use Rattle.node_upgrade.specs.Failure.{failure_of};
 ghost use Rattle.node_upgrade.specs.Failure.Why.{fails};
+ghost use Rattle.rel_files.specs.Terms.{atoms_term};
 ghost use Rattle.relup_script.specs.Search.{found_of};
 ghost use Rattle.script_progress.specs.Fault.Cause.{no_memory};
-ghost use Rattle.node_answer.specs.Lines.{checked_line, installed_text, names_value};
+ghost use Rattle.node_answer.specs.Lines.{checked_line, installed_text};
 ghost use Rattle.node_answer.specs.Refusals.{refusal_line};
 ghost use Rattle.node_answer.specs.Refusals.NodeRefusal.{must_reboot, script_refused};
 
 use erl_term::{Term, print};
-use node_listing::{atom_term, text_term};
 use node_upgrade::{Installed, ScriptFailure, Why};
 use proc_history::Name;
+use rel_files::terms::{atom_term, text_term};
 use relup_script::Found;
 use script_progress::Cause;
 use std::alloc::{AllocError, Global};
@@ -44,7 +45,7 @@ pub fn installed_line(alloc: Global, installed: &Installed) -> Result<String, Al
 
 // The names of modules as a term.
 fn names_term(alloc: Global, names: &[Name]) -> Result<Term, AllocError>
-    ensures { IfOk result (λ term. value_of term ≡ names_value names.now) }
+    ensures { IfOk result (λ term. value_of term ≡ atoms_term names.now) }
 {
     Ok(Term::List(name_terms(alloc, names)?))
 }

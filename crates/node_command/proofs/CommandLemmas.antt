@@ -1,5 +1,5 @@
 -- What the list takes of a command, and why it refuses one.
-use Rattle.std.proofs.Common.{◌≡◌, ◌<◌, ◌≤◌, ◌+◌, Bool, true, false, [], ◌∷◌, ◌++◌, length, length-append, Option, Some, None, Result, Ok, Err, is_some, refl, sym, ap, ◌∙◌, arith}
+use Rattle.std.proofs.Common.{◌≡◌, ◌<◌, ◌+◌, Bool, true, false, [], ◌∷◌, ◌++◌, length, length-append, Option, Some, None, Result, Ok, Err, is_some, refl, sym, ap, ◌∙◌, arith}
 use Rattle.std.specs.Prelude.{◌||◌, if◌then◌else◌, nat_le}
 use Rattle.std.proofs.lemmas.Bool.Decides.{nat_tests}
 use Rattle.rel_list.specs.declared.fault.ListError.{ListError}
@@ -147,13 +147,6 @@ module _ (p : Bundle) (es : Releases) (free : has_one_shot es ≡ false) where
     module _ (fresh : is_some (status_of p.release.vsn es) ≡ false) (agree : is_some (first_different es p.libraries) ≡ false) where
       pushed : commanded (unpacked p) es ≡ kept_short (Ok with_it)
       pushed = by_sizes true false false small fresh agree
-
-      -- one too many
-      pub one_too_many : 32 ≤ length es → commanded (unpacked p) es ≡ Err TooMany
-      one_too_many many = pushed ∙ ap (λ b. if b then Ok with_it else Err TooMany) long
-        where
-          long : nat_le (length with_it) most_releases ≡ false
-          long = grind (arith, nat_tests, length-append es (entry p Unpacked ∷ []))
 
       -- one that comes in
       pub comes_in : length es < 32 → commanded (unpacked p) es ≡ Ok with_it

@@ -1,6 +1,5 @@
 -- What the event of a command makes of a node's list, or why the command is refused; and the size of its record.
 use Rattle.std.specs.Prelude.{ℕ, [], length, nat_le, if◌then◌else◌, Option, None, Some, Result, Ok, Err}
-use Rattle.rel_files.specs.Form.{tuple_of}
 use Rattle.rel_list.specs.declared.fault.ListError.{ListError}
 use Rattle.rel_list.specs.declared.fault.ListError.TheVariants as list
 use Rattle.rel_list.specs.Releases.{Releases}
@@ -12,6 +11,7 @@ use Rattle.rel_records.specs.Record.{FileTerms, body_of}
 use Rattle.rel_records.specs.Writing.{record_of}
 use Rattle.node_command.specs.declared.error.HandlerError.{HandlerError}
 use Rattle.node_command.specs.declared.error.HandlerError.TheVariants.{NoSuchRelease, ExistingRelease, AlreadyInstalled, BadStatus, Permanent, Running, TooMany, NoMemory}
+use Rattle.rel_files.specs.Terms.{tuple_of}
 
 -- What a node answers for a refusal of its list. Libraries that differ are told before, with the files of the release
 -- (`files_refusal`), so NoMemory stands for nothing there.

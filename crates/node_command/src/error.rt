@@ -35,7 +35,7 @@ pub enum HandlerError {
     /// The file of this path is of another application, version or module than its path says, or a relup of another version than
     /// the release beside it.
     VsnMismatch(String),
-    /// This module has no table, or not one of the kind that a child or a top asks for.
+    /// This module, of a child, has no table or one of the other kind; or it is a top and has the table of a worker.
     NoTable(String),
     /// A file is too large, the release passes a limit on a release or on what its applications have, a script of its relup has
     /// more than 4,096 instructions, or it would be one more than a node may have.

@@ -2,11 +2,11 @@
 use Rattle.std.specs.Prelude.{ℕ, List, [], ◌∷◌, ◌++◌, length, map, codes, decimal, is_some}
 use Rattle.std.specs.List.{filter, flat_map}
 use Rattle.std.specs.Option.{option_map_or}
-use Rattle.erl_term.specs.Value.{Value, values_of}
-use Rattle.erl_term.specs.Value.Value.{atom, list, tuple}
-use Rattle.erl_term.specs.Grammar.{numbers}
+use Rattle.erl_term.specs.Value.{Value}
+use Rattle.erl_term.specs.Value.Value.{atom}
 use Rattle.erl_term.specs.Printing.{text_of}
 use Rattle.rel_files.specs.Release.{Application}
+use Rattle.rel_files.specs.Terms.{tuple_of, list_of, pair_term, text_term}
 use Rattle.rel_list.specs.Releases.{Releases, Entry}
 use Rattle.rel_list.specs.Status.{status_word}
 use Rattle.proc_history.specs.declared.value.Now.{Now}
@@ -14,22 +14,18 @@ use Rattle.proc_history.specs.declared.value.Standing.{Standing}
 use Rattle.proc_history.specs.declared.value.Standing.TheVariants.{Up}
 use Rattle.proc_history.specs.declared.value.Value.{Value as Slot}
 
--- a text of ASCII as a term: the list of its characters
-abbrev pub text_value : List ℕ → Value
-text_value s = list (numbers s)
-
 -- an application as it is listed: its name, a hyphen and its version
 abbrev pub application_value : Application → Value
-application_value a = text_value (a.name ++ (codes "-" ++ a.vsn))
+application_value a = text_term (a.name ++ (codes "-" ++ a.vsn))
 
 -- a release as it is listed (OTP: release_handler(3), which_releases)
 abbrev pub release_value : Entry → Value
-release_value e = tuple (values_of
-    (text_value e.release.name
-    ∷ text_value e.release.vsn
-    ∷ list (values_of (map application_value e.release.apps))
+release_value e = tuple_of
+    (text_term e.release.name
+    ∷ text_term e.release.vsn
+    ∷ list_of (map application_value e.release.apps)
     ∷ atom (status_word e.status)
-    ∷ []))
+    ∷ [])
 
 abbrev pub term_line : Value → List ℕ
 term_line v = text_of v ++ codes "\n"
@@ -52,13 +48,13 @@ standing_word s = codes "down"
 
 -- a process as it is listed: its application, its id, its module with the version of that, and whether it is up
 abbrev pub process_value : Now → Value
-process_value n = tuple (values_of
+process_value n = tuple_of
     (atom n.app
     ∷ atom n.id
     ∷ atom n.table.name
-    ∷ text_value n.table.vsn
+    ∷ text_term n.table.vsn
     ∷ atom (standing_word n.standing)
-    ∷ []))
+    ∷ [])
 
 -- the line of what stands in a slot; none where no process does
 abbrev pub process_line : Slot → List ℕ
@@ -70,7 +66,7 @@ process_listing vs = flat_map process_line vs ++ count_line (length (filter (λ 
 
 -- a module as it is listed: its name, and the version that is loaded
 abbrev pub module_value : List ℕ → List ℕ → Value
-module_value name vsn = tuple (values_of (atom name ∷ text_value vsn ∷ []))
+module_value name vsn = pair_term (atom name) (text_term vsn)
 
 abbrev pub module_line : List ℕ → List ℕ → List ℕ
 module_line name vsn = term_line (module_value name vsn)

@@ -10,9 +10,7 @@
 mod line;
 mod process_line;
 mod release_listing;
-mod term;
 
 pub use line::push_count;
 pub use process_line::{push_module, push_process};
 pub use release_listing::listing;
-pub use term::{atom_term, text_term};

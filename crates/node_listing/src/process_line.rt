@@ -5,9 +5,9 @@ ghost use Rattle.erl_term.specs.Value.Value.{tuple};
 ghost use Rattle.node_listing.specs.Listing.{process_line, process_value, standing_word, module_line};
 
 use crate::line::push_term;
-use crate::term::{atom_term, text_term};
 use erl_term::Term;
 use proc_history::{Now, Standing, Value};
+use rel_files::terms::{atom_term, pair_term, text_term};
 use std::alloc::{AllocError, Global};
 
 /// Puts the line of what stands in a slot at the end: of a process its application, its id, its module, the version of that,
@@ -35,7 +35,7 @@ pub fn push_module(
 {
     let name = atom_term(alloc, name)?;
     let vsn = text_term(alloc, vsn)?;
-    let term = Term::Tuple(vec![in alloc; name, vsn]?);
+    let term = pair_term(alloc, name, vsn)?;
     push_term(alloc, text, &term)
 }
 

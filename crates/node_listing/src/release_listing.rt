@@ -7,9 +7,9 @@ ghost use Rattle.rel_list.specs.Keyed.{entry_of};
 ghost use Rattle.node_listing.specs.Listing.{listing as listing_of, release_line, release_value, application_value};
 
 use crate::line::{push_count, push_term};
-use crate::term::{atom_term, list_term, text_term};
 use erl_term::Term;
 use rel_files::RelApp;
+use rel_files::terms::{atom_term, list_term, text_term};
 use rel_list::{ListedRelease, ReleaseList};
 use std::alloc::{AllocError, Global};
 

@@ -1,9 +1,9 @@
 -- The lines of loaded modules, one after another.
-use Rattle.std.proofs.Common.{◌≡◌, ℕ, ◌+◌, ◌<◌, ◌≤◌, List, [], ◌∷◌, ◌++◌, length, map, take, get_or, ap, sym, ◌∙◌}
+use Rattle.std.proofs.Common.{◌≡◌, ℕ, ◌+◌, ◌≤◌, List, ◌++◌, length, map, take, ap, sym, ◌∙◌}
 use Rattle.std.specs.Borrow.{Bor}
 use Rattle.std.specs.List.{flat_map}
 use Rattle.std.specs.Map.Iter.{deref_pair}
-use Rattle.std.proofs.lemmas.List.{flat_map_more, map_more, take_all, length-map}
+use Rattle.std.proofs.lemmas.List.{take_all, length-map}
 use Rattle.node_listing.specs.Listing.{module_line, module_listing, count_line}
 
 abbrev pub line_of : List ℕ × List ℕ → List ℕ
@@ -11,13 +11,6 @@ line_of m = module_line m.0 m.1
 
 abbrev pub Pairs : Type 0
 Pairs = List (Bor (List ℕ) × Bor (List ℕ))
-
-pub line_more : (ms : Pairs) (i : ℕ) (m : Bor (List ℕ) × Bor (List ℕ)) (old new : List ℕ) → i < length ms → m ≡ get_or ms i m → new ≡ old ++ line_of (deref_pair m)
-    → old ≡ flat_map line_of (map deref_pair (take i ms)) → new ≡ flat_map line_of (map deref_pair (take (i + 1) ms))
-line_more ms i m old new within at grown so_far =
-    let before = map deref_pair (take i ms) in
-    grown ∙ (ap (λ t. t ++ line_of (deref_pair m)) so_far ∙ (flat_map_more line_of [] before (deref_pair m)
-    ∙ ap (flat_map line_of) (sym (map_more deref_pair ms i m within ∙ ap (λ x. before ++ deref_pair x ∷ []) (sym at)))))
 
 pub all_lines : (ms : Pairs) (i count : ℕ) (versions : List (List ℕ × List ℕ)) (lines text : List ℕ) → length ms ≤ i → map deref_pair ms ≡ versions
     → lines ≡ flat_map line_of (map deref_pair (take i ms)) → count ≡ length ms → text ≡ lines ++ count_line count → text ≡ module_listing versions

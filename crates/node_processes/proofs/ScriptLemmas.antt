@@ -11,7 +11,7 @@ use Rattle.proc_history.specs.declared.value.Value.{Value}
 use Rattle.proc_history.specs.Changes.{finds_row}
 use Rattle.proc_history.specs.Events.Event.{given_up}
 use Rattle.proc_history.specs.Histories.{replay, replay_from}
-use Rattle.proc_history.specs.Values.{nothing, next_round, up_at}
+use Rattle.proc_history.specs.Values.{nothing, next_round}
 use Rattle.proc_history.proofs.Entries.{replay-append}
 use Rattle.proc_table.specs.declared.pid.Pid.{Pid}
 use Rattle.proc_table.specs.declared.view.View.{View}
@@ -35,10 +35,10 @@ use Rattle.started_members.specs.Members.{pids_of, processes_among}
 use Rattle.app_members.specs.Walk.{app_fault, app_members, app_starts}
 use Rattle.held_processes.specs.Applications.{all_begun, all_ended, ended_at, held_ended, known, lowest, lowest_below, match_pid, pid_at, pids_for, room_in, round_in, rounds_below, taken_at, with_started, with_stopped_app}
 use Rattle.held_processes.specs.Children.{child_pids, with_deleted}
-use Rattle.held_processes.specs.Course.{Courses, add_alone, added, course_after, if_held, on_all, opening, runs}
+use Rattle.held_processes.specs.Course.{Courses, add_alone, added, course_after, if_held, on_all, opening}
 use Rattle.held_processes.specs.Course.Operation.{finish}
 use Rattle.held_processes.specs.Following.{AreUntouched}
-use Rattle.held_processes.specs.Operations.{Values, is_held_user, now_in, uses_up, values_seen}
+use Rattle.held_processes.specs.Operations.{Values, is_held_user, now_in, values_seen}
 use Rattle.held_processes.specs.Restarts.{child_ended, restart_pids, restart_starts}
 use Rattle.held_processes.proofs.AnyLemmas.{any_alike}
 use Rattle.held_processes.proofs.CourseLemmas.{blocks_alone}
@@ -51,7 +51,7 @@ use Rattle.script_progress.specs.Fault.Cause.{in_use, no_change, no_memory}
 use Rattle.relup_exec.specs.Alone.{Outcome, outcome, outcome_from, step_alone, unless_fault, values_alone}
 use Rattle.relup_exec.specs.Alone.Outcome.{ends, refuses, breaks}
 use Rattle.relup_exec.specs.Outcome.{IsBroken, IsFinished, IsRefused, Start, began_at, run_behind}
-use Rattle.relup_exec.proofs.AloneLemmas.{Alike, has_one_outcome, now_alike, place_alike}
+use Rattle.relup_exec.proofs.AloneLemmas.{Alike, has_one_outcome, now_alike, place_alike, uses_alike}
 use Rattle.relup_exec.proofs.RunLemmas.{step_values}
 use Rattle.node_processes.specs.InMemory.{values_in}
 use Rattle.node_processes.specs.Scripts.{behind_run, ended_run, run_on, values_of}
@@ -242,10 +242,6 @@ change_alike s Up (c ∷ cs) x y g r left =
 change_alike s Down (c ∷ cs) x y g r left =
     ap₂ (λ (b : Bool) (o : Option Cause). if b then Some no_change else o) (stuck_alike (old_version s Down c.name r) c x y g r left)
     (change_alike s Down cs x y g (changed_once s Down c r) left)
-
-uses_alike : (name : List ℕ) (x y : Values) (r : Run) → Alike x y → uses_up x (users_in r) name r.courses ≡ uses_up y (users_in r) name r.courses
-uses_alike name x y r left =
-    any_alike _ _ slots (λ p inside. ap (λ (v : Value). runs name (users_in r p) && is_some (up_at (replay_from v (r.courses p).pending).now)) (left p inside))
 
 module _ (g : Values) (r : Run) (same : Alike r.values g) where
   start_alike : (l : Option Library) → start_fault l r ≡ start_fault l (with_values g r)

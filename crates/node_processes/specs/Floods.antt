@@ -1,5 +1,5 @@
 -- What a flood of a process answers and leaves: calls with one input, as many as are asked.
-use Rattle.std.specs.Prelude.{ℕ, ◌-◌, List, [], ◌∷◌, ◌++◌, codes, decimal, length, slice_set, Option, Some, None}
+use Rattle.std.specs.Prelude.{◌≡◌, ℕ, ◌-◌, List, [], ◌∷◌, ◌++◌, codes, decimal, length, slice_set, Option, Some, None}
 use Rattle.proc_history.specs.declared.value.Outcome.{Outcome}
 use Rattle.proc_history.specs.declared.value.Value.{Value}
 use Rattle.proc_history.specs.Events.Event.{call}
@@ -44,3 +44,8 @@ flooded_at input times ps (Some p) =
 -- what a flood leaves
 abbrev pub flooded : List ℕ → List ℕ → ℕ → ℕ → Processes → Processes
 flooded app id input times ps = flooded_at input times ps (process_named app id ps)
+
+-- Nothing has changed but the value in this process's slot, if there is one.
+abbrev pub StaysBut : Option Pid → Processes → Processes → Type 0
+StaysBut None ps qs = qs ≡ ps
+StaysBut (Some p) ps qs = (v : Value) × (qs ≡ record ps { values = slice_set ps.values p.slot v })

@@ -2,8 +2,9 @@
 ghost use Rattle.std.specs.Prelude.{◌≡◌, string_bytes, IfOk, OnErr};
 ghost use Rattle.proc_table.specs.Waits.{IsAnswer};
 ghost use Rattle.node_processes.specs.Answers.{call_line, called, modules_line, peek_line, processes_line};
-ghost use Rattle.node_processes.specs.Floods.{counts_line, flood_line, flooded};
+ghost use Rattle.node_processes.specs.Floods.{counts_line, flood_line, flooded, StaysBut};
 ghost use Rattle.node_processes.specs.InMemory.{AreSound, processes_in, tried_line};
+ghost use Rattle.node_processes.specs.Processes.{process_named};
 
 use crate::Processes;
 use node_listing::{push_count, push_module};
@@ -117,6 +118,9 @@ impl Processes {
             ≡ flood_line app.now id.now input times (processes_in self.old)) }
         ensures kept { OnErr result ((self.new.tree ≡ self.old.tree)
             × (self.new.loaded ≡ self.old.loaded)) }
+        ensures stays { OnErr result
+            (StaysBut (process_named app.now id.now (processes_in self.old))
+            (processes_in self.old) (processes_in self.new)) }
     {
         match self.tree.find(app, id) {
             Some(pid) => {

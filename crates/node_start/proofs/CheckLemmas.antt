@@ -10,10 +10,10 @@ use Rattle.worker_table.specs.Table.{WorkerTable}
 use Rattle.mod_table.specs.Table.{ChildSpec, SuperTable}
 use Rattle.mod_table.specs.Tables.{Tables, first_of, child_table}
 use Rattle.rel_check.specs.Walk.{missing_at, missing_below, processes_from, members_from, is_within}
-use Rattle.rel_check.proofs.Members.{both}
 use Rattle.app_members.specs.Walk.{NewMember, StartFault, child_fault, children_fault, child_members, children_members, start_in, starts_among}
 use Rattle.node_start.specs.Laws.{CheckedStarts}
 use Rattle.app_members.proofs.WalkLemmas.{or_none}
+use Rattle.rel_files.proofs.Options.{both}
 
 -- a worker is one process and one member
 one_worker : (n : ℕ) (tables : Tables) (w : WorkerTable) → (processes_from n tables (Worker w) ≡ 1) × (members_from n tables (Worker w) ≡ 1)

@@ -23,19 +23,16 @@ use Rattle.mod_table.specs.Tables.{Tables, first_of, of_kind}
 use Rattle.rel_check.specs.Names.{first_module_again, first_id_again}
 use Rattle.rel_check.specs.Walk.{is_started, top_of, missing_from, part_missing, part_processes, part_members, part_is_within, first_missing, processes_in, members_in, are_within, processes_from, members_from, is_within}
 use Rattle.rel_check.specs.Walk as walk
-use Rattle.rel_check.proofs.Members.{both, first_member, later_member, member_cases}
+use Rattle.rel_check.proofs.Members.{first_member, later_member, member_cases}
 use Rattle.app_members.specs.Walk.{StartFault, app_fault, app_starts, children_fault, crowd_fault, members_at_top, starts_among, super_children, top_fault}
 use Rattle.app_members.proofs.AppLemmas.{no_children, none_wrong}
+use Rattle.app_members.proofs.WalkLemmas.{or_none}
 use Rattle.started_members.proofs.BeginLemmas.{first_slots}
 use Rattle.node_start.proofs.CheckLemmas.{checked_starts}
 use Rattle.node_processes.specs.Fresh.{part_starts, started_parts, tables_in}
 use Rattle.node_start.specs.Starting.{AreReady, HasNoFault, IsNew, part_name, starts_in_all}
 use Rattle.node_start.proofs.TableLemmas.{same_tables}
-
--- of two that may be found neither is
-neither_found : {X : Type 0} (a b : Option X) → option_or a b ≡ None → (a ≡ None) × (b ≡ None)
-neither_found None b is = (refl, is)
-neither_found (Some x) b is = absurd cc
+use Rattle.rel_files.proofs.Options.{both}
 
 nothing_mapped : {X Y : Type 0} (f : X → Y) (o : Option X) → option_map f o ≡ None → o ≡ None
 nothing_mapped f None is = refl
@@ -55,9 +52,9 @@ record Passed (ps : List Part) : Type 0 where
 
 passed : (ps : List Part) → first_fault ps ≡ None → Passed ps
 passed ps none =
-    let modules = neither_found (option_map module_twice (first_module_again ps)) _ none in
-    let ids = neither_found (option_map id_twice (first_id_again ps)) _ modules.1 in
-    let missing = neither_found (option_map no_table (first_missing ps)) _ ids.1 in
+    let modules = or_none (option_map module_twice (first_module_again ps)) _ none in
+    let ids = or_none (option_map id_twice (first_id_again ps)) _ modules.1 in
+    let missing = or_none (option_map no_table (first_missing ps)) _ ids.1 in
     let limits = both (list_all few_modules_in ps) _ (kept_so (keeps_limits ps) missing.1) in
     let rows = both (list_all has_few_rows (modules_in ps)) _ limits.1 in
     let depth = both (are_within ps) _ rows.1 in
@@ -112,7 +109,7 @@ parts_passed : (tables : Tables) (ps : List Part) → first_of (part_missing tab
     → AllByRecursion (HasNoFault tables) (started_parts ps) × (starts_in_all tables (started_parts ps) ≤ sum_by (part_processes tables) ps)
 parts_passed tables [] missing within few = (tt, omega arith)
 parts_passed tables (p ∷ ps) missing within few =
-    let here = neither_found (part_missing tables p) (first_of (part_missing tables) ps) missing in
+    let here = or_none (part_missing tables p) (first_of (part_missing tables) ps) missing in
     let deep = both (part_is_within tables p) (list_all (part_is_within tables) ps) within in
     let members = sum_by-cons (part_members tables) p ps in
     go (is_started p.app.start) (λ starts. part_passed tables p starts here.0 deep.0 (omega (arith, members, few))) (parts_passed tables ps here.1 deep.1 (omega (arith, members, few)))

@@ -13,7 +13,7 @@ use Rattle.rel_check.specs.Modules as tested
 use Rattle.rel_check.specs.Names.{Named, module_names, first_module_again}
 use Rattle.rel_check.specs.Walk as walk
 use Rattle.rel_check.proofs.Distinct.{none_again}
-use Rattle.rel_check.proofs.Joins.{or_none}
+use Rattle.rel_check.proofs.Joins.{or_none, or_assoc}
 use Rattle.rel_check.proofs.Members.{first_member, later_member}
 use Rattle.loaded_modules.specs.Loaded as loaded
 use Rattle.node_processes.specs.Fresh.{tables_in}
@@ -22,10 +22,6 @@ use Rattle.node_processes.specs.Fresh.{tables_in}
 abbrev last_named : List Module → List ℕ → Option (Option Table)
 last_named [] n = None
 last_named (m ∷ ms) n = option_or (last_named ms n) (if bytes_eq m.name n then Some m.table else None)
-
-or_assoc : {X : Type 0} (a b c : Option X) → option_or (option_or a b) c ≡ option_or a (option_or b c)
-or_assoc None b c = refl
-or_assoc (Some x) b c = refl
 
 map_or : {X Y : Type 0} (f : X → Y) (a b : Option X) → option_map f (option_or a b) ≡ option_or (option_map f a) (option_map f b)
 map_or f None b = refl

@@ -17,7 +17,6 @@ use Rattle.rel_list.specs.Refusal.{refusal, listed_refusal}
 use Rattle.rel_records.specs.Lists.{HaveVersions}
 use Rattle.rel_records.specs.Writing.{IsOfListed}
 use Rattle.rel_list.proofs.OwnRules.{own_of_step}
-use Rattle.rel_records.proofs.RecordPlaces.{chosen}
 use Rattle.node_store.specs.Commits.{MakesPermanent}
 use Rattle.node_store.specs.Refusals.{CommandRefused}
 use Rattle.node_store.specs.State.{list_in, is_dead, IsSame}
@@ -26,6 +25,7 @@ use Rattle.node_command.specs.declared.error.HandlerError.{HandlerError}
 use Rattle.node_command.specs.declared.error.HandlerError.TheVariants as told
 use Rattle.node_store.specs.declared.node_store.NodeStore.{NodeStore}
 use Rattle.node_command.proofs.CommandLemmas.{IsListRefusal, IsListAnswer, list_refuses, of_command}
+use Rattle.rel_files.proofs.Options.{passed}
 
 -- An event is refused by the list or its limits, and nothing changed.
 pub refused_by_list : {D : Type 0} (failures : D → ℕ) (h : NodeStore D) (e : Event) (size : ℕ) (why : HandlerError) → is_dead h ≡ false → commanded e (list_in h) ≡ Err why
@@ -91,7 +91,7 @@ permanent_now v (e ∷ es) = go (bytes_eq v e.release.vsn) e.status (permanent_n
 
 moved : (v : List ℕ) (es next : Releases) (may : Bool) → (if may then Some (list_made_permanent v es) else None) ≡ Some next → permanent next ≡ release_at v es
 moved v es next may is =
-    let (can, made_so) = chosen may (Some (list_made_permanent v es)) next is in
+    let (can, made_so) = passed may (Some (list_made_permanent v es)) next is in
     let same : list_made_permanent v es ≡ next = cc in
     ap permanent (sym same) ∙ permanent_now v es
 

@@ -1,7 +1,6 @@
 -- A node at rest, and one that commits an event.
-use Rattle.std.proofs.Common.{◌≡◌, ◌⊎◌, inl, inr, ⊎_elim, ℕ, ◌+◌, ◌≤◌, true, false, List, [], ◌∷◌, ◌++◌, length, length-append, None, Some, Result, Ok, Err, true≢false, refl, sym, ap, ◌∙◌, subst, arith}
-use Rattle.std.proofs.lemmas.Bool.{cases_lt}
-use Rattle.std.specs.Prelude.{is_err, IfErr, IsErr, OnErr, OnOk}
+use Rattle.std.proofs.Common.{◌≡◌, ◌⊎◌, inl, inr, ℕ, ◌+◌, ◌≤◌, true, false, List, [], ◌∷◌, ◌++◌, length, length-append, None, Some, Result, Ok, Err, true≢false, refl, sym, ap, ◌∙◌, subst, arith}
+use Rattle.std.specs.Prelude.{is_err, IfErr, OnErr, OnOk}
 use Rattle.std.specs.List.{AllByRecursion}
 use Rattle.rel_disk.specs.declared.disk.Disk.{Ghosts}
 use Rattle.rel_disk.specs.Moments.{LeavesOnly, HasFailed}
@@ -45,10 +44,11 @@ use Rattle.rel_list.specs.Refusal.{IsRefusedWith, brings_release, refusal}
 use Rattle.rel_list.proofs.PermanentLaws.{permanent_stays}
 use Rattle.node_store.specs.Start.{started as start_versions}
 use Rattle.node_command.specs.declared.error.HandlerError.{HandlerError}
-use Rattle.node_command.specs.declared.error.HandlerError.TheVariants.{Dead, Device, Exists, Full, NoMemory}
+use Rattle.node_command.specs.declared.error.HandlerError.TheVariants.{Device, Full, NoMemory}
 use Rattle.node_store.specs.declared.node_store.NodeStore.{NodeStore}
 use Rattle.node_command.proofs.CommandLemmas.{commanded_step, small_and_few}
 use Rattle.node_store.proofs.Images.{each_image, either_behind, extent_so, image_at, in_same_format, same_extent, same_records, settled_so, stored_before, stored_after, started_by, started_by_text, while_committing, with_record}
+use Rattle.rel_store.proofs.Scan.{failed_since}
 
 -- what holds of a call that didn't fail
 pub opened : {T E : Type 0} (r : Result T E) (P : Type 0) → false ≡ is_err r → OnOk r P → P
@@ -59,11 +59,6 @@ opened (Err e) P ok p = cc ok
 pub left_so : {T E : Type 0} (r : Result T E) (P : Type 0) → true ≡ is_err r → OnErr r P → P
 left_so (Ok v) P err p = cc err
 left_so (Err e) P err p = p
-
--- a call that failed promises nothing of a success
-pub no_success : {T E : Type 0} (P : Type 0) (r : Result T E) → IsErr r → OnOk r P
-no_success P (Ok v) err = cc err
-no_success P (Err e) err = tt
 
 -- nothing changed
 pub all_same : {D : Type 0} (h : NodeStore D) → IsSame h h
@@ -119,11 +114,6 @@ failed_so failures old new n (Err fault.NotAStore) err refused fits room works =
 failed_so failures old new n (Err (fault.Damaged at)) err refused fits room works = absurd refused
 failed_so failures old new n (Err fault.Exists) err refused fits room works = absurd refused
 
--- A device that failed in the second of two calls failed in both together.
-pub failed_behind : (a b c : ℕ) → a ≤ b → b ≤ c → HasFailed b c → HasFailed a c
-failed_behind a b c first second (inl rose) = inl (omega arith)
-failed_behind a b c first second (inr stood) = ⊎_elim (λ less. inl (omega (arith, stood))) (λ same. inr (omega arith)) (cases_lt a b)
-
 -- there is no room for a record
 pub no_room : {D : Type 0} (failures : D → ℕ) (e : Event) (size : ℕ) (h mid : NodeStore D) (why : HandlerError) → IsAllowed e h → IsSame h mid → HasNoRoom (extent_in h) size why
     → CommandRefused failures e size h mid why
@@ -142,27 +132,6 @@ module _ {D : Type 0} (v : Ghosts D) (h mid : NodeStore D) (same : IsSame h mid)
         (c.any_moment (same.dead ∙ living) events (after ∙ ap (λ l. Some l) (sym same.list))));
     counted = subst (λ d. v.failures d ≤ v.failures (disk_in new)) same.disk c.counted;
   }
-
-  pub appended_behind : IsAppended v e size mid new → IsAppended v e size h new
-  appended_behind d = record {
-    worked = sym same.dead ∙ d.worked;
-    accepted = ap (commanded e) (sym same.list) ∙ d.accepted;
-    acknowledged = d.acknowledged;
-    fits = subst (λ x. HasSpace x size) same.extent d.fits;
-    reaches = d.reaches ∙ ap (λ x. extent_behind x size) same.extent;
-  }
-
-  allowed_behind : IsAllowed e mid → IsAllowed e h
-  allowed_behind a = (sym same.dead ∙ a.0, (a.1.0, ap (commanded e) (sym same.list) ∙ a.1.1))
-
-  pub refused_behind : (why : HandlerError) → CommandRefused v.failures e size mid new why → CommandRefused v.failures e size h new why
-  refused_behind Dead r = (sym same.dead ∙ r.0, same_both h mid new same r.1)
-  refused_behind Full r = (allowed_behind r.0, λ has. r.1 (subst (λ x. HasSpace x size) (sym same.extent) has), same_both h mid new same r.2)
-  refused_behind NoMemory r = (sym same.dead ∙ r.0, same_both h mid new same r.1)
-  refused_behind Device r =
-      ((sym same.dead ∙ r.0.0, (allowed_behind (r.0.0, r.0.1)).1, subst (λ x. HasSpace x size) same.extent r.0.2), subst (λ d. HasFailed (v.failures d) (v.failures (disk_in new))) same.disk r.1, r.2)
-  refused_behind Exists r = absurd r
-  refused_behind why r = ((sym same.dead ∙ r.0.0, ap (commanded e) (sym same.list) ∙ r.0.1), same_both h mid new same r.1)
 
 -- No release is a one-shot behind an event that makes none one.
 pub none_behind : {D : Type 0} (v : Ghosts D) (e : Event) (size : ℕ) (h mid : NodeStore D) → makes_one_shot e ≡ false → IsAppended v e size h mid → has_one_shot (list_in mid) ≡ false
@@ -273,9 +242,6 @@ module _ {D : Type 0} (v : Ghosts D) (h : NodeStore D) (s : IsSound v.seen v.may
         counted = subst (λ d. v.failures (disk_in h) ≤ v.failures d) (sym same.disk) (omega arith);
       }
 
-      pub same_but_memory : IsSame h (record { store = reserved; list = h.list; dead = h.dead })
-      same_but_memory = same_with h reserved same
-
   -- A record is appended behind a reservation.
   module _ (alive : is_dead h ≡ false) (reserved : Store D) (same : store.IsSame h.store reserved) (e : Event) (next : Releases) (body : List ℕ) (told : IsRecordFor body e (list_in h)) (needs : makes_one_shot e ≡ true → store.format_in h.store ≡ 2) (is : step e (list_in h) ≡ Some next) (room_then : HasBootSpace (extent_behind (extent_in h) (length body)) next) where
     pub reserved_works : store.has_failed reserved ≡ false
@@ -370,4 +336,4 @@ module _ {D : Type 0} (v : Ghosts D) (h : NodeStore D) (s : IsSound v.seen v.may
 
       -- the device failed when the event was committed already
       pub fails_then : HasFailed (v.failures (disk_in mid)) (v.failures (disk_in new)) → CommandRefused v.failures e size h new Device
-      fails_then failed = ((alive, (list_in mid, appended.accepted), appended.fits), failed_behind _ _ _ commits.counted keeps.counted failed, keeps.dead)
+      fails_then failed = ((alive, (list_in mid, appended.accepted), appended.fits), failed_since _ _ _ commits.counted keeps.counted failed, keeps.dead)

@@ -32,8 +32,9 @@ use Rattle.node_store.specs.Image.{AreRecordsOf, Extent, extent_behind, extent_o
 use Rattle.node_store.specs.Refusals.{CommandRefused, told_compaction}
 use Rattle.node_store.specs.State.{disk_in, extent_in, list_in, is_dead, start_in, store_extent, HasStarted, IsReady, IsSound}
 use Rattle.node_store.specs.declared.node_store.NodeStore.{NodeStore}
-use Rattle.node_store.proofs.Commits.{dead_is_sound, extent_kept, failed_behind, image_now, lost_commits, none_behind, revived, revived_is_sound, start_is_right}
+use Rattle.node_store.proofs.Commits.{dead_is_sound, extent_kept, image_now, lost_commits, none_behind, revived, revived_is_sound, start_is_right}
 use Rattle.node_store.proofs.Images.{extent_by_end, extent_with_records, in_same_format, no_boot_space, same_extent, same_records, settled_so, started_by, stored_after}
+use Rattle.rel_store.proofs.Scan.{failed_since}
 
 -- a short store stays as it is, and so does that of a list with a one-shot
 pub short_stays : (x : Extent) (es : Releases) → may_be_compacted x es ≡ false → compacted x es ≡ x
@@ -250,7 +251,7 @@ module _ {D : Type 0} (v : Ghosts D) (h : NodeStore D) (e : Event) (size : ℕ) 
   pub fails_compacting : (why : HandlerError) → why ≡ Device → HasFailed (v.failures (disk_in mid)) (v.failures (disk_in new)) → CommandRefused v.failures e size h new why
   fails_compacting why device failed =
       subst (CommandRefused v.failures e size h new) (sym device)
-      ((committed.appended.worked, (list_in mid, committed.appended.accepted), committed.appended.fits), failed_behind _ _ _ committed.commits.counted compacts.counted failed, compacts.dead)
+      ((committed.appended.worked, (list_in mid, committed.appended.accepted), committed.appended.fits), failed_since _ _ _ committed.commits.counted compacts.counted failed, compacts.dead)
 
   -- It is done.
   module _ (done : IsCompacted v mid new) where

@@ -9,7 +9,7 @@ ghost use Rattle.node_store.specs.Image.{HasSpace, LeavesBootSpace};
 ghost use Rattle.node_store.specs.Refusals.{CommandRefused, HasNoRoom, IsAllowed};
 ghost use Rattle.node_store.specs.State.{extent_in, format_in, list_in, is_dead, start_in, store_extent, IsReady, IsSound};
 ghost use Rattle.node_command.specs.Taking.{change_size};
-ghost use Rattle.rel_store.specs.State.{HasRoom, IsSame as IsSameStore, IsSoundStore};
+ghost use Rattle.rel_store.specs.State.{has_failed, HasRoom, IsSame as IsSameStore, IsSoundStore};
 
 use crate::NodeStore;
 use node_command::HandlerError;
@@ -19,14 +19,16 @@ use rel_list::Event;
 use rel_store::Store;
 use std::alloc::Global;
 
-/// Makes room for a record with a body of so many bytes, where so many more fit behind it. The store is as it was but for memory.
+/// Makes room for a record with a body of so many bytes in a store that hasn't failed, where so many more fit behind it. The store
+/// is as it was but for memory.
 pub fn make_room<D: Disk>(
     store: &mut Store<D>,
     alloc: Global,
     size: usize,
     behind: usize,
 ) -> Result<(), HandlerError>
-    requires { IsSoundStore D.seen D.may_leave store.old }
+    requires sound { IsSoundStore D.seen D.may_leave store.old }
+    requires works { has_failed store.old ≡ false }
     ensures sound { IsSoundStore D.seen D.may_leave store.new }
     ensures kept { IsSameStore store.old store.new }
     ensures space { OnOk result (HasSpace (store_extent store.old) (size + behind)) }
@@ -93,6 +95,7 @@ impl<D: Disk> NodeStore<D> {
         ensures ready { OnOk result (IsReady D.seen D.may_leave self.new) }
         ensures dead { OnOk result (is_dead self.new ≡ true) }
         ensures start { OnOk result (start_in D.seen self.new ≡ start_in D.seen self.old) }
+        ensures format { format_in self.new ≡ format_in self.old }
         ensures refused { IfErr result (CommandRefused D.failures (event_of event)
             (length body.now) self.old self.new) }
     {
@@ -113,6 +116,7 @@ impl<D: Disk> NodeStore<D> {
         ensures ready { OnOk result (IsReady D.seen D.may_leave self.new) }
         ensures dead { OnOk result (is_dead self.new ≡ true) }
         ensures start { OnOk result (start_in D.seen self.new ≡ start_in D.seen self.old) }
+        ensures format { format_in self.new ≡ format_in self.old }
         ensures refused { IfErr result (CommandRefused D.failures (event_of event)
             (change_size (event_of event) (list_in self.old)) self.old self.new) }
     {
@@ -135,6 +139,7 @@ impl<D: Disk> NodeStore<D> {
         ensures done { OnOk result
             (IsDone D.Disk (event_of event) (length body.now) self.old self.new) }
         ensures start { OnOk result (start_in D.seen self.new ≡ start_in D.seen self.old) }
+        ensures format { format_in self.new ≡ format_in self.old }
         ensures refused { IfErr result (CommandRefused D.failures (event_of event)
             (length body.now) self.old self.new) }
     {
@@ -157,6 +162,7 @@ impl<D: Disk> NodeStore<D> {
         ensures done { OnOk result (IsDone D.Disk (event_of event)
             (change_size (event_of event) (list_in self.old)) self.old self.new) }
         ensures start { OnOk result (start_in D.seen self.new ≡ start_in D.seen self.old) }
+        ensures format { format_in self.new ≡ format_in self.old }
         ensures refused { IfErr result (CommandRefused D.failures (event_of event)
             (change_size (event_of event) (list_in self.old)) self.old self.new) }
     {

@@ -40,6 +40,8 @@ impl<D: Disk> NodeStore<D> {
         ensures dead { OnOk result (is_dead self.new ≡ makes_one_shot (event_of event)) }
         ensures format { OnOk result (makes_one_shot (event_of event) ≡ true
             → format_in self.new ≡ 2) }
+        ensures same_format { makes_one_shot (event_of event) ≡ false
+            → format_in self.new ≡ format_in self.old }
         ensures started { OnOk result (HasStarted D.may_leave self.new) }
         ensures start { OnOk result (start_in D.seen self.new ≡ start_in D.seen self.old) }
         ensures device { IfErr result (λ e. e ≡ HandlerError.Device) }
@@ -76,6 +78,8 @@ impl<D: Disk> NodeStore<D> {
         ensures start { OnOk result (start_in D.seen self.new ≡ start_in D.seen self.old) }
         ensures format { OnOk result (makes_one_shot (event_of event) ≡ true
             → format_in self.new ≡ 2) }
+        ensures same_format { makes_one_shot (event_of event) ≡ false
+            → format_in self.new ≡ format_in self.old }
         ensures dead { is_dead self.new ≡ true }
         ensures device { IfErr result (λ e. e ≡ HandlerError.Device) }
         ensures failed { IfErr result (λ _.

@@ -8,7 +8,7 @@ ghost use Rattle.node_store.specs.Commits.{Commits, IsAppended, Keeps, MakesPerm
 ghost use Rattle.node_store.specs.Start.{started};
 ghost use Rattle.node_store.specs.Image.{IsImageAt, start_slot};
 ghost use Rattle.node_store.specs.Refusals.{CommandRefused, IsStartRefusal};
-ghost use Rattle.node_store.specs.State.{disk_in, extent_in, list_in, is_dead, HasStarted, IsReady, IsSound};
+ghost use Rattle.node_store.specs.State.{disk_in, extent_in, format_in, list_in, is_dead, HasStarted, IsReady, IsSound};
 ghost use Rattle.node_command.specs.Taking.{change_size};
 ghost use Rattle.rel_store.specs.Layout.{slot_with};
 ghost use Rattle.start_record.specs.Text.{AreVersions, versions_of, start_text};
@@ -40,6 +40,7 @@ impl<D: Disk> NodeStore<D> {
         ensures ready { OnOk result (IsReady D.seen D.may_leave self.new) }
         ensures started { OnOk result (HasStarted D.may_leave self.new) }
         ensures dead { OnOk result (is_dead self.new ≡ true) }
+        ensures format { format_in self.new ≡ format_in self.old }
         ensures refused { IfErr result (CommandRefused D.failures (event_of event)
             (change_size (event_of event) (list_in self.old)) self.old self.new) }
     {
@@ -58,6 +59,7 @@ impl<D: Disk> NodeStore<D> {
         ensures acknowledged { OnOk result ((c : List ℕ) → D.may_leave (disk_in self.new) c
             → IsImageAt c (list_in self.new) (extent_in self.new)
             × (start_slot c ≡ slot_with (start_text (versions_of start.now)))) }
+        ensures format { format_in self.new ≡ format_in self.old }
         ensures failed { IfErr result (λ _.
             HasFailed (D.failures (disk_in self.old)) (D.failures (disk_in self.new))) }
     {

@@ -1,10 +1,10 @@
 -- Which script an installation runs, where it runs, and why it isn't begun (OTP: release_handler:install_release/1).
-use Rattle.std.specs.Prelude.{◌≡◌, ℕ, List, [], not, find, Option, None, Some, Ok, Err, Bool, if◌then◌else◌}
-use Rattle.std.specs.Option.{option_map, option_map_or}
+use Rattle.std.specs.Prelude.{◌≡◌, ℕ, List, [], not, Option, None, Some, Ok, Err, Bool, if◌then◌else◌}
+use Rattle.std.specs.Option.{option_map}
 use Rattle.std.specs.Str.{bytes_eq}
 use Rattle.library.specs.Library.{Library}
 use Rattle.rel_files.specs.Release.{Release}
-use Rattle.rel_list.specs.Releases.{Entry, Releases, release_at, running}
+use Rattle.rel_list.specs.Releases.{Releases, release_at, running, libraries_at}
 use Rattle.relup_script.specs.Script.{IsRunnable, script_fault}
 use Rattle.relup_script.specs.Search.{FoundForm}
 use Rattle.node_command.specs.Installing.{installation}
@@ -28,10 +28,6 @@ changes_emulator vsn es = not (bytes_eq (erts_of (release_at vsn es)) (erts_of (
 abbrev pub script_failure : List ℕ → Releases → FoundForm → Option Failure
 script_failure vsn es f =
     if changes_emulator vsn es then Some (failure 0 new_emulator) else option_map fault_failure (script_fault f.script)
-
--- the libraries of the release of this version
-abbrev pub libraries_at : List ℕ → Releases → List Library
-libraries_at vsn es = option_map_or (λ (e : Entry). e.libraries) (find (λ (e : Entry). bytes_eq vsn e.release.vsn) es) []
 
 -- A script that may begin: where its modules are fetched from, and the libraries of the release to which it leads.
 pub record UpgradeForm : Type 0 where

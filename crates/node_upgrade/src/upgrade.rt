@@ -1,13 +1,11 @@
 //! The script by which a release is installed.
-ghost use Rattle.std.specs.Prelude.{◌≡◌, IfErr, IfOk, find, map, string_bytes};
+ghost use Rattle.std.specs.Prelude.{◌≡◌, IfErr, IfOk};
 ghost use Rattle.std.specs.Option.{option_map, option_copied};
-ghost use Rattle.std.specs.Str.{bytes_eq};
 ghost use Rattle.held_processes.specs.Following.{HoldsNothing};
-ghost use Rattle.library.specs.InMemory.{shared_of};
 ghost use Rattle.node_upgrade.specs.Failure.{failure_of};
 ghost use Rattle.node_upgrade.specs.InMemory.{upgrade_of};
 ghost use Rattle.node_upgrade.specs.Running.{IsInstalled, RunRefused, TellsRefusal, start_in, state};
-ghost use Rattle.node_upgrade.specs.Upgrade.{IsNoUpgrade, IsUpgrade, changes_emulator, erts_of, libraries_at, script_failure, site_for};
+ghost use Rattle.node_upgrade.specs.Upgrade.{IsNoUpgrade, IsUpgrade, changes_emulator, erts_of, script_failure, site_for};
 ghost use Rattle.rel_files.specs.Release.{release_of};
 ghost use Rattle.relup_exec.specs.Outcome.{IsFinished, Start};
 ghost use Rattle.relup_script.specs.Script.{IsRunnable, restarts};
@@ -23,7 +21,7 @@ use loaded_modules::Loaded;
 use node_command::{HandlerError, find_installation};
 use proc_table::{HandlerSeat, Name, ProcTable};
 use rel_files::Rel;
-use rel_list::{ListedRelease, ReleaseList};
+use rel_list::ReleaseList;
 use relup_exec::{Failed, Refused, Site, run_before};
 use relup_script::{Found, check, restarts};
 use script_progress::Cause;
@@ -54,8 +52,8 @@ pub struct Upgrade<'a> {
 
 /// The script by which the release of this version is installed. It takes no memory.
 ///
-/// Refusals, in this order: `NoSuchRelease`, `AlreadyInstalled`, `NoMatchingRelup`; then `Refused` for another version of the
-/// runtime system, and for a script that isn't run.
+/// Refusals, in this order: `BadStatus` beside a one-shot; `NoSuchRelease`, `AlreadyInstalled`, `NoMatchingRelup`; then `Refused`
+/// for another version of the runtime system, and for a script that isn't run.
 pub fn find_upgrade<'a>(list: &'a ReleaseList, vsn: &str) -> Result<Upgrade<'a>, InstallError>
     ensures found { IfOk result (λ u. IsUpgrade vsn.now list.now (upgrade_of u)) }
     ensures refused { IfErr result (IsNoUpgrade vsn.now list.now) }
@@ -65,7 +63,7 @@ pub fn find_upgrade<'a>(list: &'a ReleaseList, vsn: &str) -> Result<Upgrade<'a>,
         Some(failure) => Err(InstallError::Refused(failure)),
         None => Ok(Upgrade {
             list,
-            target: libraries_at(list, vsn),
+            target: list.libraries(vsn),
             found,
         }),
     }
@@ -102,25 +100,6 @@ fn erts_of(release: Option<&Rel>) -> &str
         Some(release) => release.erts.as_str(),
         None => "",
     }
-}
-
-// The libraries of the release of this version.
-fn libraries_at<'a>(list: &'a ReleaseList, vsn: &str) -> &'a [Rc<Library>]
-    ensures { map shared_of result.now ≡ libraries_at vsn.now list.now }
-{
-    match listed_at(list.releases(), vsn) {
-        Some(listed) => listed.libraries.as_slice(),
-        None => &[],
-    }
-}
-
-fn listed_at<'a>(releases: &'a [ListedRelease], vsn: &str) -> Option<&'a ListedRelease>
-    ensures { option_copied result
-        ≡ find (λ l. bytes_eq vsn.now (string_bytes l.release.vsn)) releases.now }
-{
-    releases
-        .iter()
-        .find(|listed| vsn == listed.release.vsn.as_str())
 }
 
 impl Upgrade<'_> {

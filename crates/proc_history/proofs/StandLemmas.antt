@@ -33,11 +33,11 @@ others_leave v (e ∷ es) none legal =
     let rest = others_leave (after v e.event) es first.1 legal.2 in
     record { stands = rest.stands ∙ first.0.stands; round = rest.round ∙ first.0.round }
 
-legal_rest : (v : Value) (g h : List HistoryEntry) → LegalFrom v (g ++ h) → LegalFrom (replay_from v g) h
+pub legal_rest : (v : Value) (g h : List HistoryEntry) → LegalFrom v (g ++ h) → LegalFrom (replay_from v g) h
 legal_rest v [] h l = l
 legal_rest v (e ∷ es) h l = legal_rest (after v e.event) es h l.2
 
-next_alike : (x y : Value) → StandAlike x y → next_round y ≡ next_round x
+pub next_alike : (x y : Value) → StandAlike x y → next_round y ≡ next_round x
 next_alike x y a = λ i. if a.stands i then None else if a.round i == 4294967295 then None else Some (a.round i + 1)
 
 -- a process can begin behind entries of others where it could before, with the same round

@@ -10,7 +10,7 @@ use Rattle.proc_history.specs.Values.{nothing, next_round, begun}
 use Rattle.proc_table.specs.Parts.{Part, part_of}
 use Rattle.proc_table.specs.Views.{seen}
 use Rattle.proc_table.specs.Calls.{Elsewhere}
-use Rattle.proc_table.specs.Begins.{BeganAt, GaveUpAt}
+use Rattle.proc_table.specs.Begins.{BeganAt}
 use Rattle.proc_table.specs.Free.{next_in, BeganLowest}
 use Rattle.proc_history.proofs.Entries.{replay-append}
 use Rattle.proc_table.proofs.WaitLemmas.{held_and_released}
@@ -19,13 +19,6 @@ use Rattle.proc_table.proofs.WaitLemmas.{held_and_released}
 pub began_at_elsewhere : (p : ℕ) (b : Beginning) (v w : View) (r : Result Pid Beginning) → BeganAt p b v r w → Elsewhere p v w
 began_at_elsewhere p b v w (Ok pid) began = held_and_released p _ v began.0 began.1 w began.2 began.6
 began_at_elsewhere p b v w (Err given) began = held_and_released p _ v began.0 began.1 w began.2 began.5
-
-pub gave_up_elsewhere : (p : ℕ) (v w : View) → GaveUpAt p v w → Elsewhere p v w
-gave_up_elsewhere p v w gave = held_and_released p _ v gave.0 gave.1 w gave.2 gave.3
-
-pub began_lowest_lent : (b : Beginning) (v w : View) (r : Result Pid Beginning) → BeganLowest b v r w → w.lent ≡ v.lent
-began_lowest_lent b v w (Ok pid) began = (began_at_elsewhere pid.slot b v w (Ok pid) began.1).lent
-began_lowest_lent b v w (Err given) began = ap (λ (z : View). z.lent) began.2
 
 pub began_elsewhere : (b : Beginning) (v w : View) (pid : Pid) → BeganLowest b v (Ok pid) w → (q : ℕ) → q ≢ pid.slot → part_of w.parts q ≡ part_of v.parts q
 began_elsewhere b v w pid (lowest, began) = (began_at_elsewhere pid.slot b v w (Ok pid) began).others

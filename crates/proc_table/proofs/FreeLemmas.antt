@@ -17,7 +17,6 @@ use Rattle.proc_table.specs.Views.{seen, is_out, handler_view}
 use Rattle.proc_table.specs.Agrees.{slots, Agrees}
 use Rattle.proc_table.specs.Steps.{Me}
 use Rattle.proc_table.specs.Seats.{IsHandler}
-use Rattle.proc_table.specs.Calls.{SameBut}
 use Rattle.proc_table.specs.Holds.{Holding, Released}
 use Rattle.proc_table.specs.Waits.{HeldAtLast}
 use Rattle.proc_table.specs.Begins.{BeganAt}
@@ -59,11 +58,6 @@ noted_at rounds p o v w inside was others is =
           (λ ne. get_or-set_other rounds p q o None ne
           ∙ (was.each q within ∙ ap (λ (x : Part). if x.out then None else next_round (replay x.seen)) (sym (others q ne))));
     }
-
--- the handler took a slot
-pub noted_held : (rounds : List (Option ℕ)) (p : ℕ) (v w : View) → p < slots → Noted rounds v → SameBut p v w → is_out w p ≡ true → Noted (set rounds p None) w
-noted_held rounds p v w inside was rest out =
-    noted_at rounds p None v w inside was rest.others (ap (λ (b : Bool). if b then None else next_round (replay (seen w p))) out)
 
 -- the handler gave a slot back, with this value
 pub noted_released : (rounds : List (Option ℕ)) (p : ℕ) (es : List HistoryEntry) (x : Value) (v w : View) → p < slots → Noted rounds v → Released p es v w

@@ -26,14 +26,6 @@ first_handler = record {
   laid = λ p out. absurd (true≢false (sym out ∙ ap (λ (x : Part). x.out) (all_replicate slots unseen p)));
 }
 
-pub counted_handler : (v : View) → IsHandler v → IsHandler (one_more v)
-counted_handler v h = record {
-  ready = record { live = h.ready.live; alone = h.ready.alone };
-  known = record { parts = h.known.parts; once = h.known.once; legal = h.known.legal };
-  handler = h.handler;
-  laid = h.laid;
-}
-
 pub record NewPass (v : View) (w : Me) : Type 0 where
   pub pass : IsPass w.0
   pub empty : w.1 ≡ []

@@ -14,7 +14,7 @@ use Rattle.proc_table.specs.Parts.{Part, part}
 use Rattle.proc_history.specs.Histories.{replay, replay_from, IsLegal, LegalFrom}
 use Rattle.proc_history.specs.Values.{nothing, up_in, up_at, answer, outcome_of}
 use Rattle.proc_history.specs.Outcomes.{outcome_in, state_in, after_call, call_entries}
-use Rattle.proc_table.specs.Views.{seen, mine, is_out, word_of, with_part, found_more}
+use Rattle.proc_table.specs.Views.{seen, mine, is_out, with_part}
 use Rattle.proc_table.specs.Agrees.{slots}
 use Rattle.proc_history.specs.Events.{MayAdd}
 use Rattle.proc_table.specs.Steps.{Me, Ready, Fresh, Took, Adding, InHand, given, Known}
@@ -90,36 +90,12 @@ call_adds p round input me x y o hand pass lends is next =
       value = λ i. (p, left i) ∷ l.1 i;
     }
 
--- it may give the slot back as it is
-pub nothing_adds : (p : ℕ) (me : Me) (x : Value) → InHand p me → me.1 ≡ (p, x) ∷ rest me.1 → Adding [] p (me.0, (p, x) ∷ rest me.1)
-nothing_adds p me x hand lends =
-    let l = lent p me x hand lends in
-    let left : x ≡ replay (seen me.0 p ++ []) = l.0 ∙ ap replay (sym (append-nil (seen me.0 p))) in
-    record {
-      ready = hand.ready;
-      out = hand.out;
-      may = may_nothing me.0.number;
-      legal = subst IsLegal (sym (append-nil (seen me.0 p))) hand.legal;
-      value = λ i. (p, left i) ∷ l.1 i;
-    }
-
 -- the slot p after it was taken, at the history h
 abbrev pub taken : View → ℕ → List HistoryEntry → View
 taken v p h = with_part v p (part h (mine v p) true false)
 
 pub is_taken : (p : ℕ) (v : View) (h : List HistoryEntry) → p < slots → length v.parts ≡ slots → PartNow p v (taken v p h) h (mine v p) true false
 is_taken p v h inside long = set_part p v h (mine v p) true false inside long
-
--- a slot that was taken is in hand
-pub in_hand : (p : ℕ) (v : View) (w : Me) → p < slots → Ready v → Known v → Took p (v, []) w → InHand p w
-in_hand p v w inside ready known t =
-    let x = is_taken p v t.h inside known.parts in
-    subst (InHand p) (sym t.is) (record {
-      ready = record { live = ready.live; alone = ready.alone };
-      out = x.out_is;
-      legal = subst IsLegal (sym x.seen_is) t.fresh.legal;
-      value = ap (λ h. (p, replay h) ∷ []) (sym x.seen_is);
-    })
 
 -- a slot that was taken and given back
 abbrev pub Back : ℕ → View → List HistoryEntry → List HistoryEntry → View → Type 0
@@ -243,23 +219,9 @@ peek_made p round v m w s inside pass t is given_is =
       };
     })
 
--- a failed take leaves a pass as it was
-pub missed_pass : (v : View) (p n : ℕ) → IsPass v → IsPass (found_more v p n)
-missed_pass v p n pass = record {
-  ready = record { live = pass.ready.live; alone = pass.ready.alone };
-  known = record { parts = pass.known.parts; once = pass.known.once; legal = pass.known.legal };
-  pass = pass.pass;
-  none_out = pass.none_out;
-}
-
 pub on_zero : (A B : Type 0) (n : ℕ) → n ≡ 0 → MatchBool (n == 0) A B → A
 on_zero A B n e m = subst (λ k. MatchBool (k == 0) A B) e m
 
 -- a seat with nothing else in hand
 pub took_alone : (p : ℕ) (me m : Me) → me.1 ≡ [] → Took p me m → Took p (me.0, []) m
 took_alone p me m none t = subst (λ (l : List (ℕ × Value)). Took p (me.0, l) m) none t
-
--- a client's word is 1
-pub pass_word : (n : ℕ) → n ≢ 0 → 1 ≡ word_of n
-pass_word zero ne = absurd (ne refl)
-pass_word (suc n) ne = refl

@@ -34,9 +34,6 @@ pub word_not_zero : (n : ℕ) → word_of n ≢ 0
 word_not_zero zero e = omega arith
 word_not_zero (suc n) e = omega arith
 
-not_none : (v : View) (g : Guest) → v.guest ≡ None → v.guest ≡ Some g → ⊥
-not_none v g e f = absurd (cc)
-
 -- the longest seen is the history
 pub history_is : (s : States) (a : Agrees s) (p : ℕ) (h : List HistoryEntry) → IsHistory s p h → a.history p ≡ h
 history_is s a p h all =

@@ -1,13 +1,9 @@
 -- Who has a process at a word.
 use Rattle.std.proofs.Common.{◌≡◌, ◌≢◌, ℕ, zero, suc, slice_index, refl, sym, ◌∙◌, arith}
 use Rattle.proc_table.specs.Views.{is_out, word_of}
-use Rattle.proc_table.specs.Agrees.{States}
 use Rattle.proc_table.specs.Words.{HasAtWord, WordsTell}
 use Rattle.proc_table.proofs.Runs.{reached_agrees, none_out}
-
-word_of_none : (n : ℕ) → word_of n ≢ 0
-word_of_none zero e = absurd (omega arith)
-word_of_none (suc n) e = absurd (omega arith)
+use Rattle.proc_table.proofs.SlotTurns.{word_not_zero}
 
 client_at_one : (n : ℕ) → word_of n ≡ 1 → n ≢ 0
 client_at_one zero e z = absurd (omega arith)
@@ -21,7 +17,7 @@ pub words_tell : WordsTell
 words_tell s r p = go (slice_index s.words p) refl
   where
     go : (k : ℕ) → slice_index s.words p ≡ k → HasAtWord p k s
-    go zero e = λ i v sits. none_out (is_out v p) (λ o. word_of_none v.number (sym ((((reached_agrees s r).each p).parts i v sits).word_where_out o) ∙ e))
+    go zero e = λ i v sits. none_out (is_out v p) (λ o. word_not_zero v.number (sym ((((reached_agrees s r).each p).parts i v sits).word_where_out o) ∙ e))
     go (suc zero) e =
         let here = (reached_agrees s r).each p in
         let holder = here.taken (λ z. absurd (omega arith)) in

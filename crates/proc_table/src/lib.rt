@@ -36,7 +36,7 @@ pub use handler::HandlerSeat;
 pub use held::Held;
 pub use pass::{Pass, Peeked, Tried};
 pub use pid::Pid;
-pub use proc_history::{Beginning, Entry, Name, Now, Outcome, Standing, Value};
+pub use proc_history::{Beginning, Entry, Name, Now, Standing, Value};
 pub use rule::Agreement;
 pub use table::ProcTable;
 pub use view::View;

@@ -75,9 +75,6 @@ counts_more tried.Down n os f answer c =
 counts_more tried.Busy n os f answer c = absurd answer
 counts_more tried.Held n os f answer c = absurd answer
 
-pub nothing_counted : (pid : Pid) (input : ℕ) → AreCounted pid input 0 [] (record { done = 0; crashed = 0; ended = 0; down = 0 })
-nothing_counted pid input = record { long = refl; are_of = tt; counts = record { done = refl; crashed = refl; ended = refl; down = refl } }
-
 pub one_counted : (pid : Pid) (input n : ℕ) (xs : List Answer) (f : FloodCounts) (a : Answer) → AreCounted pid input n xs f → a.input ≡ input → IsProcess pid a.pid → IsAnswer a.tried
     → AreCounted pid input (n + 1) (xs ++ a ∷ []) (noted a.tried f)
 one_counted pid input n xs f a c is names answer = record {

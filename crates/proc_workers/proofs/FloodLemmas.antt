@@ -16,6 +16,7 @@ use Rattle.proc_history.specs.Histories.{replay, replay_from, IsLegal, LegalFrom
 use Rattle.proc_history.specs.Values.{after, answer, nothing, outcome_of, up_at, up_in}
 use Rattle.proc_history.proofs.Entries.{own-append, append_nothing, replay-append}
 use Rattle.proc_history.proofs.Prefixes.{prefix_more}
+use Rattle.proc_history.proofs.StandLemmas.{legal_rest}
 use Rattle.proc_table.specs.declared.pass.Tried.{Tried}
 use Rattle.proc_table.specs.declared.pass.Tried.TheVariants as tried
 use Rattle.proc_table.specs.declared.pid.Pid.{Pid}
@@ -129,10 +130,6 @@ calls_are : (pid : Pid) (k input : ℕ) (answers : List Answer) → AreOf pid in
 calls_are pid k input [] of = refl
 calls_are pid k input (a ∷ more) of = call_first k input a.input a.tried (calls_of k more) (outcomes_in more) of.0 (calls_are pid k input more of.2)
 
-legal_behind : (x : Value) (g h : List HistoryEntry) → LegalFrom x (g ++ h) → LegalFrom (replay_from x g) h
-legal_behind x [] h l = l
-legal_behind x (e ∷ es) h l = legal_behind (after x e.event) es h l.2
-
 up_here : (round : ℕ) (x : Value) (m : Now) → x.round ≡ round → up_at x.now ≡ Some m → up_in round x ≡ Some m
 up_here round x m is up =
     let yes : (x.round == round) ≡ true = grind (arith, nat_tests) in
@@ -235,7 +232,7 @@ is_flooded pid input times v one pass w both answers f none made h j c = record 
     calls = calls_are pid k input answers c.are_of
 
     legal : LegalFrom x (calls_with k input os)
-    legal = legal_behind nothing (seen v p) (calls_with k input os)
+    legal = legal_rest nothing (seen v p) (calls_with k input os)
         (subst (λ (l : List HistoryEntry). IsLegal l) (back.seen_is ∙ ap (λ (l : List HistoryEntry). seen v p ++ l) calls) (back.rest.legal p))
 
     longer_is : h.longer.0 ≡ calls_with k input os

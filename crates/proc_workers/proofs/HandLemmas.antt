@@ -63,19 +63,6 @@ alone_still hands n v w at same alone i j x y ex ey rx ry =
     alone i j a.0 b.0 a.1 b.1 (a.2 ∙ rx) (b.2 ∙ ry)
 
 -- ---- the steps
-pub opens : Delivers [] (hand true [] [] ∷ [])
-opens = record { order = []; each = each; alone = alone; known = λ n le. refl }
-  where
-    only : (n : ℕ) (v : Hand) → get_elem? (hand true [] [] ∷ []) n ≡ some v → (n ≡ 0) × (hand true [] [] ≡ v)
-    only zero v e = (refl, some-injective (hand true [] []) v e)
-    only (suc n) v e = absurd (some-ne-none v (sym e))
-
-    each : (n : ℕ) (v : Hand) → get_elem? (hand true [] [] ∷ []) n ≡ some v → FitsHand [] [] n v
-    each n v e = subst (λ (w : Hand). FitsHand [] [] n w) (only n v e).1 (record { sent = refl; taken = λ r. refl })
-
-    alone : (n m : ℕ) (v w : Hand) → get_elem? (hand true [] [] ∷ []) n ≡ some v → get_elem? (hand true [] [] ∷ []) m ≡ some w → v.reads ≡ true → w.reads ≡ true → n ≡ m
-    alone n m v w e f r s = (only n v e).0 ∙ sym (only m w f).0
-
 pub adds : (k n : ℕ) (v : Hand) (x : Note) → Pushes Delivers k n v x (λ w. w ≡ hand v.reads (v.sent ++ x ∷ []) v.taken)
 adds k n v x waiting hands room d at = (w, record { order = order; each = each; alone = alone_still hands n v w at refl d.alone; known = known }, refl)
   where

@@ -200,13 +200,15 @@ pub(crate) fn push_written(alloc: Global, written: &[u8], answer: &mut Answer) {
     answer.push_made(&written.replace(alloc, "\n", " | "));
 }
 
-/// Appends in parentheses how a session or a listing ended.
-pub(crate) fn push_end<E: fmt::Debug>(ended: &Result<(), E>, answer: &mut Answer) {
+/// Appends in parentheses how a session or a listing ended, and the text of its error.
+pub(crate) fn push_end<E: fmt::Debug + fmt::Display>(ended: &Result<(), E>, answer: &mut Answer) {
     match ended {
         Ok(()) => answer.push("(end)"),
         Err(error) => {
             answer.push("(ended by ");
             answer.push_debug(error);
+            answer.push(": ");
+            answer.push_shown(error);
             answer.push(")");
         }
     }

@@ -6,7 +6,7 @@ use Rattle.erl_term.specs.Value.{Value}
 use Rattle.rel_files.specs.declared.release.StartType.{StartType}
 use Rattle.rel_files.specs.declared.release.StartType.TheVariants.{Permanent, Transient, Temporary, Load, Unloaded}
 use Rattle.rel_files.specs.File.{IsReleaseTerm}
-use Rattle.rel_files.specs.Form.{AreAppTerms, IsAppTerm, IsEnding, app_form_of}
+use Rattle.rel_files.specs.Form.{AreAppSpecs, IsAppSpec, IsEnding, app_form_of}
 use Rattle.rel_files.specs.Name.{IsName}
 use Rattle.rel_files.specs.Release.{Application, Release}
 use Rattle.relup_file.specs.Form.{relup_term}
@@ -44,7 +44,7 @@ ends_so Load (Some ns) names = (refl, (refl, names))
 ends_so Unloaded None names = inl (refl, refl)
 ends_so Unloaded (Some ns) names = (refl, (refl, names))
 
-application_said : (v : Value) (a : Application) → IsAppTerm v (app_form_of a) → IsAppTerm (application_term a) (app_form_of a)
+application_said : (v : Value) (a : Application) → IsAppSpec v (app_form_of a) → IsAppSpec (application_term a) (app_form_of a)
 application_said v a says = record {
   ending = start_members a.start ++ included_members a.included;
   is = refl;
@@ -52,7 +52,7 @@ application_said v a says = record {
   ends = ends_so a.start a.included (included_names says.ending a.start a.included says.ends);
 }
 
-applications_said : (vs : List Value) (as' : List Application) → AreAppTerms vs (map app_form_of as') → AreAppTerms (map application_term as') (map app_form_of as')
+applications_said : (vs : List Value) (as' : List Application) → AreAppSpecs vs (map app_form_of as') → AreAppSpecs (map application_term as') (map app_form_of as')
 applications_said [] [] say = tt
 applications_said [] (a ∷ as') say = absurd say
 applications_said (v ∷ vs) [] say = absurd say

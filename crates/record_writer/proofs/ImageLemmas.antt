@@ -39,10 +39,11 @@ use Rattle.rel_records.proofs.FormatLemmas.{stands_so}
 use Rattle.rel_records.proofs.MadeLemmas.{AreSaid, kept_made}
 use Rattle.rel_records.proofs.OrderlyLemmas.{orderly_made}
 use Rattle.rel_records.proofs.RecordLaws.{as_recorded}
-use Rattle.rel_records.proofs.RecordPlaces.{IsOfRecord, both, chosen, event_of_record, first_recorded, kept, pushed_last, rest_recorded}
+use Rattle.rel_records.proofs.RecordPlaces.{IsOfRecord, event_of_record, first_recorded, kept, pushed_last, rest_recorded}
 use Rattle.rel_records.proofs.RestorationLemmas.{AreSettled, AreSmall, IsRestorable, restored_so}
 use Rattle.rel_records.proofs.StartableLemmas.{startable_libraries}
 use Rattle.record_writer.proofs.WritingLemmas.{status_back}
+use Rattle.rel_files.proofs.Options.{passed, both}
 
 -- A release is small, and terms say it and its relup.
 record CanBeSaid (e : Entry) : Type 0 where
@@ -76,7 +77,7 @@ first_short r ls o es next said all e short = let (p, of, is) = event_of_record 
 further_short : (r : Release) (ls : List Library) (o : Option RelupForm) (es next : Releases) → AreSaid r o → AllByRecursion IsLibrary ls → added_by r ls o es ≡ Some next → IsShort es → IsShort next
 further_short r ls o es next said all e short =
     let allowed = is_small r && nat_lt (length es) most_releases in
-    let (may, rest) = chosen allowed (option_and_then (λ (p : Bundle). step (unpacked p) es) (brought_by es r ls o)) next e in
+    let (may, rest) = passed allowed (option_and_then (λ (p : Bundle). step (unpacked p) es) (brought_by es r ls o)) next e in
     let few : length es < most_releases = below (length es) (both (is_small r) (nat_lt (length es) most_releases) may).1 in
     let (p, of, is) = event_of_record unpacked allowed r ls o es next e in
     subst IsShort (pushed_last p es next is) (omega (arith, few, length-append es (entry p Unpacked ∷ [])))
@@ -84,7 +85,7 @@ further_short r ls o es next said all e short =
 length-assign_all : (given : List Assignment) (es next : Releases) → assign_all given es ≡ Some next → length next ≡ length es
 length-assign_all [] es next is = let same : es ≡ next = cc is in ap length (sym same)
 length-assign_all (a ∷ given) es next is =
-    let (may, rest) = chosen (may_be_assigned a es) (assign_all given (list_assigned a.vsn a.status es)) next is in
+    let (may, rest) = passed (may_be_assigned a es) (assign_all given (list_assigned a.vsn a.status es)) next is in
     length-assign_all given (list_assigned a.vsn a.status es) next rest ∙ length-map es _
 
 length-without : (v : List ℕ) (es : Releases) → length (without v es) ≤ length es
@@ -100,7 +101,7 @@ statuses_short given es next is short = omega (arith, short, length-assign_all g
 
 left_short : (v : List ℕ) (es next : Releases) → step (removed v) es ≡ Some next → IsShort es → IsShort next
 left_short v es next is short =
-    let (may, gone) = chosen (may_be_removed (status_of v es)) (Some (without v es)) next (own_of_step (removed v) es next is).1 in
+    let (may, gone) = passed (may_be_removed (status_of v es)) (Some (without v es)) next (own_of_step (removed v) es next is).1 in
     let same : without v es ≡ next = cc gone in
     subst IsShort same (omega (arith, short, length-without v es))
 

@@ -1,4 +1,3 @@
-pub mod Characters
 pub mod DepthLemmas
 pub mod FileTermLemmas
 pub mod ImageLemmas

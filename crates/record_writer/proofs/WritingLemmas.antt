@@ -12,7 +12,6 @@ use Rattle.erl_term.specs.Value.Value.{atom}
 use Rattle.erl_term.specs.OneTerm.{HasTerm}
 use Rattle.erl_term.specs.Printing.{is_string, characters_of}
 use Rattle.erl_term.specs.Within.{IsWithin, HasShortNames, HaveShortNames, brackets, most_brackets}
-use Rattle.rel_files.specs.Form.{numbers_of, numbers_term, list_of}
 use Rattle.rel_files.specs.Name.{IsVersion}
 use Rattle.rel_files.specs.Release.{Release}
 use Rattle.rel_files.specs.Sketch.{version_in}
@@ -36,6 +35,7 @@ use Rattle.rel_records.specs.Record.{Assignment, FileTerms, Record, relup_or_non
 use Rattle.rel_records.specs.Writing.{is_changed, assignment_of, changes, new_libraries, record_of, CanBeCarried, IsOfListed}
 use Rattle.rel_records.proofs.EventRecords.{never_current}
 use Rattle.record_writer.proofs.Within.{length-chars, within-release, within-relup}
+use Rattle.rel_files.specs.Terms.{list_of, numbers_term, numbers_of}
 
 -- what always holds holds where a call succeeds
 pub where_ok : {T E P : Type 0} (r : Result T E) → P → OnOk r P

@@ -14,8 +14,9 @@ ghost use Rattle.rel_records.specs.Record.{image_term, imaged_term, relup_or_non
 
 use crate::depth::can_be_read_back;
 use crate::release_term::file_term;
-use crate::writing::{atom_term, body_of};
+use crate::writing::body_of;
 use erl_term::{RECORD_DEPTH, Term};
+use rel_files::terms::atom_term;
 use rel_list::{ListedRelease, ReleaseList};
 use rel_records::IMAGE;
 use relup_file::{Relup, relup_term};

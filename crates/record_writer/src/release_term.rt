@@ -3,13 +3,12 @@ ghost use Rattle.std.specs.Prelude.{◌≡◌, ◌++◌, map, codes, string_byte
 ghost use Rattle.std.specs.Option.{option_map, option_to_list};
 ghost use Rattle.erl_term.specs.Value.{value_of};
 ghost use Rattle.erl_term.specs.Value.Value.{atom};
-ghost use Rattle.rel_files.specs.Form.{numbers_of, numbers_term};
 ghost use Rattle.rel_files.specs.Release.{application_of, release_of};
-ghost use Rattle.rel_records.specs.Record.{pair_term};
+ghost use Rattle.rel_files.specs.Terms.{pair_term, text_term};
 ghost use Rattle.rel_records.specs.ReleaseTerm.{application_term, file_term, included_members, start_members};
 
-use crate::writing::{atom_term, list_term, pair_term, version_term};
 use erl_term::Term;
+use rel_files::terms::{atom_term, atoms_term, list_term, pair_term, text_term};
 use rel_files::{Rel, RelApp, StartType};
 use std::alloc::{AllocError, Global};
 
@@ -27,20 +26,19 @@ pub(crate) fn file_term(alloc: Global, release: &Rel) -> Result<Term, AllocError
 // `{Name, Vsn}`.
 fn title_term(alloc: Global, release: &Rel) -> Result<Term, AllocError>
     ensures { IfOk result (λ term. value_of term ≡ pair_term
-        (numbers_term (numbers_of (string_bytes release.now.name)))
-        (numbers_term (numbers_of (string_bytes release.now.vsn)))) }
+        (text_term (string_bytes release.now.name)) (text_term (string_bytes release.now.vsn))) }
 {
-    let name = version_term(alloc, release.name.as_str())?;
-    pair_term(alloc, name, version_term(alloc, release.vsn.as_str())?)
+    let name = text_term(alloc, release.name.as_str())?;
+    pair_term(alloc, name, text_term(alloc, release.vsn.as_str())?)
 }
 
 // `{erts, EVsn}`.
 fn erts_term(alloc: Global, release: &Rel) -> Result<Term, AllocError>
     ensures { IfOk result (λ term. value_of term ≡ pair_term (atom (codes "erts"))
-        (numbers_term (numbers_of (string_bytes release.now.erts)))) }
+        (text_term (string_bytes release.now.erts))) }
 {
     let word = atom_term(alloc, "erts")?;
-    pair_term(alloc, word, version_term(alloc, release.erts.as_str())?)
+    pair_term(alloc, word, text_term(alloc, release.erts.as_str())?)
 }
 
 fn application_terms(alloc: Global, apps: &[RelApp]) -> Result<Vec<Term>, AllocError>
@@ -59,7 +57,7 @@ fn application_term(alloc: Global, app: &RelApp) -> Result<Term, AllocError>
     ensures { IfOk result (λ term. value_of term ≡ application_term (application_of app.now)) }
 {
     let name = atom_term(alloc, app.name.as_str())?;
-    let vsn = version_term(alloc, app.vsn.as_str())?;
+    let vsn = text_term(alloc, app.vsn.as_str())?;
     let start = start_term(alloc, app.start)?;
     let included = included_term(alloc, &app.included)?;
     let mut members = vec![in alloc; name, vsn]?;
@@ -87,20 +85,9 @@ fn included_term(alloc: Global, included: &Option<Vec<String>>) -> Result<Option
         ≡ included_members (option_map (λ v. map string_bytes v.items) included.now)) }
 {
     match included {
-        Some(names) => Ok(Some(list_term(atom_terms(alloc, names.as_slice())?))),
+        Some(names) => Ok(Some(atoms_term(alloc, names.as_slice())?)),
         None => Ok(None),
     }
-}
-
-fn atom_terms(alloc: Global, names: &[String]) -> Result<Vec<Term>, AllocError>
-    ensures { IfOk result (λ terms. map value_of terms.items
-        ≡ map (λ name. atom (string_bytes name)) names.now) }
-{
-    let mut terms = Vec::with_capacity(alloc, names.len())?;
-    for name in names {
-        terms.push(atom_term(alloc, name.as_str())?)?;
-    }
-    Ok(terms)
 }
 
 // Adds a term, if there is one.

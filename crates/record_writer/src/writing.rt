@@ -1,15 +1,15 @@
 // The bodies of the records that commands write.
-ghost use Rattle.std.specs.Prelude.{◌≡◌, codes, map, pos, string_bytes, Option, None, IfOk, OnOk};
+ghost use Rattle.std.specs.Prelude.{◌≡◌, codes, map, string_bytes, Option, None, IfOk, OnOk};
 ghost use Rattle.std.specs.Option.{option_map, ForSome};
 ghost use Rattle.erl_term.specs.OneTerm.{HasTerm};
 ghost use Rattle.erl_term.specs.Value.{members_of, value_of};
-ghost use Rattle.erl_term.specs.Value.Value.{atom, int};
+ghost use Rattle.erl_term.specs.Value.Value.{atom};
 ghost use Rattle.erl_term.specs.Within.{IsWithin};
-ghost use Rattle.rel_files.specs.Form.{list_of, numbers_term, numbers_of};
 ghost use Rattle.rel_files.specs.Release.{Release};
 ghost use Rattle.relup_file.specs.Relup.{RelupForm};
 ghost use Rattle.library.specs.InMemory.{shared_of};
 ghost use Rattle.library.specs.Library.{library_term};
+ghost use Rattle.rel_files.specs.Terms.{list_of, pair_term};
 ghost use Rattle.rel_list.specs.Event.{event_of, list_restarted};
 ghost use Rattle.rel_list.specs.Event.Event.{boot};
 ghost use Rattle.rel_list.specs.Keyed.{entry_of};
@@ -17,11 +17,12 @@ ghost use Rattle.rel_list.specs.Refusal.{refusal};
 ghost use Rattle.rel_records.specs.Lists.{HaveVersions};
 ghost use Rattle.rel_records.specs.Parts.{files_of};
 ghost use Rattle.rel_records.specs.Reading.{AreOfRelease, Spells};
-ghost use Rattle.rel_records.specs.Record.{FileTerms, makes, adds, release_term, relup_or_none, pair_term, assignment_term, term_of, body_of, printed};
+ghost use Rattle.rel_records.specs.Record.{FileTerms, makes, adds, release_term, relup_or_none, assignment_term, term_of, body_of, printed};
 ghost use Rattle.rel_records.specs.Writing.{changes, new_libraries, record_of, CanBeCarried, IsOfListed, Tells};
 
 use erl_term::{Term, print};
 use library::Library;
+use rel_files::terms::{atom_term, list_term, pair_term, text_term};
 use rel_list::{Event, ListedRelease, ReleaseList, Status};
 use rel_records::{MADE, UNPACKED};
 use std::alloc::{AllocError, Global};
@@ -182,7 +183,7 @@ fn change_term(alloc: Global, releases: &[ListedRelease], event: &Event) -> Resu
         ≡ term_of files (record_of (event_of event.now) (map entry_of releases.now))) }
 {
     if let Event::Removed(vsn) = event {
-        let vsn = version_term(alloc, vsn.as_str())?;
+        let vsn = text_term(alloc, vsn.as_str())?;
         return pair_term(alloc, atom_term(alloc, "removed")?, vsn);
     }
     let statuses = assignment_terms(alloc, releases, event)?;
@@ -240,42 +241,6 @@ fn assignment_term(
     ensures { IfOk result (λ term. value_of term ≡ assignment_term
         (record { vsn = string_bytes listed.now.release.vsn; status = status })) }
 {
-    let vsn = version_term(alloc, listed.release.vsn.as_str())?;
+    let vsn = text_term(alloc, listed.release.vsn.as_str())?;
     pair_term(alloc, vsn, atom_term(alloc, status.as_str())?)
-}
-
-// A text of a version as a term: the list of its characters.
-pub(crate) fn version_term(alloc: Global, vsn: &str) -> Result<Term, AllocError>
-    ensures { IfOk result (λ term. value_of term ≡ numbers_term (numbers_of vsn.now)) }
-{
-    let bytes = vsn.as_bytes();
-    let mut characters = Vec::new(alloc);
-    for byte in bytes {
-        characters.push(character_term(*byte))?;
-    }
-    Ok(list_term(characters))
-}
-
-fn character_term(byte: u8) -> Term
-    ensures { value_of result ≡ int (pos byte) }
-{
-    Term::Int(i64::from(byte))
-}
-
-pub(crate) fn list_term(members: Vec<Term>) -> Term
-    ensures { value_of result ≡ list_of (map value_of members.items) }
-{
-    Term::List(members)
-}
-
-pub(crate) fn atom_term(alloc: Global, word: &str) -> Result<Term, AllocError>
-    ensures { IfOk result (λ term. value_of term ≡ atom word.now) }
-{
-    Ok(Term::Atom(String::from_str(alloc, word)?))
-}
-
-pub(crate) fn pair_term(alloc: Global, first: Term, second: Term) -> Result<Term, AllocError>
-    ensures { IfOk result (λ term. value_of term ≡ pair_term (value_of first) (value_of second)) }
-{
-    Ok(Term::Tuple(vec![in alloc; first, second]?))
 }

@@ -10,7 +10,8 @@ use Rattle.mod_table.specs.Tables.{Tables, first_of, child_table}
 use Rattle.rel_check.specs.Walk.{missing_at, missing_below, processes_from, members_from, is_within}
 use Rattle.rel_check.specs.Laws.{IsBelow, DeeperFindsTheSame, WithinItselfIsTooDeep}
 use Rattle.rel_check.specs.Laws.IsBelow.{child, further}
-use Rattle.rel_check.proofs.Members.{both, both_true, passes}
+use Rattle.rel_check.proofs.Members.{passes}
+use Rattle.rel_files.proofs.Options.{both, both_true}
 
 -- lists of which each member passes a test
 

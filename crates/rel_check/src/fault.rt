@@ -12,7 +12,7 @@ pub enum ReleaseFault<'a> {
     ModuleTwice(Named<'a>),
     /// Two children in the tables of this application have this id: its `.app` file has a duplicate.
     IdTwice(Named<'a>),
-    /// This module has no table, or not one of the kind that a child or a top asks for.
+    /// This module, of a child, has no table or one of the other kind; or it is a top and has the table of a worker.
     NoTable(&'a str),
     /// A limit is passed.
     TooMany,

@@ -8,12 +8,13 @@ use Rattle.std.specs.BTreeMap.{is_at}
 use Rattle.std.specs.BTreeSet.{insert_key}
 use Rattle.std.proofs.lemmas.Cmp.{nat_list_eq_equiv}
 use Rattle.std.proofs.lemmas.List.{map_push, map-append, take_more, take-append-drop}
-use Rattle.std.proofs.lemmas.List.Elements.{Contains-get_or, Contains-append_right, Contains-push_cases}
+use Rattle.std.proofs.lemmas.List.Elements.{Contains-get_or, Contains-append_left, Contains-append_right, Contains-append_cases, Contains-push, Contains-push_cases}
 use Rattle.std.proofs.lemmas.List.Folds.{list_any-append}
 use Rattle.std.proofs.lemmas.Map.Text.{is_eq-slice_cmp}
 use Rattle.std.proofs.lemmas.Map.Views.{Contains-from_any, list_any-from_Contains}
 use Rattle.std.proofs.lemmas.Slice.Eq.{bytes_eq-Decides}
 use Rattle.std.proofs.Math.Seq.{drop-cons}
+use Rattle.erl_term.proofs.Places.{AreSame, IsBefore, places}
 use Rattle.rel_files.specs.declared.draft.AppDraft.{AppDraft}
 use Rattle.rel_files.specs.Name.{AreDistinct, IsFirstTwice}
 
@@ -147,3 +148,31 @@ distinct_or_twice_behind before (n ∷ after) distinct = go (is_listed n before)
 -- names are distinct, or there is a first that stands a second time
 pub distinct_or_twice : (ns : List (List ℕ)) → AreDistinct ns ⊎ ((n : List ℕ) × IsFirstTwice ns n)
 distinct_or_twice ns = distinct_or_twice_behind [] ns tt
+
+-- a name that stands behind itself isn't distinct
+pub clash : (before after : List (List ℕ)) (n : List ℕ) → AreDistinct (before ++ (n ∷ after)) → Contains before n → ⊥
+clash [] after n distinct there = absurd (omega (arith, there.1))
+clash (m ∷ before) after n distinct there = go (Contains-append_cases (m ∷ []) before n there) (clash before after n distinct.1)
+  where
+    go : Contains (m ∷ []) n ⊎ Contains before n → (Contains before n → ⊥) → ⊥
+    go (inr later) rest = rest later
+    go (inl here) rest = first (Contains-push_cases [] m n here)
+      where
+        first : Contains [] n ⊎ (m ≡ n) → ⊥
+        first (inl nothing) = absurd (omega (arith, nothing.1))
+        first (inr same) =
+            distinct.0 (Contains-append_right before (n ∷ after) m
+            (subst (λ (x : List ℕ). Contains (x ∷ after) m) same (Contains-append_left (m ∷ []) after m (Contains-push [] m))))
+
+-- names are distinct, or one stands twice, and not both
+pub never_both : (ns : List (List ℕ)) (n : List ℕ) → AreDistinct ns → IsFirstTwice ns n → ⊥
+never_both ns n distinct twice = clash twice.before twice.after n (subst AreDistinct twice.is distinct) twice.twice
+
+-- the first name that stands a second time is one
+pub one_twice : (ns : List (List ℕ)) (m n : List ℕ) → IsFirstTwice ns m → IsFirstTwice ns n → m ≡ n
+one_twice ns m n p q = go (places p.before p.after q.before q.after m n (sym p.is ∙ q.is))
+  where
+    go : AreSame p.before p.after q.before q.after m n ⊎ (IsBefore p.before p.after q.before q.after m n ⊎ IsBefore q.before q.after p.before p.after n m) → m ≡ n
+    go (inl s) = s.here
+    go (inr (inl s)) = absurd (clash p.before s.between m (subst AreDistinct s.further q.distinct) p.twice)
+    go (inr (inr s)) = absurd (clash q.before s.between n (subst AreDistinct s.further p.distinct) q.twice)

@@ -8,10 +8,11 @@ use Rattle.erl_term.specs.Value.Value.{atom, list}
 use Rattle.erl_term.specs.Value.Values.{no_values, value}
 use Rattle.rel_files.specs.declared.release.StartType.{StartType}
 use Rattle.rel_files.specs.declared.release.StartType.TheVariants.{Permanent, Transient, Temporary, Load, Unloaded}
-use Rattle.rel_files.specs.Form.{start_word, list_of, ListsIncluded, IsEnding}
+use Rattle.rel_files.specs.Form.{start_word, ListsIncluded, IsEnding}
 use Rattle.rel_files.specs.Sketch.{start_of, End, included_in, end_in, names_of}
 use Rattle.rel_files.proofs.Options.{mapped, chained}
 use Rattle.rel_files.proofs.Texts.{names_of-atoms, from_names}
+use Rattle.rel_files.specs.Terms.{list_of}
 
 pub start_of-start_word : (s : StartType) → start_of (start_word s) ≡ Some s
 start_of-start_word Permanent = refl

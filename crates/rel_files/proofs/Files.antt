@@ -9,10 +9,10 @@ use Rattle.erl_term.specs.Answers.{TellsFault, reading_of_spanned}
 use Rattle.rel_files.specs.declared.fault.FileFault.{FileFault}
 use Rattle.rel_files.specs.declared.fault.FileFault.TheVariants.{NoMemory}
 use Rattle.rel_files.specs.declared.one_term.FileTerm.{FileTerm}
-use Rattle.rel_files.specs.Fault.{Fault, file_fault_of}
-use Rattle.rel_files.specs.Fault.Fault.{bad_term, bad_shape}
-use Rattle.rel_files.specs.File.{HasTermFault, HasFault, HasFileTerm}
-use Rattle.rel_files.specs.Kind.{HasTermAt, HasNoTerm, AreNotOne, IsCountFault}
+use Rattle.rel_files.specs.Fault.{file_fault_of}
+use Rattle.rel_files.specs.Fault.Fault.{bad_shape}
+use Rattle.rel_files.specs.File.{HasFileTerm}
+use Rattle.rel_files.specs.OneTermFile.{HasTermAt, HasNoTerm, AreNotOne, IsCountFault}
 
 -- more than one term
 pub several : (xs all : List Spanned) (first last : Spanned) (r : Reading) → Some first ≡ slice_get xs 0 → all ≡ xs ++ last ∷ []
@@ -30,19 +30,6 @@ alone (x ∷ xs) all last r none split one = absurd cc
 -- a file has the one term that it has at a place
 pub has_term : (bytes : List ℕ) (at : ℕ) (v : Value) → HasTermAt bytes at v → HasFileTerm bytes v
 has_term bytes at v (r, reads, is, from) = (r, reads, is)
-
--- the fault of a file that hasn't one term
-pub of_count : (bytes : List ℕ) (f : Fault) → HasNoTerm bytes f → HasFault bytes f
-of_count bytes f (inl (e, is, fault)) = subst (HasFault bytes) (sym is) fault
-of_count bytes f (inr ([], reads, is)) = subst (HasFault bytes) (sym is) ([], reads, refl)
-of_count bytes f (inr (r ∷ [], reads, is)) = absurd is
-of_count bytes f (inr (r ∷ s ∷ rs, reads, is)) = subst (HasFault bytes) (sym is) (r ∷ s ∷ rs, reads, refl)
-
--- the fault of its one term
-pub of_term : (bytes : List ℕ) (at : ℕ) (v : Value) (f : Fault) → HasTermAt bytes at v → HasTermFault v at f → HasFault bytes f
-of_term bytes at v (bad_term e) has fault = absurd fault
-of_term bytes at v f (r, reads, is, from) fault =
-    (r ∷ [], reads, subst (λ a. HasTermFault r.term a f) (sym from) (subst (λ w. HasTermFault w at f) (sym is) fault))
 
 -- the fault of a file that is no row of terms
 unreadable : (bytes : List ℕ) (e : TermFault) → TellsFault 64 bytes e → file_fault_of e ≢ NoMemory → IsCountFault bytes (file_fault_of e)

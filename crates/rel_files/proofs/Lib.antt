@@ -1,16 +1,18 @@
 pub mod Pairs
-mod Members
+pub mod Members
 pub mod Rows
 pub mod Distinct
 pub mod Options
 pub mod Texts
-mod Terms
+pub mod TermParts
+pub mod TermRows
 pub mod Endings
 pub mod Shape
 pub mod Versions
 pub mod Outcomes
+pub mod OneTermFile
 pub mod Files
 pub mod OneFault
 pub mod Either
-pub mod OneTermFiles
+pub mod KindFiles
 pub mod Limits

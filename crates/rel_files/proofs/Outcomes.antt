@@ -1,18 +1,17 @@
 -- What a term says, or its fault, from its sketch.
-use Rattle.std.proofs.Common.{◌≡◌, ℕ, List, [], ◌∷◌, ◌++◌, map, Some, None, Contains, ◌⊎◌, inl, inr, string_bytes, refl, sym, ap, subst, ◌∙◌, arith}
-use Rattle.std.proofs.lemmas.List.Elements.{Contains-append_left, Contains-append_right, Contains-append_cases, Contains-push, Contains-push_cases}
+use Rattle.std.proofs.Common.{◌≡◌, ℕ, List, [], ◌∷◌, map, Some, None, string_bytes, refl, sym, ap, subst, ◌∙◌}
 use Rattle.erl_term.specs.Value.{Value}
 use Rattle.rel_files.specs.declared.draft.AppDraft.{AppDraft}
 use Rattle.rel_files.specs.declared.draft.Draft.{Draft}
 use Rattle.rel_files.specs.Name.{AreDistinct, IsFirstTwice}
 use Rattle.rel_files.specs.Release.{Release}
-use Rattle.rel_files.specs.Form.{AppForm, Form, form_of, names_in, IsRelTerm}
+use Rattle.rel_files.specs.Form.{AppForm, Form, form_of, app_names, IsRelTerm}
 use Rattle.rel_files.specs.File.{HasVersions, IsReleaseTerm}
 use Rattle.rel_files.specs.Sketch.{AppSketch, Sketch, sketch_in, release_in}
 use Rattle.rel_files.specs.Sketched.{app_sketch_of, sketch_of}
 use Rattle.rel_files.proofs.Shape.{app_form_sketch, form_sketch, sketch_in-term, from_sketch}
 use Rattle.rel_files.proofs.Versions.{release_in-form, from_release}
-use Rattle.rel_files.proofs.Distinct.{names}
+use Rattle.rel_files.proofs.Distinct.{names, never_both}
 
 -- the names of the applications
 abbrev pub sketch_names : List AppSketch → List (List ℕ)
@@ -26,39 +25,20 @@ pub form_names : (forms : List AppForm) → sketch_names (map app_form_sketch fo
 form_names [] = refl
 form_names (f ∷ forms) = ap (λ (ns : List (List ℕ)). f.name ∷ ns) (form_names forms)
 
--- a name that stands behind itself isn't distinct
-pub clash : (before after : List (List ℕ)) (n : List ℕ) → AreDistinct (before ++ (n ∷ after)) → Contains before n → ⊥
-clash [] after n distinct there = absurd (omega (arith, there.1))
-clash (m ∷ before) after n distinct there = go (Contains-append_cases (m ∷ []) before n there) (clash before after n distinct.1)
-  where
-    go : Contains (m ∷ []) n ⊎ Contains before n → (Contains before n → ⊥) → ⊥
-    go (inr later) rest = rest later
-    go (inl here) rest = first (Contains-push_cases [] m n here)
-      where
-        first : Contains [] n ⊎ (m ≡ n) → ⊥
-        first (inl nothing) = absurd (omega (arith, nothing.1))
-        first (inr same) =
-            distinct.0 (Contains-append_right before (n ∷ after) m
-            (subst (λ (x : List ℕ). Contains (x ∷ after) m) same (Contains-append_left (m ∷ []) after m (Contains-push [] m))))
-
--- names are distinct, or one stands twice, and not both
-pub never_both : (ns : List (List ℕ)) (n : List ℕ) → AreDistinct ns → IsFirstTwice ns n → ⊥
-never_both ns n distinct twice = clash twice.before twice.after n (subst AreDistinct twice.is distinct) twice.twice
-
 -- a term without a sketch has no form
 pub no_form : (v : Value) → None ≡ sketch_in v → (f : Form) → IsRelTerm v f → ⊥
 no_form v none f is = let some = sketch_in-term v f is in absurd cc
 
-pub duplicate : (v : Value) (k : Sketch) (n : List ℕ) → sketch_in v ≡ Some k → IsFirstTwice (sketch_names k.apps) n → (f : Form) × IsRelTerm v f × IsFirstTwice (names_in f) n
+pub duplicate : (v : Value) (k : Sketch) (n : List ℕ) → sketch_in v ≡ Some k → IsFirstTwice (sketch_names k.apps) n → (f : Form) × IsRelTerm v f × IsFirstTwice (app_names f) n
 duplicate v k n e twice =
     let form = from_sketch v k e in
     (form.0, form.1, subst (λ (ns : List (List ℕ)). IsFirstTwice ns n) (ap (λ (s : Sketch). sketch_names s.apps) form.2 ∙ form_names form.0.apps) twice)
 
-distinct_form : (k : Sketch) (f : Form) → k ≡ form_sketch f → AreDistinct (sketch_names k.apps) → AreDistinct (names_in f)
+distinct_form : (k : Sketch) (f : Form) → k ≡ form_sketch f → AreDistinct (sketch_names k.apps) → AreDistinct (app_names f)
 distinct_form k f e distinct = subst AreDistinct (ap (λ (s : Sketch). sketch_names s.apps) e ∙ form_names f.apps) distinct
 
 pub bad_version : (v : Value) (k : Sketch) → sketch_in v ≡ Some k → AreDistinct (sketch_names k.apps) → None ≡ release_in k
-    → (f : Form) × IsRelTerm v f × AreDistinct (names_in f) × ((r : Release) → f ≡ form_of r → HasVersions r → ⊥)
+    → (f : Form) × IsRelTerm v f × AreDistinct (app_names f) × ((r : Release) → f ≡ form_of r → HasVersions r → ⊥)
 bad_version v k e distinct none =
     let form = from_sketch v k e in (
       form.0,
@@ -73,7 +53,7 @@ says v k r e distinct some =
     let is = from_release form.0 r (sym (some ∙ ap release_in form.2)) in
     record {
       shape = subst (IsRelTerm v) is.0 form.1;
-      distinct = subst (λ (f : Form). AreDistinct (names_in f)) is.0 (distinct_form k form.0 form.2 distinct);
+      distinct = subst (λ (f : Form). AreDistinct (app_names f)) is.0 (distinct_form k form.0 form.2 distinct);
       versions = is.1;
     }
 
@@ -83,7 +63,7 @@ sketch_of_release v k r is e = let some = sketch_in-term v (form_of r) is.shape 
 
 none_twice : (v : Value) (k : Sketch) (r : Release) (n : List ℕ) → IsReleaseTerm v r → sketch_in v ≡ Some k → IsFirstTwice (sketch_names k.apps) n → ⊥
 none_twice v k r n is e twice =
-    never_both (names_in (form_of r)) n is.distinct
+    never_both (app_names (form_of r)) n is.distinct
     (subst (λ (ns : List (List ℕ)). IsFirstTwice ns n) (ap (λ (s : Sketch). sketch_names s.apps) (sketch_of_release v k r is e) ∙ form_names _) twice)
 
 is_release : (v : Value) (k : Sketch) (r : Release) → IsReleaseTerm v r → sketch_in v ≡ Some k → release_in k ≡ Some r
@@ -101,7 +81,7 @@ module _ (v : Value) (d : Draft) (as' : List AppDraft) (drafted : Some (sketch_o
   named : names as' ≡ sketch_names (sketch_of d).apps
   named = ap names listed ∙ sym (draft_names d.apps.items)
 
-  pub tells_duplicate : (n m : List ℕ) → IsFirstTwice (names as') n → m ≡ n → (f : Form) × IsRelTerm v f × IsFirstTwice (names_in f) m
+  pub tells_duplicate : (n m : List ℕ) → IsFirstTwice (names as') n → m ≡ n → (f : Form) × IsRelTerm v f × IsFirstTwice (app_names f) m
   tells_duplicate n m twice same =
       duplicate v (sketch_of d) m (sym drafted) (subst (IsFirstTwice (sketch_names (sketch_of d).apps)) (sym same) (subst (λ (ns : List (List ℕ)). IsFirstTwice ns n) named twice))
 
@@ -109,7 +89,7 @@ module _ (v : Value) (d : Draft) (as' : List AppDraft) (drafted : Some (sketch_o
   no_duplicate n twice r is = none_twice v (sketch_of d) r n is (sym drafted) (subst (λ (ns : List (List ℕ)). IsFirstTwice ns n) named twice)
 
   pub tells_version : AreDistinct (names as') → None ≡ release_in (sketch_of d)
-      → (f : Form) × IsRelTerm v f × AreDistinct (names_in f) × ((r : Release) → f ≡ form_of r → HasVersions r → ⊥)
+      → (f : Form) × IsRelTerm v f × AreDistinct (app_names f) × ((r : Release) → f ≡ form_of r → HasVersions r → ⊥)
   tells_version distinct none = bad_version v (sketch_of d) (sym drafted) (subst AreDistinct named distinct) none
 
   pub no_bad_version : None ≡ release_in (sketch_of d) → (r : Release) → IsReleaseTerm v r → ⊥

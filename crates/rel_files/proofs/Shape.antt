@@ -5,13 +5,14 @@ use Rattle.erl_term.specs.Value.{Value, Values, values_of}
 use Rattle.erl_term.specs.Value.Value.{atom, list, tuple}
 use Rattle.erl_term.specs.Value.Values.{no_values, value}
 use Rattle.rel_files.specs.Name.{is_name}
-use Rattle.rel_files.specs.Form.{AppForm, Form, IsAppTerm, AreAppTerms, IsRelTerm, numbers_of}
+use Rattle.rel_files.specs.Form.{AppForm, Form, IsAppSpec, AreAppSpecs, IsRelTerm}
 use Rattle.rel_files.specs.Parts.{AppParts, app_parts, RelParts, rel_parts}
 use Rattle.rel_files.specs.Sketch.{are_numbers, text_in, End, end_in, AppSketch, app_sketch, app_sketch_in, app_sketches_in, Sketch, sketch, sketch_in}
 use Rattle.rel_files.proofs.Options.{mapped, chained, passed, both, both_true}
 use Rattle.rel_files.proofs.Texts.{numbers, are_numbers-numbers, from_numbers, text_in-numbers, from_text}
-use Rattle.rel_files.proofs.Terms.{from_app_parts, rel_term, from_rel_parts}
+use Rattle.rel_files.proofs.TermParts.{from_app_parts, rel_term, from_rel_parts}
 use Rattle.rel_files.proofs.Endings.{end_in-ending, from_end}
+use Rattle.rel_files.specs.Terms.{numbers_of}
 
 -- a form, where a version is only known if it is one
 abbrev pub app_form_sketch : AppForm → AppSketch
@@ -20,7 +21,7 @@ app_form_sketch a = record { name = a.name; vsn = text_in 0x21 (numbers a.vsn); 
 abbrev pub form_sketch : Form → Sketch
 form_sketch f = record { name = f.name; vsn = text_in 0x21 (numbers f.vsn); erts = text_in 0x21 (numbers f.erts); apps = map app_form_sketch f.apps }
 
-app_sketch_in-term : (v : Value) (a : AppForm) → IsAppTerm v a → app_sketch_in v ≡ Some (app_form_sketch a)
+app_sketch_in-term : (v : Value) (a : AppForm) → IsAppSpec v a → app_sketch_in v ≡ Some (app_form_sketch a)
 app_sketch_in-term v a is =
     let sketched : End → AppSketch = λ e. record { name = a.name; vsn = text_in 0x21 (numbers a.vsn); start = e.start; included = e.included } in
     ap app_sketch_in is.is
@@ -28,7 +29,7 @@ app_sketch_in-term v a is =
     (both_true (is_name a.name) (are_numbers (numbers a.vsn)) is.name (are_numbers-numbers a.vsn))
     ∙ ap (option_map sketched) (end_in-ending is.ending a.start a.included is.ends)
 
-from_app_sketch : (v : Value) (k : AppSketch) → app_sketch_in v ≡ Some k → (a : AppForm) × IsAppTerm v a × (k ≡ app_form_sketch a)
+from_app_sketch : (v : Value) (k : AppSketch) → app_sketch_in v ≡ Some k → (a : AppForm) × IsAppSpec v a × (k ≡ app_form_sketch a)
 from_app_sketch v k e =
     let parts = chained app_sketch (app_parts v) k e in
     let p : AppParts = parts.0 in
@@ -49,7 +50,7 @@ from_app_sketch v k e =
       sym ended.2 ∙ (λ j. record { name = p.name; vsn = text_in 0x21 (vsn.1 j); start = ended.0.start; included = ended.0.included }),
     )
 
-app_sketches_in-terms : (vs : List Value) (forms : List AppForm) → AreAppTerms vs forms → app_sketches_in (values_of vs) ≡ Some (map app_form_sketch forms)
+app_sketches_in-terms : (vs : List Value) (forms : List AppForm) → AreAppSpecs vs forms → app_sketches_in (values_of vs) ≡ Some (map app_form_sketch forms)
 app_sketches_in-terms [] [] each = refl
 app_sketches_in-terms (v ∷ vs) (a ∷ forms) each =
     ap (option_and_then (λ (k : AppSketch). option_map (λ (ks : List AppSketch). k ∷ ks) (app_sketches_in (values_of vs)))) (app_sketch_in-term v a each.0)
@@ -57,7 +58,7 @@ app_sketches_in-terms (v ∷ vs) (a ∷ forms) each =
 app_sketches_in-terms vs forms each = absurd each
 
 from_app_sketches : (vs : Values) (ks : List AppSketch) → app_sketches_in vs ≡ Some ks
-    → (terms : List Value) × (forms : List AppForm) × (vs ≡ values_of terms) × AreAppTerms terms forms × (ks ≡ map app_form_sketch forms)
+    → (terms : List Value) × (forms : List AppForm) × (vs ≡ values_of terms) × AreAppSpecs terms forms × (ks ≡ map app_form_sketch forms)
 from_app_sketches no_values ks e = ([], [], refl, tt, cc)
 from_app_sketches (value v vs) ks e =
     let first = chained (λ (k : AppSketch). option_map (λ (later : List AppSketch). k ∷ later) (app_sketches_in vs)) (app_sketch_in v) ks e in

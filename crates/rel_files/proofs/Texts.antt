@@ -7,9 +7,9 @@ use Rattle.erl_term.specs.Value.Value.{int, atom}
 use Rattle.erl_term.specs.Value.Values.{no_values, value}
 use Rattle.erl_term.specs.Lexing.{is_in}
 use Rattle.rel_files.specs.Name.{is_name, is_text, IsName}
-use Rattle.rel_files.specs.Form.{numbers_of}
 use Rattle.rel_files.specs.Sketch.{count, are_numbers, character_in, characters_in, text_in, name_in, names_of}
 use Rattle.rel_files.proofs.Options.{mapped, chained, passed, both, both_true}
+use Rattle.rel_files.specs.Terms.{numbers_of}
 
 -- numbers as terms, one after another
 abbrev pub numbers : List ℤ → Values

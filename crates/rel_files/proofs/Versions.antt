@@ -10,7 +10,7 @@ use Rattle.rel_files.specs.declared.draft.AppDraft.{AppDraft}
 use Rattle.rel_files.specs.declared.release.RelApp.{RelApp}
 use Rattle.rel_files.specs.Name.{IsVersion}
 use Rattle.rel_files.specs.Release.{Release, Application, application_of}
-use Rattle.rel_files.specs.Form.{AppForm, Form, app_form_of, form_of, numbers_of}
+use Rattle.rel_files.specs.Form.{AppForm, Form, app_form_of, form_of}
 use Rattle.rel_files.specs.File.{HasVersions}
 use Rattle.rel_files.specs.Sketch.{text_in, app_in, apps_in, release_in}
 use Rattle.rel_files.specs.Sketched.{app_sketch_of}
@@ -18,6 +18,7 @@ use Rattle.rel_files.proofs.Options.{mapped, chained}
 use Rattle.rel_files.proofs.Rows.{joined, viewed}
 use Rattle.rel_files.proofs.Texts.{numbers, text_in-numbers, from_text}
 use Rattle.rel_files.proofs.Shape.{app_form_sketch, form_sketch}
+use Rattle.rel_files.specs.Terms.{numbers_of}
 
 -- the numbers that these terms are
 abbrev ints : Values → List ℤ

@@ -1,16 +1,15 @@
 -- What a `.rel` file says, or which fault it has.
-use Rattle.std.specs.Prelude.{◌≡◌, ℕ, List, [], ◌∷◌}
+use Rattle.std.specs.Prelude.{◌≡◌, ℕ, List}
 use Rattle.std.specs.List.{AllByRecursion}
 use Rattle.erl_term.specs.Value.{Value}
-use Rattle.erl_term.specs.Grammar.{Reads, Reading}
-use Rattle.erl_term.specs.Faults.{IsFault}
 use Rattle.erl_term.specs.OneTerm
 use Rattle.rel_files.specs.declared.fault.FileFault.{FileFault}
 use Rattle.rel_files.specs.Fault.{Fault, fault_of}
 use Rattle.rel_files.specs.Fault.Fault.{bad_term, bad_shape, duplicate, bad_version, no_memory}
 use Rattle.rel_files.specs.Name.{IsVersion, AreDistinct, IsFirstTwice}
 use Rattle.rel_files.specs.Release.{Release, Application}
-use Rattle.rel_files.specs.Form.{Form, IsRelTerm, names_in, form_of}
+use Rattle.rel_files.specs.Form.{Form, IsRelTerm, app_names, form_of}
+use Rattle.rel_files.specs.OneTermFile.{HasFileFault}
 
 -- each version of the release is the text of one
 pub record HasVersions (r : Release) : Type 0 where
@@ -21,19 +20,19 @@ pub record HasVersions (r : Release) : Type 0 where
 -- The term says this of a release.
 pub record IsReleaseTerm (v : Value) (r : Release) : Type 0 where
   pub shape : IsRelTerm v (form_of r)
-  pub distinct : AreDistinct (names_in (form_of r))
+  pub distinct : AreDistinct (app_names (form_of r))
   pub versions : HasVersions r
 
 -- The fault of a term that begins at this place. Of several the first in the order of their kinds is reported.
-abbrev pub HasTermFault : Value → ℕ → Fault → Type 0
-HasTermFault v at (bad_term e) = ⊥
-HasTermFault v at (bad_shape place) = ((f : Form) → IsRelTerm v f → ⊥) × (place ≡ at)
-HasTermFault v at (duplicate name) = (f : Form) × IsRelTerm v f × IsFirstTwice (names_in f) name
-HasTermFault v at bad_version = (f : Form) × IsRelTerm v f × AreDistinct (names_in f) × ((r : Release) → f ≡ form_of r → HasVersions r → ⊥)
-HasTermFault v at no_memory = ⊥
+abbrev pub HasReleaseTermFault : Value → ℕ → Fault → Type 0
+HasReleaseTermFault v at (bad_term e) = ⊥
+HasReleaseTermFault v at (bad_shape place) = ((f : Form) → IsRelTerm v f → ⊥) × (place ≡ at)
+HasReleaseTermFault v at (duplicate name) = (f : Form) × IsRelTerm v f × IsFirstTwice (app_names f) name
+HasReleaseTermFault v at bad_version = (f : Form) × IsRelTerm v f × AreDistinct (app_names f) × ((r : Release) → f ≡ form_of r → HasVersions r → ⊥)
+HasReleaseTermFault v at no_memory = ⊥
 
 abbrev pub IsTermFault : Value → ℕ → FileFault → Type 0
-IsTermFault v at f = HasTermFault v at (fault_of f)
+IsTermFault v at f = HasReleaseTermFault v at (fault_of f)
 
 -- The file has one term, and it is this.
 abbrev pub HasFileTerm : List ℕ → Value → Type 0
@@ -43,16 +42,9 @@ HasFileTerm bytes v = OneTerm.HasTerm 64 bytes v
 abbrev pub SaysRelease : List ℕ → Release → Type 0
 SaysRelease bytes r = (v : Value) × HasFileTerm bytes v × IsReleaseTerm v r
 
--- the fault of the terms of a file: there is to be one
-abbrev pub HaveFault : List Reading → Fault → Type 0
-HaveFault [] f = f ≡ bad_shape 0
-HaveFault (r ∷ []) f = HasTermFault r.term r.from f
-HaveFault (r ∷ s ∷ rs) f = f ≡ bad_shape r.from
-
--- The fault of a file.
-abbrev pub HasFault : List ℕ → Fault → Type 0
-HasFault bytes (bad_term e) = IsFault 64 bytes e
-HasFault bytes f = (rs : List Reading) × Reads 64 bytes rs × HaveFault rs f
+-- The fault of a file: it hasn't one term, or this has the fault.
+abbrev pub HasReleaseFault : List ℕ → Fault → Type 0
+HasReleaseFault bytes f = HasFileFault HasReleaseTermFault bytes f
 
 abbrev pub IsRelFault : List ℕ → FileFault → Type 0
-IsRelFault bytes f = HasFault bytes (fault_of f)
+IsRelFault bytes f = HasReleaseFault bytes (fault_of f)

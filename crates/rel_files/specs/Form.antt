@@ -1,12 +1,13 @@
 -- The shape of a release file's term (OTP: rel(4)). Where a version is to stand, any numbers are of this shape.
-use Rattle.std.specs.Prelude.{◌≡◌, ◌⊎◌, ℕ, ℤ, pos, List, [], ◌∷◌, map, Option, None, Some, codes}
+use Rattle.std.specs.Prelude.{◌≡◌, ◌⊎◌, ℕ, ℤ, List, [], ◌∷◌, map, Option, None, Some, codes}
 use Rattle.std.specs.List.{AllByRecursion}
-use Rattle.erl_term.specs.Value.{Value, values_of}
-use Rattle.erl_term.specs.Value.Value.{int, atom, list, tuple}
+use Rattle.erl_term.specs.Value.{Value}
+use Rattle.erl_term.specs.Value.Value.{atom}
 use Rattle.rel_files.specs.declared.release.StartType.{StartType}
 use Rattle.rel_files.specs.declared.release.StartType.TheVariants.{Permanent, Transient, Temporary, Load, Unloaded}
 use Rattle.rel_files.specs.Name.{IsName, IsReleaseName}
 use Rattle.rel_files.specs.Release.{Release, Application}
+use Rattle.rel_files.specs.Terms.{tuple_of, list_of, pair_term, numbers_term, numbers_of, text_term, atoms_term}
 
 -- an application as the file has it
 pub record AppForm : Type 0 where
@@ -22,20 +23,6 @@ pub record Form : Type 0 where
   pub erts : List ℤ
   pub apps : List AppForm
 
-abbrev pub tuple_of : List Value → Value
-tuple_of vs = tuple (values_of vs)
-
-abbrev pub list_of : List Value → Value
-list_of vs = list (values_of vs)
-
--- a list of numbers, as a string is one
-abbrev pub numbers_term : List ℤ → Value
-numbers_term ns = list_of (map int ns)
-
--- the numbers of a text
-abbrev pub numbers_of : List ℕ → List ℤ
-numbers_of s = map pos s
-
 -- the atom for a start type
 abbrev pub start_word : StartType → List ℕ
 start_word Permanent = codes "permanent"
@@ -50,7 +37,7 @@ IsStart v start = v ≡ atom (start_word start)
 -- the list of the included applications
 abbrev pub ListsIncluded : Value → Option (List (List ℕ)) → Type 0
 ListsIncluded v None = ⊥
-ListsIncluded v (Some names) = (v ≡ list_of (map atom names)) × AllByRecursion IsName names
+ListsIncluded v (Some names) = (v ≡ atoms_term names) × AllByRecursion IsName names
 
 -- what follows an application's version: its start type, permanent if none is written, and the applications included in it
 abbrev pub IsEnding : List Value → StartType → Option (List (List ℕ)) → Type 0
@@ -59,31 +46,31 @@ IsEnding (v ∷ []) start included = (IsStart v start × (included ≡ None)) �
 IsEnding (v ∷ w ∷ []) start included = IsStart v start × ListsIncluded w included
 IsEnding (v ∷ w ∷ x ∷ vs) start included = ⊥
 
--- {App, Vsn}, {App, Vsn, Type}, {App, Vsn, IncApps} or {App, Vsn, Type, IncApps}
-pub record IsAppTerm (v : Value) (a : AppForm) : Type 0 where
+-- an AppSpec: {App, Vsn}, {App, Vsn, Type}, {App, Vsn, IncApps} or {App, Vsn, Type, IncApps}
+pub record IsAppSpec (v : Value) (a : AppForm) : Type 0 where
   pub ending : List Value
   pub is : v ≡ tuple_of (atom a.name ∷ numbers_term a.vsn ∷ ending)
   pub name : IsName a.name
   pub ends : IsEnding ending a.start a.included
 
-abbrev pub AreAppTerms : List Value → List AppForm → Type 0
-AreAppTerms [] [] = Unit {0}
-AreAppTerms (v ∷ vs) (a ∷ forms) = IsAppTerm v a × AreAppTerms vs forms
-AreAppTerms vs forms = ⊥
+abbrev pub AreAppSpecs : List Value → List AppForm → Type 0
+AreAppSpecs [] [] = Unit {0}
+AreAppSpecs (v ∷ vs) (a ∷ forms) = IsAppSpec v a × AreAppSpecs vs forms
+AreAppSpecs vs forms = ⊥
 
 -- {release, {Name, Vsn}, {erts, EVsn}, [AppSpec]}
 pub record IsRelTerm (v : Value) (f : Form) : Type 0 where
   pub apps : List Value
   pub is : v ≡ tuple_of (atom (codes "release")
-      ∷ tuple_of (numbers_term (numbers_of f.name) ∷ numbers_term f.vsn ∷ [])
-      ∷ tuple_of (atom (codes "erts") ∷ numbers_term f.erts ∷ [])
+      ∷ pair_term (text_term f.name) (numbers_term f.vsn)
+      ∷ pair_term (atom (codes "erts")) (numbers_term f.erts)
       ∷ list_of apps ∷ [])
   pub name : IsReleaseName f.name
-  pub each : AreAppTerms apps f.apps
+  pub each : AreAppSpecs apps f.apps
 
 -- the names of its applications
-abbrev pub names_in : Form → List (List ℕ)
-names_in f = map (λ (a : AppForm). a.name) f.apps
+abbrev pub app_names : Form → List (List ℕ)
+app_names f = map (λ (a : AppForm). a.name) f.apps
 
 -- the form that a release has in a file
 abbrev pub app_form_of : Application → AppForm

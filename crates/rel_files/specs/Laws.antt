@@ -2,7 +2,7 @@
 use Rattle.std.specs.Prelude.{◌≡◌, ◌⊎◌, ℕ, List}
 use Rattle.rel_files.specs.Fault.{Fault}
 use Rattle.rel_files.specs.Release.{Release}
-use Rattle.rel_files.specs.File.{SaysRelease, HasFault}
+use Rattle.rel_files.specs.File.{SaysRelease, HasReleaseFault}
 
 -- No file says two releases.
 abbrev pub SaysOneRelease : Type 0
@@ -10,12 +10,12 @@ SaysOneRelease = (bytes : List ℕ) (r s : Release) → SaysRelease bytes r → 
 
 -- No file has two faults.
 abbrev pub HasOneFault : Type 0
-HasOneFault = (bytes : List ℕ) (f g : Fault) → HasFault bytes f → HasFault bytes g → f ≡ g
+HasOneFault = (bytes : List ℕ) (f g : Fault) → HasReleaseFault bytes f → HasReleaseFault bytes g → f ≡ g
 
 -- No file both says a release and has a fault.
 abbrev pub NeverBoth : Type 0
-NeverBoth = (bytes : List ℕ) (r : Release) (f : Fault) → SaysRelease bytes r → HasFault bytes f → ⊥
+NeverBoth = (bytes : List ℕ) (r : Release) (f : Fault) → SaysRelease bytes r → HasReleaseFault bytes f → ⊥
 
 -- Each file says a release or has a fault.
 abbrev pub SaysOrFails : Type 0
-SaysOrFails = (bytes : List ℕ) → ((r : Release) × SaysRelease bytes r) ⊎ ((f : Fault) × HasFault bytes f)
+SaysOrFails = (bytes : List ℕ) → ((r : Release) × SaysRelease bytes r) ⊎ ((f : Fault) × HasReleaseFault bytes f)

@@ -1,7 +1,9 @@
 pub mod Fault
 pub mod Name
 pub mod Release
+pub mod Terms
 pub mod Form
+pub mod OneTermFile
 pub mod File
 pub mod Parts
 pub mod Sketch

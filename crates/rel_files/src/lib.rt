@@ -5,7 +5,7 @@
 //! come in place of any answer and says nothing of the file.
 //!
 //! [`read_one_term`], [`start_of`], `parts`, `text` and `duplicates` are what readers of other files of a release share, with
-//! the kinds of such files (specs/Kind).
+//! the kinds of such files (specs/Kind), and `terms` is what writers of terms share.
 //!
 //! The functions of `laws` say of these definitions that each file says one release or has one fault, and not both.
 //!
@@ -21,6 +21,7 @@ mod one_term;
 pub mod parts;
 mod reader;
 mod release;
+pub mod terms;
 pub mod text;
 
 pub use ending::start_of;

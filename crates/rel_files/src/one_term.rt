@@ -3,7 +3,7 @@ ghost use Rattle.std.specs.Prelude.{◌≡◌, ◌≢◌, ◌∷◌, [], IfOk, I
 ghost use Rattle.erl_term.specs.Value.{value_of};
 ghost use Rattle.erl_term.specs.Grammar.{Reading, Reads};
 ghost use Rattle.erl_term.specs.Within.{IsWithin};
-ghost use Rattle.rel_files.specs.Kind.{HasTermAt, IsCountFault};
+ghost use Rattle.rel_files.specs.OneTermFile.{HasTermAt, IsCountFault};
 
 use crate::FileFault;
 use erl_term::{Spanned, Term, read_terms};

@@ -1,4 +1,4 @@
-//! The texts of a file: names, versions and lists of numbers, as what reads other files of a release needs them too.
+//! Names, versions and lists of numbers in the terms of a file. What reads other files of a release takes them from here.
 ghost use Rattle.std.specs.Prelude.{◌≡◌, ◌<◌, IfOk, IfSome, map, string_bytes};
 ghost use Rattle.std.specs.List.{list_all};
 ghost use Rattle.std.specs.Option.{option_map};
@@ -80,8 +80,12 @@ pub(crate) fn are_numbers(items: &[Term]) -> bool
     true
 }
 
-/// The text of these numbers, if they are 1 to 62 characters from the lowest to `~`.
-pub fn text_in(alloc: Global, lowest: u8, items: &[Term]) -> Result<Option<String>, AllocError>
+// The text of these numbers, if they are 1 to 62 characters from the lowest to `~`.
+pub(crate) fn text_in(
+    alloc: Global,
+    lowest: u8,
+    items: &[Term],
+) -> Result<Option<String>, AllocError>
     ensures { IfOk result (λ text.
         option_map string_bytes text ≡ text_in lowest (members_of items.now)) }
 {
@@ -151,8 +155,8 @@ pub fn version_or_empty(alloc: Global, term: &Term) -> Result<Option<String>, Al
     }
 }
 
-/// The names of applications or modules that atoms are, if each is one.
-pub fn names_of(alloc: Global, items: &[Term]) -> Result<Option<Vec<String>>, AllocError>
+// The names of applications or modules that atoms are, if each is one.
+pub(crate) fn names_of(alloc: Global, items: &[Term]) -> Result<Option<Vec<String>>, AllocError>
     ensures { IfOk result (λ names.
         option_map (λ v. map string_bytes v.items) names ≡ names_of (members_of items.now)) }
 {

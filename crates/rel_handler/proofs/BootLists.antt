@@ -4,7 +4,7 @@ use Rattle.std.specs.Prelude.{if◌then◌else◌}
 use Rattle.std.proofs.lemmas.Bool.{cases_Bool, cases_lt}
 use Rattle.rel_list.specs.Releases.{Releases, has_one_shot}
 use Rattle.rel_list.specs.Event.{booted, recorded}
-use Rattle.rel_list.proofs.OneShotLaws.{boots_as_recorded, none_of_recorded, none_recorded}
+use Rattle.rel_list.proofs.OneShotLaws.{boots_as_recorded, none_recorded}
 use Rattle.rel_records.proofs.EventRecords.{recorded-twice}
 use Rattle.node_store.specs.Image.{Extent, boot_size, booted_extent, extent_behind, HasBootSpace, HasSpace}
 use Rattle.rel_handler.specs.Laws.{BootAlike}
@@ -73,7 +73,3 @@ boot_alike es fs alone alone_too same = record {
   booted = sym (booted_recorded es alone) ∙ ap booted same ∙ booted_recorded fs alone_too;
   extents = λ x. sym (extent_recorded es alone x) ∙ ap (booted_extent x) same ∙ extent_recorded fs alone_too x;
 }
-
--- one has a one-shot where the other has
-pub one_shot_alike : (es fs : Releases) → recorded es ≡ recorded fs → has_one_shot es ≡ false → has_one_shot fs ≡ false
-one_shot_alike es fs same none = none_of_recorded fs (ap has_one_shot (sym same) ∙ none_recorded es none)

@@ -9,7 +9,6 @@ use Rattle.rel_list.specs.Laws.{leaves_permanent, makes_one_shot}
 use Rattle.rel_list.specs.Refusal.{brings_release, refusal}
 use Rattle.rel_list.specs.Releases.{Releases, has_current, status_of}
 use Rattle.rel_list.proofs.OwnRules.{own_of_step}
-use Rattle.rel_records.proofs.RecordPlaces.{chosen}
 use Rattle.rel_records.specs.Writing.{IsOfListed}
 use Rattle.relup_script.specs.Script.{restarts}
 use Rattle.relup_script.specs.Search.{FoundForm}
@@ -32,6 +31,7 @@ use Rattle.node_store.specs.declared.node_store.NodeStore.{NodeStore}
 use Rattle.node_store.proofs.Commits.{all_same, commits_behind, lost_commits, revived_is_sound}
 use Rattle.node_store.proofs.CompactionLemmas.{with_dead}
 use Rattle.node_store.proofs.Images.{leaves_boot_space}
+use Rattle.rel_files.proofs.Options.{passed}
 
 -- An installation has these refusals.
 abbrev IsOfInstallation : HandlerError → Type 0
@@ -92,7 +92,7 @@ installation_is_commanded restarts vsn es f is = list_allows (installation_event
 pub room_left : (restarts : Bool) (vsn : List ℕ) (es : Releases) (x : Extent) (size : ℕ) → HasSpace x (size + room_behind restarts vsn es) → LeavesBootSpace (installation_event restarts vsn) size x es
 room_left false vsn es x size fits = leaves_boot_space (installed vsn) refl size x es
 room_left true vsn es x size (short, ends) = λ next is one.
-    let (may, made) = chosen (may_be_installed (has_current es) (status_of vsn es)) (Some (list_restarted vsn es)) next (own_of_step (restart_installed vsn) es next is).1 in
+    let (may, made) = passed (may_be_installed (has_current es) (status_of vsn es)) (Some (list_restarted vsn es)) next (own_of_step (restart_installed vsn) es next is).1 in
     let same : list_restarted vsn es ≡ next = cc in
     subst (λ l. HasSpace (extent_behind x size) (boot_size l)) same (omega (arith, short), omega (arith, ends))
 

@@ -1,5 +1,5 @@
 -- What was made of the release of a path.
-use Rattle.std.proofs.Common.{◌≡◌, inr, ℕ, List, [], ◌∷◌, None, Ok, Err, refl}
+use Rattle.std.proofs.Common.{◌≡◌, inr, ℕ, List, [], ◌∷◌, None, Ok, Err}
 use Rattle.std.specs.Prelude.{Result, IfOk, IfErr, OnOk}
 use Rattle.rel_unpack.specs.Source.{Source}
 use Rattle.rel_unpack.specs.Unpacking.{Brought}
@@ -15,14 +15,10 @@ use Rattle.node_store.specs.Image.{extent_behind, first_extent, HasSpace, IsImag
 use Rattle.node_command.specs.Place.{own_refusal}
 use Rattle.rel_handler.specs.Moments.{Begins, BeginsAt, WritesNothing}
 use Rattle.rel_handler.specs.Refusals.{MakingRefused}
-use Rattle.node_store.specs.State.{disk_in, disk_of, extent_in, list_in, start_in, IsSame}
+use Rattle.node_store.specs.State.{disk_in, disk_of, extent_in, list_in, start_in}
 use Rattle.rel_handler.specs.Unpacking.{IsMade, NodeCreationRefused}
 use Rattle.node_command.specs.declared.error.HandlerError.{HandlerError}
 use Rattle.node_store.specs.declared.node_store.NodeStore.{NodeStore}
-
--- nothing of a handler has changed
-pub unchanged_handler : {D : Type 0} (h : NodeStore D) → IsSame h h
-unchanged_handler h = record { disk = refl; list = refl; dead = refl; extent = refl }
 
 -- What was made of what the path brings.
 module _ {D : Type 0} (v : Ghosts D) (source : Source) (path : List ℕ) (b : Brought) (read : Brings source path (Ok b)) (free : own_refusal b ≡ None) (disk : D) where

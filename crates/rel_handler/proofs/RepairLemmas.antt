@@ -28,9 +28,9 @@ use Rattle.node_store.specs.Image.{booted_extent, IsImageAt, IsStarted, start_sl
 use Rattle.node_store.specs.State.{disk_in, extent_in, list_in, start_in, HasStarted, IsReady}
 use Rattle.node_store.specs.declared.node_store.NodeStore.{NodeStore}
 use Rattle.rel_handler.proofs.Boots.{IsLack}
-use Rattle.node_store.proofs.Commits.{failed_behind}
 use Rattle.node_store.proofs.Images.{started_by_text}
 use Rattle.rel_handler.proofs.OneShotLemmas.{old_taken, takes_nothing}
+use Rattle.rel_store.proofs.Scan.{failed_since}
 
 -- a list without a permanent release has no entry of that status
 none_permanent : (es : Releases) → permanent es ≡ None → length (of_status is_permanent es) ≡ 0
@@ -104,7 +104,7 @@ module _ {D : Type 0} (v : Ghosts D) (h mid : NodeStore D) (ready : IsReady v.se
 
     -- or why it isn't
     pub refused_then : (e : BootError) → FinishRefused v mid then e → FinishRefused v h then e
-    refused_then boot.Device refused = failed_behind _ _ _ read.counted leaves.counted refused
+    refused_then boot.Device refused = failed_since _ _ _ read.counted leaves.counted refused
     refused_then boot.NoMemory refused = read_on v.seen v.may_leave v.moment v.left_since (disk_in h) (disk_in mid) (disk_in then) read.only_read refused
     refused_then boot.NotAStore refused = absurd refused
     refused_then (boot.Damaged at) refused = absurd refused
@@ -146,7 +146,7 @@ module _ {D : Type 0} (v : Ghosts D) (h mid : NodeStore D) (ready : IsReady v.se
           }
 
           pub failed_over : HasFailed (v.failures (disk_in then)) (v.failures (disk_in new)) → FinishRefused v h new boot.Device
-          failed_over failed = failed_behind _ _ _ takes_then.counted keeps.counted failed
+          failed_over failed = failed_since _ _ _ takes_then.counted keeps.counted failed
 
           pub booted_now : IsReady v.seen v.may_leave new → IsBooted v h new
           booted_now now = record { list = keeps.list ∙ booted_then.list; extent = keeps.extent ∙ booted_then.extent; ready = now }
@@ -165,7 +165,7 @@ module _ {D : Type 0} (v : Ghosts D) (h new : NodeStore D) where
 
   -- a boot is refused for it, and wrote nothing unless the device failed
   pub boot_refused : (disk : D) → v.failures disk ≤ v.failures (disk_in h) → v.failures (disk_in h) ≤ v.failures (disk_in new) → (e : BootError) → FinishRefused v h new e → BootRefused (v.seen disk) (v.failures disk) (v.failures (disk_in new)) e
-  boot_refused disk before counted boot.Device refused = failed_behind _ _ _ before counted refused
+  boot_refused disk before counted boot.Device refused = failed_since _ _ _ before counted refused
   boot_refused disk before counted boot.NoMemory refused = tt
   boot_refused disk before counted boot.NotAStore refused = absurd refused
   boot_refused disk before counted (boot.Damaged at) refused = absurd refused

@@ -13,12 +13,13 @@ ghost use Rattle.rel_disk.specs.Moments.{LeavesOnly};
 ghost use Rattle.rel_list.specs.Releases.{Releases, has_one_shot};
 ghost use Rattle.rel_list.specs.Event.{recorded};
 ghost use Rattle.rel_store.specs.Contents.{HasOnlyRead};
+ghost use Rattle.rel_store.specs.Layout.{format_of};
 ghost use Rattle.rel_handler.specs.Booting.{IsRead, IsOpened, IsBootOf, IsBootRecord, BootRecordRefused, IsBooted, IsOldOrTaken, IsOldOrBooted, Leaves, FinishRefused};
 ghost use Rattle.node_store.specs.Events.{Known, IsOfPrefix, Stored, IsStoredAs};
 ghost use Rattle.node_store.specs.Image.{HasBootSpace, IsImageOf, IsImageAt, IsStarted, IsLeftByBoot};
 ghost use Rattle.rel_handler.specs.Moments.{BootsTo, HasRead, IsSynced, KeepsStore};
 ghost use Rattle.rel_handler.specs.Refusals.{BootRefused, told_boot, IsOpenError};
-ghost use Rattle.node_store.specs.State.{disk_in, disk_of, extent_in, list_in, is_dead, start_in, HasStarted, IsReady, IsSound};
+ghost use Rattle.node_store.specs.State.{disk_in, disk_of, extent_in, format_in, list_in, is_dead, start_in, HasStarted, IsReady, IsSound};
 ghost use Rattle.start_record.specs.Text.{versions_of, SpellsStart};
 
 use crate::{BootError, Handler};
@@ -41,6 +42,7 @@ use std::alloc::Global;
 pub fn boot<D: Disk>(alloc: Global, disk: D) -> Result<Handler<D>, (BootError, D)>
     ensures sound { IfOk result (IsSound D.seen D.may_leave) }
     ensures works { IfOk result (λ handler. is_dead handler ≡ false) }
+    ensures format { IfOk result (λ handler. format_in handler ≡ format_of (D.seen disk)) }
     ensures image { OnOk result ((es : Releases) × IsImageOf (D.seen disk) es
         × (recorded es ≡ es)) }
     ensures acknowledged { IfOk result (λ handler. (c : List ℕ) → D.may_leave (disk_in handler) c
@@ -100,6 +102,7 @@ pub fn boot<D: Disk>(alloc: Global, disk: D) -> Result<Handler<D>, (BootError, D
 // Reads the node from a disk. It is dead until the boot has written what it has to.
 fn open<D: Disk>(alloc: Global, disk: D) -> Result<NodeStore<D>, (BootError, D)>
     ensures opened { IfOk result (IsOpened D.Disk disk) }
+    ensures format { IfOk result (λ node. format_in node ≡ format_of (D.seen disk)) }
     ensures only { (es : Releases) → IsImageOf (D.seen disk) es → MatchResult result
         (λ node. list_in node ≡ recorded es)
         (λ e. (e.0 ≡ BootError.Device) ⊎ (e.0 ≡ BootError.NoMemory)) }
@@ -160,6 +163,7 @@ fn finish<D: Disk>(
         → IsStarted (list_in node.old) (D.seen (disk_in node.old))
         → HasOnlyRead D.seen D.may_leave D.moment D.left_since
         (disk_in node.old) (disk_in node.new)) }
+    ensures format { format_in node.new ≡ format_in node.old }
     ensures refused { IfErr result (FinishRefused D.Disk node.old node.new) }
 {
     let Some(release) = node.list.permanent() else {
@@ -191,6 +195,7 @@ fn take_one_shot<D: Disk>(
     ensures start { OnOk result (start_in D.seen node.new ≡ start_in D.seen node.old) }
     ensures free { has_one_shot (list_in node.old) ≡ false
         → disk_in node.new ≡ disk_in node.old }
+    ensures format { format_in node.new ≡ format_in node.old }
     ensures refused { IfErr result (FinishRefused D.Disk node.old node.new) }
 {
     let Some(body) = body else {
@@ -215,6 +220,7 @@ fn starts<D: Disk>(alloc: Global, node: &mut NodeStore<D>, start: &Start) -> Res
     ensures ready { OnOk result (IsReady D.seen D.may_leave node.new) }
     ensures value { IfOk result (λ is. IsTrue is
         ↔ SpellsStart (start_in D.seen node.old) (versions_of start.now)) }
+    ensures format { format_in node.new ≡ format_in node.old }
     ensures refused { IfErr result (FinishRefused D.Disk node.old node.new) }
 {
     match read_start(alloc, &mut node.store) {

@@ -16,7 +16,7 @@ ghost use Rattle.node_store.specs.Start.{start_text};
 ghost use Rattle.node_store.specs.Image.{extent_behind, first_extent, IsImageAt, holds_a_store, HasSpace};
 ghost use Rattle.rel_handler.specs.Moments.{Begins, BeginsAt, WritesNothing};
 ghost use Rattle.rel_handler.specs.Refusals.{MakingRefused, told_create, IsCreateError};
-ghost use Rattle.node_store.specs.State.{disk_in, disk_of, extent_in, list_in, is_dead, start_in, IsSound};
+ghost use Rattle.node_store.specs.State.{disk_in, disk_of, extent_in, format_in, list_in, is_dead, start_in, IsSound};
 ghost use Rattle.rel_handler.specs.Unpacking.{IsExistingOr, IsMade, NodeCreationRefused};
 ghost use Rattle.rel_unpack.specs.Unpacking.{brought_of};
 ghost use Rattle.rel_list.specs.declared.status.Status.TheVariants.{Permanent};
@@ -49,6 +49,7 @@ impl<D: Disk> Handler<D> {
     ) -> Result<Handler<D>, (HandlerError, D)>
         ensures sound { IfOk result (IsSound D.seen D.may_leave) }
         ensures works { IfOk result (λ handler. is_dead handler ≡ false) }
+        ensures format { IfOk result (λ handler. format_in handler ≡ 2) }
         ensures made { IfOk result (IsMade D.Disk (F.gives files.now) path.now disk) }
         ensures taken { holds_a_store (D.seen disk) ≡ true → IfErr result
             (λ e. WritesNothing D.seen D.may_leave D.moment D.left_since disk e.1) × IsErr result }
@@ -93,6 +94,7 @@ impl<D: Disk> Handler<D> {
         ensures begun { OnOk result ((at : D)
             × BeginsAt D.seen D.may_leave D.moment D.left_since
             (doubted [] (made (bundle_brought (brought_of brought)))) disk (disk_of result) at) }
+        ensures format { IfOk result (λ handler. format_in handler ≡ 2) }
         ensures taken { holds_a_store (D.seen disk) ≡ true → IfErr result
             (λ e. WritesNothing D.seen D.may_leave D.moment D.left_since disk e.1) × IsErr result }
         ensures counted { D.failures disk ≤ D.failures (disk_of result) }

@@ -15,7 +15,7 @@ ghost use Rattle.node_command.specs.Taking.{change_size};
 ghost use Rattle.node_store.specs.Commits.{Commits, IsDone};
 ghost use Rattle.node_store.specs.Refusals.{CommandRefused};
 ghost use Rattle.node_store.specs.Start.{started};
-ghost use Rattle.node_store.specs.State.{disk_in, list_in, is_dead, start_in, HasStarted, IsSound};
+ghost use Rattle.node_store.specs.State.{disk_in, format_in, list_in, is_dead, start_in, HasStarted, IsSound};
 ghost use Rattle.rel_handler.specs.Checking.{checked};
 ghost use Rattle.rel_handler.specs.Moments.{HasRead};
 ghost use Rattle.rel_handler.specs.Refusals.{StartRefused};
@@ -89,6 +89,7 @@ impl<D: Disk> Handler<D> {
         ensures sound { IsSound D.seen D.may_leave self.new }
         ensures read { HasRead D.Disk self.old self.new }
         ensures works { OnOk result (is_dead self.new ≡ false) }
+        ensures format { format_in self.new ≡ format_in self.old }
         ensures tells { IfOk result (λ start. (r : Release)
             × (permanent (list_in self.old) ≡ Some r) × (versions_of start ≡ started r)) }
         ensures refused { IfErr result (StartRefused D.failures self.old self.new) }
@@ -132,6 +133,7 @@ impl<D: Disk> Handler<D> {
         ensures done { OnOk result (IsDone D.Disk (made_permanent vsn.now)
             (change_size (made_permanent vsn.now) (list_in self.old)) self.old self.new) }
         ensures works { OnOk result (is_dead self.new ≡ false) }
+        ensures format { format_in self.new ≡ format_in self.old }
         ensures refused { IfErr result (CommandRefused D.failures (made_permanent vsn.now)
             (change_size (made_permanent vsn.now) (list_in self.old)) self.old self.new) }
     {
@@ -157,6 +159,7 @@ impl<D: Disk> Handler<D> {
             (change_size (reboot_old vsn.now) (list_in self.old)) self.old self.new) }
         ensures started { OnOk result (HasStarted D.may_leave self.new) }
         ensures dead { OnOk result (is_dead self.new ≡ true) }
+        ensures format { format_in self.new ≡ format_in self.old }
         ensures refused { IfErr result (CommandRefused D.failures (reboot_old vsn.now)
             (change_size (reboot_old vsn.now) (list_in self.old)) self.old self.new) }
     {
@@ -180,6 +183,7 @@ impl<D: Disk> Handler<D> {
             (change_size (removed vsn.now) (list_in self.old)) self.old self.new) }
         ensures works { OnOk result (is_dead self.new ≡ false) }
         ensures start { OnOk result (start_in D.seen self.new ≡ start_in D.seen self.old) }
+        ensures format { format_in self.new ≡ format_in self.old }
         ensures refused { IfErr result (CommandRefused D.failures (removed vsn.now)
             (change_size (removed vsn.now) (list_in self.old)) self.old self.new) }
     {

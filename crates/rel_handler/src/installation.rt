@@ -6,7 +6,7 @@
 // as they were (`IsLost`). Behind a script that ends with a restart the handler is dead too. The release is a one-shot then,
 // unless it is the permanent one: the next boot starts it, and has room for its record, which was asked for together with that of
 // the installation (`install_room`).
-ghost use Rattle.std.specs.Prelude.{◌≡◌, true, IfErr, IfOk, OnOk};
+ghost use Rattle.std.specs.Prelude.{◌≡◌, true, false, IfErr, IfOk, OnOk};
 ghost use Rattle.held_processes.specs.Following.{HoldsNothing};
 ghost use Rattle.loaded_modules.specs.Loaded.{listed_in};
 ghost use Rattle.node_upgrade.specs.Running.{state};
@@ -64,6 +64,8 @@ impl<D: Disk> Handler<D> {
         ensures dead { OnOk result (is_dead self.new ≡ needs_restart vsn.now (list_in self.old)) }
         ensures format { OnOk result (needs_restart vsn.now (list_in self.old) ≡ true
             → format_in self.new ≡ 2) }
+        ensures same_format { needs_restart vsn.now (list_in self.old) ≡ false
+            → format_in self.new ≡ format_in self.old }
         ensures started { OnOk result (HasStarted D.may_leave self.new) }
         ensures start { OnOk result (start_in D.seen self.new ≡ start_in D.seen self.old) }
         ensures installed { IfOk result (λ i. IsInstalledBy vsn.now (list_in self.old)

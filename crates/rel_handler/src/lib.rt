@@ -27,4 +27,3 @@ mod unpacking;
 pub use booting::boot;
 pub use error::BootError;
 pub use handler::Handler;
-pub use node_upgrade::{InstallError, Installed};

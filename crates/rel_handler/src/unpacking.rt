@@ -14,7 +14,7 @@ ghost use Rattle.node_store.specs.Commits.{Commits, IsDone};
 ghost use Rattle.node_command.specs.Files.{HasFileTerms, IsWhole, bundle_brought, unpacked_size};
 ghost use Rattle.node_command.specs.Place.{has_room, own_refusal};
 ghost use Rattle.node_store.specs.Refusals.{CommandRefused};
-ghost use Rattle.node_store.specs.State.{is_dead, list_in, start_in, IsSound};
+ghost use Rattle.node_store.specs.State.{format_in, is_dead, list_in, start_in, IsSound};
 ghost use Rattle.rel_handler.specs.Unpacking.{IsUnpacked, UnpackingRefused};
 
 use crate::Handler;
@@ -48,6 +48,7 @@ impl<D: Disk> Handler<D> {
     ) -> Result<String, HandlerError>
         requires { IsSound D.seen D.may_leave self.old }
         ensures sound { IsSound D.seen D.may_leave self.new }
+        ensures format { format_in self.new ≡ format_in self.old }
         ensures unpacked { IfOk result (λ vsn. IsUnpacked D.Disk (F.gives files.now) path.now
             self.old self.new (string_bytes vsn)) }
         ensures refused { IfErr result
@@ -87,6 +88,7 @@ fn take_in<D: Disk>(
         (unpacked_size (brought_of brought) (list_in node.old)) node.old node.new) }
     ensures works { OnOk result (is_dead node.new ≡ false) }
     ensures start { OnOk result (start_in D.seen node.new ≡ start_in D.seen node.old) }
+    ensures format { format_in node.new ≡ format_in node.old }
     ensures refused { IfErr result (CommandRefused D.failures
         (unpacked (bundle_brought (brought_of brought)))
         (unpacked_size (brought_of brought) (list_in node.old)) node.old node.new) }

@@ -1,4 +1,3 @@
-mod DamageLemmas
 mod OptionLemmas
 mod PathLemmas
 mod ReaderLemmas

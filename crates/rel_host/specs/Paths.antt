@@ -1,5 +1,6 @@
 -- Paths below a folder, as bytes.
-use Rattle.std.specs.Prelude.{◌≡◌, ◌≢◌, ◌==◌, ℕ, Bool, false, List, [], Option, Some, None, Result, Err, codes, slice_index}
+use Rattle.std.specs.Prelude.{◌≡◌, ◌≢◌, ◌==◌, ℕ, Bool, false, List, [], Option, Some, None, Result, Err, codes, slice_index, String, string_bytes}
+use Rattle.std.specs.declared.alloc.Global.{Global}
 use Rattle.std.specs.List.{All, list_any, slice_split}
 use Rattle.std.specs.Str.{bytes_eq}
 use Rattle.file_source.specs.declared.files.FilesError.{FilesError}
@@ -20,8 +21,12 @@ pub record IsBelow (path : List ℕ) : Type 0 where
   pub down : climbs path ≡ false
   pub text : All (λ b. b ≢ 0) path
 
--- What a read may give: without a folder, or of a path that doesn't lead below it, nothing but Missing. What the folder
+-- There is a folder, and its name isn't empty.
+abbrev pub HasFolder : Option (String Global) → Type 0
+HasFolder None = ⊥
+HasFolder (Some root) = string_bytes root ≢ []
+
+-- What a read may give: without such a folder, or of a path that doesn't lead below it, nothing but Missing. What the folder
 -- holds isn't known.
-abbrev pub Gives : {Root : Type 0} → Option Root → List ℕ → Result (List ℕ) FilesError → Type 0
-Gives None path given = given ≡ Err Missing
-Gives (Some root) path given = (IsBelow path → ⊥) → given ≡ Err Missing
+abbrev pub Gives : Option (String Global) → List ℕ → Result (List ℕ) FilesError → Type 0
+Gives root path given = (HasFolder root → IsBelow path → ⊥) → given ≡ Err Missing

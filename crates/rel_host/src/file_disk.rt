@@ -7,7 +7,7 @@ ghost use Rattle.rel_disk.specs.Images.{Image, ImageSince};
 ghost use Rattle.rel_disk.specs.Moments.{HasFailed};
 ghost use Rattle.rel_host.specs.FileState.{IsOpened, Does, Fails, FailsToSync, all_failures, broken};
 
-use crate::read_within;
+use crate::readers::read_within;
 use rel_disk::{DeviceFault, Disk, MemDisk};
 use std::alloc::Global;
 use std::fmt::{self, Display, Formatter};

@@ -5,8 +5,7 @@
 //! the file has failed, every write, cut and sync fails.
 //!
 //! [`RootFiles`] reads files below a folder. The clause `outside` says that a path that does not lead below it is Missing,
-//! and `is_below` says which paths those are. [`read_within`] gives all bytes of a reader, or reports that there are more
-//! than a limit (clauses `whole` and `short`).
+//! and `is_below` says which paths those are. Without a folder, or with one of the empty name, each is (`no_folder`).
 //!
 //! [`read_options`] has `clap`'s exact meaning of the arguments (clauses `given`, `taken` and `refused`).
 //!
@@ -21,5 +20,4 @@ mod root_files;
 
 pub use file_disk::{FileDisk, OpenError};
 pub use options::{Options, OptionsError, read_options};
-pub use readers::read_within;
 pub use root_files::{RootFiles, is_below};

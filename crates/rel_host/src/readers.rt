@@ -5,8 +5,8 @@ use std::alloc::Global;
 use std::io;
 use std::io::Read;
 
-/// All bytes that the reader has, or `None` where it has more than `limit`. It takes at most one byte more.
-pub fn read_within<R: Read + Drop>(
+// All bytes that the reader has, or `None` where it has more than `limit`. It takes at most one byte more.
+pub(crate) fn read_within<R: Read + Drop>(
     alloc: Global,
     reader: R,
     limit: usize,

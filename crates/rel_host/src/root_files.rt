@@ -1,8 +1,8 @@
 // Files below a folder of the host.
-ghost use Rattle.std.specs.Prelude.{◌≡◌, ◌≢◌, ◌≤◌, ◌↔◌, IsTrue, true, None, Ok, Err, IfOk, IfErr, length};
-ghost use Rattle.rel_host.specs.Paths.{climbs, IsBelow, Gives};
+ghost use Rattle.std.specs.Prelude.{◌≡◌, ◌≢◌, ◌≤◌, ◌↔◌, IsTrue, true, Ok, Err, IfOk, IfErr, length};
+ghost use Rattle.rel_host.specs.Paths.{climbs, HasFolder, IsBelow, Gives};
 
-use crate::read_within;
+use crate::readers::read_within;
 use file_source::{Files, FilesError};
 use std::alloc::{AllocError, Global};
 use std::io::ErrorKind;
@@ -11,7 +11,7 @@ use std::{fs, io, rt};
 /// The most bytes of a file.
 const MOST_BYTES: usize = 1_048_576;
 
-/// Files by their paths below a folder. Without a folder there is none.
+/// Files by their paths below a folder. Without a folder, or with one of the empty name, there is none.
 ///
 /// A path is Missing where it doesn't lead below the folder ([`is_below`]), where nothing is there, and where it goes through a
 /// file that is no folder. A folder, and what can't be read, is Unreadable. Of a longer file than 1,048,576 bytes one byte more
@@ -53,7 +53,7 @@ impl<R: rt::Files + Drop> Files for RootFiles<R> {
     ghost gives = { λ files. Gives files.root };
 
     fn read(&self, alloc: Global, path: &str) -> Result<Vec<u8>, FilesError>
-        ensures no_root { self.now.root ≡ None → result ≡ Err FilesError.Missing }
+        ensures no_folder { (HasFolder self.now.root → ⊥) → result ≡ Err FilesError.Missing }
         ensures outside { (IsBelow path.now → ⊥) → result ≡ Err FilesError.Missing }
 
         // As of all files.
@@ -65,7 +65,7 @@ impl<R: rt::Files + Drop> Files for RootFiles<R> {
         let Some(root) = &self.root else {
             return Err(FilesError::Missing);
         };
-        if !is_below(path) {
+        if root.is_empty() || !is_below(path) {
             return Err(FilesError::Missing);
         }
         let Ok(whole) = joined(alloc, root.as_str(), path) else {

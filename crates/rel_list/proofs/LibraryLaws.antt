@@ -13,18 +13,15 @@ use Rattle.library.specs.Library.{Library, IsLibrary, is_at, library_at, agrees,
 use Rattle.library.proofs.Terms.{same_libraries}
 use Rattle.rel_list.specs.Releases.{Releases, Entry, libraries_named, library_in, each_once, shared, differs, first_different}
 use Rattle.rel_list.specs.declared.status.Status.{Status}
-use Rattle.rel_list.specs.Event.{booted, booted_status, recorded, recorded_status, with_statuses}
+use Rattle.rel_list.specs.Event.{recorded, recorded_status, with_statuses}
 use Rattle.rel_list.proofs.Orderly.{same_version, is_itself}
 
 -- Boots, and releases that come in
 
 -- a boot leaves the libraries
-libraries-with_statuses : (f : List ℕ → Status → Status) (es : Releases) → libraries_named (with_statuses f es) ≡ libraries_named es
+pub libraries-with_statuses : (f : List ℕ → Status → Status) (es : Releases) → libraries_named (with_statuses f es) ≡ libraries_named es
 libraries-with_statuses f [] = refl
 libraries-with_statuses f (e ∷ es) = ap (λ (ls : List Library). e.libraries ++ ls) (libraries-with_statuses f es)
-
-pub libraries-booted : (es : Releases) → libraries_named (booted es) ≡ libraries_named es
-libraries-booted es = libraries-with_statuses (λ vsn s. booted_status s) es
 
 pub libraries-recorded : (es : Releases) → libraries_named (recorded es) ≡ libraries_named es
 libraries-recorded es = libraries-with_statuses (λ vsn s. recorded_status s) es
@@ -56,7 +53,7 @@ is_like l k = is_at l.app.name l.app.vsn k
 abbrev pub is_among : Library → List Library → Bool
 is_among l ls = is_some (library_at l.app.name l.app.vsn ls)
 
-same_name : (l k : Library) → is_like l k ≡ true → (k.app.name ≡ l.app.name) × (k.app.vsn ≡ l.app.vsn)
+pub same_name : (l k : Library) → is_like l k ≡ true → (k.app.name ≡ l.app.name) × (k.app.vsn ≡ l.app.vsn)
 same_name l k is =
     let parts = both (bytes_eq k.app.name l.app.name) (bytes_eq k.app.vsn l.app.vsn) is in
     (same_version k.app.name l.app.name parts.0, same_version k.app.vsn l.app.vsn parts.1)

@@ -4,19 +4,20 @@ use Rattle.std.specs.declared.alloc.Global.{Global}
 use Rattle.std.specs.declared.hash.BuildHasherDefault.{BuildHasherDefault}
 use Rattle.std.specs.declared.hash.FoldHasher.{FoldHasher}
 use Rattle.std.specs.Map.{lookup, values_of, remove_entry}
-use Rattle.std.specs.Option.{option_and_then, option_map}
+use Rattle.std.specs.Option.{option_and_then, option_map, option_map_or}
 use Rattle.std.specs.Str.{bytes_eq}
 use Rattle.std.specs.String.{string_eq}
 use Rattle.std.proofs.lemmas.List.{map_push}
 use Rattle.std.proofs.lemmas.Map.Text.{hash_map_text_same}
 use Rattle.indexmap.specs.IndexMap.{IndexMap, insert_entry, set_value_at}
 use Rattle.indexmap.proofs.CallerLemmas.{insert_entry-new}
+use Rattle.library.specs.InMemory.{shared_of}
 use Rattle.rel_files.specs.Release.{Release, release_of}
 use Rattle.relup_file.specs.Relup.{relup_of}
 use Rattle.rel_list.specs.declared.listed.ListedRelease.{ListedRelease}
 use Rattle.rel_list.specs.declared.status.Status.{Status}
 use Rattle.rel_list.specs.declared.change.StatusChange.{StatusChange}
-use Rattle.rel_list.specs.Releases.{Entry, status_of, release_at, relup_at}
+use Rattle.rel_list.specs.Releases.{Entry, status_of, release_at, relup_at, libraries_at}
 use Rattle.rel_list.specs.Event.{with_statuses, without}
 use Rattle.rel_list.specs.Change.{status_after, changed}
 use Rattle.rel_list.specs.Keyed.{entry_of, entries_in, AreKeyed}
@@ -65,6 +66,17 @@ relup_at-entries_in vsn ps keyed =
   where
     twice : (o : Option ListedRelease)
         → option_and_then (λ (e : Entry). e.relup) (option_map entry_of o) ≡ option_and_then (λ (l : ListedRelease). option_map relup_of l.relup) o
+    twice None = refl
+    twice (Some l) = refl
+
+-- and so are its libraries
+pub libraries_at-entries_in : (vsn : List ℕ) (ps : List (String Global × ListedRelease)) → AreKeyed ps
+    → libraries_at vsn (entries_in ps) ≡ option_map_or (λ (l : ListedRelease). map shared_of l.libraries.items) (lookup (λ k. bytes_eq vsn (string_bytes k)) ps) []
+libraries_at-entries_in vsn ps keyed =
+    ap (λ o. option_map_or (λ (e : Entry). e.libraries) o []) (find-entries_in vsn ps keyed) ∙ twice (lookup (λ k. bytes_eq vsn (string_bytes k)) ps)
+  where
+    twice : (o : Option ListedRelease)
+        → option_map_or (λ (e : Entry). e.libraries) (option_map entry_of o) [] ≡ option_map_or (λ (l : ListedRelease). map shared_of l.libraries.items) o []
     twice None = refl
     twice (Some l) = refl
 

@@ -1,5 +1,5 @@
 -- Which events lead to a list with a one-shot, and what records tell of it.
-use Rattle.std.proofs.Common.{◌≡◌, ℕ, Bool, true, false, List, [], ◌∷◌, ◌++◌, Some, refl, sym, ◌∙◌, subst, true≢false, if◌then◌else◌}
+use Rattle.std.proofs.Common.{◌≡◌, ℕ, Bool, true, false, List, [], ◌∷◌, ◌++◌, Some, refl, ◌∙◌, subst, true≢false, if◌then◌else◌}
 use Rattle.std.specs.Str.{bytes_eq}
 use Rattle.rel_list.specs.declared.status.Status.{Status}
 use Rattle.rel_list.specs.declared.status.Status.TheVariants.{Unpacked, Current, Old, Permanent, OneShot}
@@ -117,12 +117,6 @@ one_shot-recorded Current = refl
 one_shot-recorded Old = refl
 one_shot-recorded Permanent = refl
 one_shot-recorded OneShot = refl
-
-pub none_of_recorded : (es : Releases) → has_one_shot (recorded es) ≡ false → has_one_shot es ≡ false
-none_of_recorded [] none = refl
-none_of_recorded (e ∷ es) none =
-    let apart = first_is_none (record e { status = recorded_status e.status }) (recorded es) none in
-    rw (sym (one_shot-recorded e.status) ∙ apart.0) (none_of_recorded es apart.1)
 
 pub none_recorded : (es : Releases) → has_one_shot es ≡ false → has_one_shot (recorded es) ≡ false
 none_recorded es none = none_more (λ vsn s. recorded_status s) (λ vsn s is. one_shot-recorded s ∙ is) es none

@@ -294,7 +294,7 @@ recorded_one_shot Old same is = absurd (true≢false (sym is))
 recorded_one_shot Permanent same is = absurd (true≢false (sym is))
 recorded_one_shot OneShot same is = refl
 
-not_temporary : (s : Status) → is_temporary s ≡ false → is_one_shot s ≡ false
+pub not_temporary : (s : Status) → is_temporary s ≡ false → is_one_shot s ≡ false
 not_temporary Unpacked none = refl
 not_temporary Current none = refl
 not_temporary Old none = refl

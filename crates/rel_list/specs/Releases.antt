@@ -1,7 +1,7 @@
 -- The releases of a node, each with its status, in order of coming (OTP: release_handler(3)).
 use Rattle.std.specs.Prelude.{◌≡◌, ℕ, Bool, not, List, [], ◌∷◌, map, Option, None, find, filter, is_some}
 use Rattle.std.specs.List.{flat_map}
-use Rattle.std.specs.Option.{option_and_then, option_map, option_or, unwrap_or}
+use Rattle.std.specs.Option.{option_and_then, option_map, option_map_or, option_or, unwrap_or}
 use Rattle.std.specs.Str.{bytes_eq}
 use Rattle.library.specs.Library.{Library, agrees, is_at, library_at}
 use Rattle.rel_files.specs.Release.{Release}
@@ -43,6 +43,10 @@ release_at vsn es = option_map (λ (e : Entry). e.release) (find (λ e. bytes_eq
 -- the relup of the release of this version
 abbrev pub relup_at : List ℕ → Releases → Option RelupForm
 relup_at vsn es = option_and_then (λ (e : Entry). e.relup) (find (λ e. bytes_eq vsn e.release.vsn) es)
+
+-- the libraries of the release of this version
+abbrev pub libraries_at : List ℕ → Releases → List Library
+libraries_at vsn es = option_map_or (λ (e : Entry). e.libraries) (find (λ e. bytes_eq vsn e.release.vsn) es) []
 
 -- the releases whose status passes a test
 abbrev pub of_status : (Status → Bool) → Releases → Releases

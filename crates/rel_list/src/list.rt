@@ -8,10 +8,12 @@ ghost use Rattle.rel_list.specs.Keyed.{entry_of};
 use crate::change::StatusChange;
 use crate::{Bundle, Event, ListError, ListedRelease, Status};
 use indexmap::IndexMap;
+use library::Library;
 use rel_files::Rel;
 use relup_file::Relup;
 use std::alloc::Global;
 use std::marker::Model;
+use std::rc::Rc;
 
 /// The releases of a node. A contract sees their entries, in order of coming.
 #[derive(Drop)]
@@ -38,7 +40,7 @@ impl Model for ReleaseList {
 
 impl ReleaseList {
     ghost use Rattle.rel_list.specs.Event.{event_of, own_step, step, boot_changes, with_statuses, list_assigned, without};
-    ghost use Rattle.rel_list.specs.Releases.{entry, permanent, current, one_shot, running, status_of, release_at, relup_at, has_current, HasDistinctVersions};
+    ghost use Rattle.rel_list.specs.Releases.{entry, permanent, current, one_shot, running, status_of, release_at, relup_at, libraries_at, has_current, HasDistinctVersions};
     ghost use Rattle.rel_list.specs.Refusal.{brings_release, own_refusal, IsRefusedWith};
     ghost use Rattle.rel_list.specs.declared.fault.ListError.TheVariants.{NoMemory};
     ghost use Rattle.rel_list.specs.Change.{status_after, may_be_given, MayBeMade};
@@ -46,6 +48,7 @@ impl ReleaseList {
     ghost use Rattle.rel_list.specs.Keyed.{bundle_of};
     ghost use Rattle.rel_files.specs.Release.{release_of};
     ghost use Rattle.relup_file.specs.Relup.{relup_of};
+    ghost use Rattle.library.specs.InMemory.{shared_of};
 
     /// A list without releases.
     pub fn new(alloc: Global) -> ReleaseList
@@ -199,6 +202,16 @@ impl ReleaseList {
         match self.releases.get(vsn) {
             Some(listed) => listed.relup.as_ref(),
             None => None,
+        }
+    }
+
+    /// The libraries of the release of this version, in the order of its applications; none where it isn't listed.
+    pub fn libraries(&self, vsn: &str) -> &[Rc<Library>]
+        ensures { map shared_of result.now ≡ libraries_at vsn.now self.now }
+    {
+        match self.releases.get(vsn) {
+            Some(listed) => listed.libraries.as_slice(),
+            None => &[],
         }
     }
 

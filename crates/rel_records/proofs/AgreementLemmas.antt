@@ -8,15 +8,14 @@ use Rattle.std.proofs.lemmas.List.Elements.{Contains-append_left, Contains-appen
 use Rattle.std.proofs.lemmas.Slice.Eq.{bytes_eq-Decides}
 use Rattle.rel_files.specs.Name.{AreDistinct}
 use Rattle.rel_files.specs.Release.{Application, Release}
-use Rattle.rel_files.proofs.Options.{both_true}
+use Rattle.rel_files.proofs.Options.{both_true, passed, both}
 use Rattle.relup_file.specs.Relup.{RelupForm}
 use Rattle.library.specs.Library.{Library, AreLibrariesOf, IsLibrary, is_at}
-use Rattle.rel_list.specs.declared.status.Status.{Status}
 use Rattle.rel_list.specs.declared.status.Status.TheVariants.{Unpacked, Permanent}
 use Rattle.rel_list.specs.Releases.{Bundle, Releases, Entry, differs, entry, first_different, libraries_named, library_in, status_of}
-use Rattle.rel_list.specs.Event.{list_assigned, may_be_removed, step, with_statuses, without}
+use Rattle.rel_list.specs.Event.{list_assigned, may_be_removed, step, without}
 use Rattle.rel_list.specs.Event.Event.{made, removed, unpacked}
-use Rattle.rel_list.proofs.LibraryLaws.{is_like, libraries-push, none_differs, own_library}
+use Rattle.rel_list.proofs.LibraryLaws.{is_like, libraries-push, none_differs, own_library, libraries-with_statuses, same_name}
 use Rattle.rel_list.proofs.OwnRules.{never_made_again, own_of_step}
 use Rattle.rel_records.specs.Limits.{is_small, most_releases}
 use Rattle.rel_records.specs.Lists.{HaveLibraries, Makes, added_by, assign_all, brought_by, made_by, may_be_assigned}
@@ -26,7 +25,7 @@ use Rattle.rel_records.proofs.CompletionLemmas.{at_names, of_applications}
 use Rattle.rel_records.proofs.EachRelease.{each_first, each_further, each_left, each_set}
 use Rattle.rel_records.proofs.EventRecords.{unbarred}
 use Rattle.rel_records.proofs.MadeLemmas.{AreSaid, kept_made}
-use Rattle.rel_records.proofs.RecordPlaces.{both, chosen, event_of_record, pushed_last}
+use Rattle.rel_records.proofs.RecordPlaces.{event_of_record, pushed_last}
 use Rattle.rel_records.proofs.StartableLemmas.{brought_startable, startable_libraries, still_startable}
 
 -- it is one of them
@@ -77,15 +76,9 @@ some_found test (k ∷ ls) l here passes none = go (test k) refl here (λ later.
 abbrev pub Agree : List Library → Type 0
 Agree ls = (l k : Library) → IsOneOf l ls → IsOneOf k ls → is_like l k ≡ true → k ≡ l
 
--- the names and the versions are the same then
-pub like_names : (l k : Library) → is_like l k ≡ true → (k.app.name ≡ l.app.name) × (k.app.vsn ≡ l.app.vsn)
-like_names l k like =
-    let (name, vsn) = both (bytes_eq k.app.name l.app.name) (bytes_eq k.app.vsn l.app.vsn) like in
-    ((bytes_eq-Decides k.app.name l.app.name).0 name, (bytes_eq-Decides k.app.vsn l.app.vsn).0 vsn)
-
 pub like_back : (l k : Library) → is_like l k ≡ true → is_like k l ≡ true
 like_back l k like =
-    let (name, vsn) = like_names l k like in
+    let (name, vsn) = same_name l k like in
     both_true (bytes_eq l.app.name k.app.name) (bytes_eq l.app.vsn k.app.vsn) ((bytes_eq-Decides l.app.name k.app.name).1 (sym name)) ((bytes_eq-Decides l.app.vsn k.app.vsn).1 (sym vsn))
 
 -- the names of applications
@@ -110,7 +103,7 @@ named_there (a ∷ apps) (k ∷ ls) l are (inr later) = contains_later a.name l.
 pub unlike : (a : Application) (apps : List Application) (m : Library) (ls : List Library) (k : Library) → AreDistinct (names_of (a ∷ apps)) → AreLibrariesOf (a ∷ apps) (m ∷ ls) → IsOneOf k ls
     → is_like m k ≡ true → ⊥
 unlike a apps m ls k distinct are there like =
-    distinct.0 (subst (Contains (names_of apps)) ((like_names m k like).0 ∙ (at_names a m are.1).0) (named_there apps ls k are.2 there))
+    distinct.0 (subst (Contains (names_of apps)) ((same_name m k like).0 ∙ (at_names a m are.1).0) (named_there apps ls k are.2 there))
 
 -- the libraries of distinct applications agree
 agree_within : (apps : List Application) (ls : List Library) → AreDistinct (names_of apps) → AreLibrariesOf apps ls → (l k : Library) → IsOneOf l ls → IsOneOf k ls → is_like l k ≡ true → k ≡ l
@@ -147,15 +140,10 @@ agree-brought es ls have all old own none l k here there like = by (one-either l
     by (inl a) (inr b) = sym (meets es have old l k a (holds_of_one IsLibrary ls k all b) (each_agrees es ls k none b) (like_back l k like))
     by (inr a) (inl b) = meets es have old k l b (holds_of_one IsLibrary ls l all a) (each_agrees es ls l none a) like
 
--- other statuses leave the libraries
-pub libraries-with_statuses : (f : List ℕ → Status → Status) (es : Releases) → libraries_named (with_statuses f es) ≡ libraries_named es
-libraries-with_statuses f [] = refl
-libraries-with_statuses f (e ∷ es) = ap (λ (ls : List Library). e.libraries ++ ls) (libraries-with_statuses f es)
-
 libraries-assign_all : (given : List Assignment) (es next : Releases) → assign_all given es ≡ Some next → libraries_named next ≡ libraries_named es
 libraries-assign_all [] es next is = let same : es ≡ next = cc is in ap libraries_named (sym same)
 libraries-assign_all (a ∷ given) es next is =
-    let (may, rest) = chosen (may_be_assigned a es) (assign_all given (list_assigned a.vsn a.status es)) next is in
+    let (may, rest) = passed (may_be_assigned a es) (assign_all given (list_assigned a.vsn a.status es)) next is in
     libraries-assign_all given (list_assigned a.vsn a.status es) next rest ∙ libraries-with_statuses _ es
 
 one-without : (v : List ℕ) (es : Releases) (l : Library) → IsOneOf l (libraries_named (without v es)) → IsOneOf l (libraries_named es)
@@ -193,7 +181,7 @@ first_agrees r ls o es next said all e holds =
 further_agrees : (r : Release) (ls : List Library) (o : Option RelupForm) (es next : Releases) → AreSaid r o → AllByRecursion IsLibrary ls → added_by r ls o es ≡ Some next → Agreeing es → Agreeing next
 further_agrees r ls o es next said all e holds =
     let allowed = is_small r && nat_lt (length es) most_releases in
-    let (may, rest) = chosen allowed (option_and_then (λ (p : Bundle). step (unpacked p) es) (brought_by es r ls o)) next e in
+    let (may, rest) = passed allowed (option_and_then (λ (p : Bundle). step (unpacked p) es) (brought_by es r ls o)) next e in
     let (p, of, is) = event_of_record unpacked allowed r ls o es next e in
     let comes : IsStartable (entry p Unpacked) = brought_startable es r ls o p Unpacked holds.0 (both (is_small r) (nat_lt (length es) most_releases) may).0 said all of in
     let brought : AllByRecursion IsLibrary p.libraries = of_applications p.release.apps p.libraries comes.complete.libraries in
@@ -209,7 +197,7 @@ statuses_agree given es next is holds =
 
 left_agrees : (v : List ℕ) (es next : Releases) → step (removed v) es ≡ Some next → Agreeing es → Agreeing next
 left_agrees v es next is holds =
-    let (may, gone) = chosen (may_be_removed (status_of v es)) (Some (without v es)) next (own_of_step (removed v) es next is).1 in
+    let (may, gone) = passed (may_be_removed (status_of v es)) (Some (without v es)) next (own_of_step (removed v) es next is).1 in
     let same : without v es ≡ next = cc gone in
     (each_left IsStartable v es next is holds.0, subst (λ (l : Releases). Agree (libraries_named l)) same (λ l k a b. holds.1 l k (one-without v es l a) (one-without v es k b)))
 

@@ -16,9 +16,10 @@ use Rattle.library.specs.Library.{Library}
 use Rattle.library.specs.Reading.{AreOfLibraries}
 use Rattle.library.proofs.TermCases.{libraries_once}
 use Rattle.library.proofs.TermRows.{says_one_row}
+use Rattle.rel_files.specs.Terms.{triple_term}
 use Rattle.rel_list.specs.declared.status.Status.{Status}
 use Rattle.rel_records.specs.Parts.{lists_in}
-use Rattle.rel_records.specs.Record.{Imaged, Record, makes, adds, assigns, removes, images, release_term, row_term, image_term}
+use Rattle.rel_records.specs.Record.{Imaged, Record, makes, adds, assigns, removes, images, release_term, image_term}
 use Rattle.rel_records.specs.Reading.{change_in, status_in, AreImaged, Brings, Says, SaysImage, SaysImaged, Spells, StandsForRelup}
 
 -- a text has one term at most
@@ -104,7 +105,7 @@ brings_apart v r s ls ks o p b c =
     differ (one_word same)
 
 -- A row of an image says one release.
-module _ {rel again : Value} {status other : Value} {last end : Value} (same : row_term rel status last ≡ row_term again other end) where
+module _ {rel again : Value} {status other : Value} {last end : Value} (same : triple_term rel status last ≡ triple_term again other end) where
   pub same_rel : rel ≡ again
   same_rel = ap first same
     where
@@ -127,7 +128,7 @@ one_status o s t p q = cc
 
 one_imaged : (v : Value) (x y : Imaged) → SaysImaged v x → SaysImaged v y → x ≡ y
 one_imaged v x y a b =
-    let same : row_term a.rel a.status a.last ≡ row_term b.rel b.status b.last = sym a.is ∙ b.is in
+    let same : triple_term a.rel a.status a.last ≡ triple_term b.rel b.status b.last = sym a.is ∙ b.is in
     let release = one_release b.rel x.release y.release (subst (λ t. IsReleaseTerm t x.release) (same_rel same) a.release) b.release in
     let status = one_status (status_in b.status) x.status y.status (ap status_in (sym (same_status same)) ∙ a.has_status) b.has_status in
     let relup = stands_once b.last x.relup y.relup (subst (λ t. StandsForRelup t x.relup) (same_last same) a.relup) b.relup in

@@ -8,7 +8,7 @@ use Rattle.std.proofs.lemmas.Slice.Eq.{bytes_eq-Decides}
 use Rattle.std.proofs.lemmas.List.{append-nil, drop_all, drop_more}
 use Rattle.rel_files.specs.Release.{Application, Release, application_of}
 use Rattle.rel_files.specs.declared.release.RelApp.{RelApp}
-use Rattle.rel_files.proofs.Options.{both, chained, mapped}
+use Rattle.rel_files.proofs.Options.{both, chained, mapped, passed}
 use Rattle.library.specs.Library.{Library, AreLibrariesOf, IsLibrary, agrees, is_at, library_at}
 use Rattle.relup_file.specs.Relup.{RelupForm}
 use Rattle.rel_list.specs.Releases.{Bundle, Releases, first_different, libraries_named, library_in}
@@ -16,7 +16,7 @@ use Rattle.rel_list.specs.Event.{recorded}
 use Rattle.rel_list.proofs.LibraryLaws.{all_found, libraries-recorded, none_differs, own_library}
 use Rattle.rel_records.specs.Lists.{own_or_next, next_library, completed, HaveLibraries}
 use Rattle.rel_records.specs.Writing.{new_libraries, IsComplete}
-use Rattle.rel_records.proofs.RecordPlaces.{IsOfRecord, chosen}
+use Rattle.rel_records.proofs.RecordPlaces.{IsOfRecord}
 
 -- A list has the same libraries as records tell it.
 library_in-recorded : (es : Releases) (name vsn : List ℕ) → library_in (recorded es) name vsn ≡ library_in es name vsn
@@ -156,7 +156,7 @@ are_completed es have (a ∷ apps) ls ks all e =
         (ap (λ o. cond (not (is_some o)) (own ∷ new_libraries es ms) (new_libraries es ms)) (sym (looked_up es a own at) ∙ is) ∙ later.new))
     by n ms found more None is [] all e = absurd cc
     by n ms found more None is (l ∷ ls) all e =
-        let (at, taken) = chosen (is_at a.name a.vsn l) (Some (l, ls)) n e in
+        let (at, taken) = passed (is_at a.name a.vsn l) (Some (l, ls)) n e in
         let same : (l, ls) ≡ n = cc taken in
         let later = more ls all.1 (subst (λ (m : Library × List Library). completed es apps m.1 ≡ Some ms) (sym same) found) in
         subst (λ (m : Library × List Library). AreCompleted es (a ∷ apps) (l ∷ ls) (m.0 ∷ ms)) same

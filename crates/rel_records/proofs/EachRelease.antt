@@ -7,6 +7,7 @@ use Rattle.std.specs.Str.{bytes_eq}
 use Rattle.rel_files.specs.Release.{Release}
 use Rattle.relup_file.specs.Relup.{RelupForm}
 use Rattle.library.specs.Library.{Library, IsLibrary}
+use Rattle.rel_files.proofs.Options.{passed, both}
 use Rattle.rel_list.specs.declared.status.Status.{Status}
 use Rattle.rel_list.specs.declared.status.Status.TheVariants.{Unpacked, Permanent}
 use Rattle.rel_list.specs.Releases.{Bundle, Releases, Entry, entry, status_of}
@@ -17,7 +18,7 @@ use Rattle.rel_records.specs.Limits.{is_small, most_releases}
 use Rattle.rel_records.specs.Lists.{may_be_assigned, added_by, assign_all, brought_by, made_by, Makes}
 use Rattle.rel_records.specs.Record.{Assignment}
 use Rattle.rel_records.proofs.MadeLemmas.{AreSaid, kept_made}
-use Rattle.rel_records.proofs.RecordPlaces.{IsOfRecord, both, chosen, event_of_record, pushed_last}
+use Rattle.rel_records.proofs.RecordPlaces.{IsOfRecord, event_of_record, pushed_last}
 
 module _ (P : Entry → Type 0) where
   -- what holds of each holds of the one that is found
@@ -39,7 +40,7 @@ module _ (P : Entry → Type 0) where
 
   pub each_left : (v : List ℕ) (es next : Releases) → step (removed v) es ≡ Some next → AllByRecursion P es → AllByRecursion P next
   each_left v es next e all =
-      let (may, is) = chosen (may_be_removed (status_of v es)) (Some (without v es)) next (own_of_step (removed v) es next e).1 in
+      let (may, is) = passed (may_be_removed (status_of v es)) (Some (without v es)) next (own_of_step (removed v) es next e).1 in
       let gone : without v es ≡ next = cc is in subst (AllByRecursion P) gone (each-without v es all)
 
   each-push : (es : Releases) (e : Entry) → AllByRecursion P es → P e → AllByRecursion P (es ++ e ∷ [])
@@ -52,10 +53,6 @@ module _ (P : Entry → Type 0) where
 
   -- It holds whatever the status is.
   module _ (still : (e : Entry) (s : Status) → P e → P (record e { status = s })) where
-    pub each-recorded : (es : Releases) → AllByRecursion P es → AllByRecursion P (recorded es)
-    each-recorded [] all = tt
-    each-recorded (e ∷ es) all = (still e (recorded_status e.status) all.0, each-recorded es all.1)
-
     -- it held of the list that records tell so
     pub each-of_recorded : (es : Releases) → AllByRecursion P (recorded es) → AllByRecursion P es
     each-of_recorded [] all = tt
@@ -68,7 +65,7 @@ module _ (P : Entry → Type 0) where
     each-assign_all : (given : List Assignment) (es next : Releases) → AllByRecursion P es → assign_all given es ≡ Some next → AllByRecursion P next
     each-assign_all [] es next all is = let same : es ≡ next = cc is in subst (AllByRecursion P) same all
     each-assign_all (a ∷ given) es next all is =
-        let (may, rest) = chosen (may_be_assigned a es) (assign_all given (list_assigned a.vsn a.status es)) next is in
+        let (may, rest) = passed (may_be_assigned a es) (assign_all given (list_assigned a.vsn a.status es)) next is in
         each-assign_all given (list_assigned a.vsn a.status es) next (each-assigned a.vsn a.status es all) rest
 
     pub each_set : (given : List Assignment) (es next : Releases) → assign_all given es ≡ Some next → AllByRecursion P es → AllByRecursion P next
@@ -80,7 +77,7 @@ module _ (P : Entry → Type 0) where
       pub each_first : (r : Release) (ls : List Library) (o : Option RelupForm) (es next : Releases) → AreSaid r o → AllByRecursion IsLibrary ls → made_by r ls o es ≡ Some next
           → AllByRecursion P es → AllByRecursion P next
       each_first r ls o es next said libraries e all =
-          let (small, rest) = chosen (is_small r) (option_and_then (λ (p : Bundle). step (made p) es) (brought_by es r ls o)) next e in
+          let (small, rest) = passed (is_small r) (option_and_then (λ (p : Bundle). step (made p) es) (brought_by es r ls o)) next e in
           let (p, of, is) = event_of_record made (is_small r) r ls o es next e in
           each_one p es next is (brings es r ls o p Permanent all small said libraries of)
 
@@ -88,7 +85,7 @@ module _ (P : Entry → Type 0) where
           → AllByRecursion P es → AllByRecursion P next
       each_further r ls o es next said libraries e all =
           let allowed = is_small r && nat_lt (length es) most_releases in
-          let (may, rest) = chosen allowed (option_and_then (λ (p : Bundle). step (unpacked p) es) (brought_by es r ls o)) next e in
+          let (may, rest) = passed allowed (option_and_then (λ (p : Bundle). step (unpacked p) es) (brought_by es r ls o)) next e in
           let small = (both (is_small r) (nat_lt (length es) most_releases) may).0 in
           let (p, of, is) = event_of_record unpacked allowed r ls o es next e in
           subst (AllByRecursion P) (pushed_last p es next is) (each-push es (entry p Unpacked) all (brings es r ls o p Unpacked all small said libraries of))

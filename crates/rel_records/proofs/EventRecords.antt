@@ -7,7 +7,7 @@ use Rattle.std.specs.Str.{bytes_eq}
 use Rattle.std.proofs.lemmas.Bool.{cases_Bool}
 use Rattle.std.proofs.lemmas.Bool.Decides.{nat_tests}
 use Rattle.erl_term.specs.Value.{Value}
-use Rattle.rel_files.proofs.Options.{both}
+use Rattle.rel_files.proofs.Options.{both, passed}
 use Rattle.library.specs.Library.{Library}
 use Rattle.rel_list.specs.declared.status.Status.{Status}
 use Rattle.rel_list.specs.declared.status.Status.TheVariants.{Unpacked, Current, Old, Permanent, OneShot}
@@ -28,8 +28,9 @@ use Rattle.rel_records.specs.Writing.{is_same, is_changed, assignment_of, change
 use Rattle.rel_records.specs.Laws.{IsOfEvent, IsOfOneRelease, RecordsAreOfEvents, RecordsTellEvents}
 use Rattle.rel_records.specs.Reading.{Says}
 use Rattle.library.proofs.TermCases.{are_libraries}
+use Rattle.rel_list.proofs.RestLaws.{not_temporary}
 use Rattle.rel_records.proofs.CompletionLemmas.{all_new, are_completed, brought_complete, completed_first, completed_new, first_different-recorded}
-use Rattle.rel_records.proofs.RecordPlaces.{assigned_so, event_of_record, chosen, kept, recorded-push, recorded-without, pushed_last}
+use Rattle.rel_records.proofs.RecordPlaces.{assigned_so, event_of_record, kept, recorded-push, recorded-without, pushed_last}
 
 pub one-recorded : (es : Releases) → has_one_permanent (recorded es) ≡ has_one_permanent es
 one-recorded es =
@@ -112,7 +113,7 @@ pub behind_first : (x : Entry) (given : List Assignment) (es end : Releases) →
     → assign_all given es ≡ Some end → assign_all given (x ∷ es) ≡ Some (x ∷ end)
 behind_first x [] es end others apart is = let same : es ≡ end = cc is in ap (λ l. Some (x ∷ l)) same
 behind_first x (a ∷ given) es end others apart is =
-    let (may, rest) = chosen (may_be_assigned a es) (assign_all given (list_assigned a.vsn a.status es)) end is in
+    let (may, rest) = passed (may_be_assigned a es) (assign_all given (list_assigned a.vsn a.status es)) end is in
     let listed : may_be_assigned a (x ∷ es) ≡ true = beside_first a.status x.status apart.0 a.vsn x es refl others.0 may in
     let still : list_assigned a.vsn a.status (x ∷ es) ≡ x ∷ list_assigned a.vsn a.status es = ap (λ b. record x { status = assigned_status a.status b x.status } ∷ list_assigned a.vsn a.status es) others.0 in
     ap (λ b. if b then assign_all given (list_assigned a.vsn a.status (x ∷ es)) else None) listed
@@ -161,13 +162,6 @@ beside_none s (a ∷ given) none = (rw (none, and_false (is_one_shot a.status)) 
 pub none_given : (s : Status) (given : List Assignment) → AllByRecursion (λ (a : Assignment). is_one_shot a.status ≡ false) given → AreApartFrom s given
 none_given s [] all = tt
 none_given s (a ∷ given) all = (rw all.0 refl, none_given s given all.1)
-
-pub not_one_shot : (s : Status) → is_temporary s ≡ false → is_one_shot s ≡ false
-not_one_shot Unpacked none = refl
-not_one_shot Current none = refl
-not_one_shot Old none = refl
-not_one_shot Permanent none = refl
-not_one_shot OneShot none = absurd cc
 
 module _ (e : Event) where
   abbrev behind : Releases → Releases
@@ -284,7 +278,7 @@ module _ (v : List ℕ) where
   behind_its_own s (x ∷ es) none = go (is_changed (restart_installed v) x) (behind_its_own s es (none_behind v x es none))
     where
       never : is_one_shot (recorded_status (after (restart_installed v) x)) ≡ false
-      never = rw (first_differs v x es none) (not_one_shot _ (replaced_so x.status))
+      never = rw (first_differs v x es none) (not_temporary _ (replaced_so x.status))
 
       go : (b : Bool) → AreApartFrom s (changes (restart_installed v) es)
           → AreApartFrom s (map (assignment_of (restart_installed v)) (cond b (x ∷ filter (is_changed (restart_installed v)) es) (filter (is_changed (restart_installed v)) es)))
@@ -358,7 +352,7 @@ comes_first p next fits is =
 leaves : (v : List ℕ) (es next : Releases) → step (removed v) es ≡ Some next → step (removed v) (recorded es) ≡ Some (recorded next)
 leaves v es next is =
     let own = own_of_step (removed v) es next is in
-    let (may, left) = chosen (may_be_removed (status_of v es)) (Some (without v es)) next own.1 in
+    let (may, left) = passed (may_be_removed (status_of v es)) (Some (without v es)) next own.1 in
     let same : without v es ≡ next = cc left in
     step_of_own (removed v) (recorded es) (recorded next) (none_recorded es own.0)
     (ap (λ b. if b then Some (without v (recorded es)) else None) (ap may_be_removed (status_of-recorded v es) ∙ still (status_of v es) may)
@@ -382,23 +376,23 @@ change_tells boot es next listed distinct is one =
     subst (λ l. assigned (assigns (changes boot es)) (recorded es) ≡ Some (recorded l)) same
     (assigned_behind boot es distinct (none_becomes_one boot (λ x changed. no_one_shot-booted x.status) es) (ap has_one_permanent same ∙ one))
 change_tells (installed v) es next listed distinct is one =
-    let (may, there) = chosen (may_be_installed (has_current es) (status_of v es)) (Some (list_installed v es)) next (own_of_step (installed v) es next is).1 in
+    let (may, there) = passed (may_be_installed (has_current es) (status_of v es)) (Some (list_installed v es)) next (own_of_step (installed v) es next is).1 in
     let same : list_installed v es ≡ next = cc there in
     subst (λ l. assigned (assigns (changes (installed v) es)) (recorded es) ≡ Some (recorded l)) same
     (assigned_behind (installed v) es distinct (none_becomes_one (installed v) (λ x changed. none-installed (bytes_eq v x.release.vsn) x.status) es) (ap has_one_permanent same ∙ one))
 change_tells (restart_installed v) es next listed distinct is one =
     let own = own_of_step (restart_installed v) es next is in
-    let (may, there) = chosen (may_be_installed (has_current es) (status_of v es)) (Some (list_restarted v es)) next own.1 in
+    let (may, there) = passed (may_be_installed (has_current es) (status_of v es)) (Some (list_restarted v es)) next own.1 in
     let same : list_restarted v es ≡ next = cc there in
     subst (λ l. assigned (assigns (changes (restart_installed v) es)) (recorded es) ≡ Some (recorded l)) same
     (assigned_behind (restart_installed v) es distinct (restarts_apart v es distinct own.0) (ap has_one_permanent same ∙ one))
 change_tells (made_permanent v) es next listed distinct is one =
-    let (may, there) = chosen (may_be_made_permanent (status_of v es)) (Some (list_made_permanent v es)) next (own_of_step (made_permanent v) es next is).1 in
+    let (may, there) = passed (may_be_made_permanent (status_of v es)) (Some (list_made_permanent v es)) next (own_of_step (made_permanent v) es next is).1 in
     let same : list_made_permanent v es ≡ next = cc there in
     subst (λ l. assigned (assigns (changes (made_permanent v) es)) (recorded es) ≡ Some (recorded l)) same
     (assigned_behind (made_permanent v) es distinct (none_becomes_one (made_permanent v) (λ x changed. never-permanent (bytes_eq v x.release.vsn) x.status changed) es) (ap has_one_permanent same ∙ one))
 change_tells (reboot_old v) es next listed distinct is one =
-    let (may, there) = chosen (may_be_rebooted (status_of v es)) (Some (list_made_permanent v es)) next (own_of_step (reboot_old v) es next is).1 in
+    let (may, there) = passed (may_be_rebooted (status_of v es)) (Some (list_made_permanent v es)) next (own_of_step (reboot_old v) es next is).1 in
     let same : list_made_permanent v es ≡ next = cc there in
     subst (λ l. assigned (assigns (changes (reboot_old v) es)) (recorded es) ≡ Some (recorded l)) same
     (assigned_behind (reboot_old v) es distinct (none_becomes_one (reboot_old v) (λ x changed. never-permanent (bytes_eq v x.release.vsn) x.status changed) es) (ap has_one_permanent same ∙ one))
@@ -451,14 +445,14 @@ of_event v (makes r ls o) es next have says one taken =
     record {
       event = made p;
       leads = is;
-      fits = (ap is_small (sym of.release) ∙ (chosen (is_small r) (option_and_then (λ (q : Bundle). step (made q) es) (brought_by es r ls o)) next taken).0, brought_complete es r ls o p of done);
+      fits = (ap is_small (sym of.release) ∙ (passed (is_small r) (option_and_then (λ (q : Bundle). step (made q) es) (brought_by es r ls o)) next taken).0, brought_complete es r ls o p of done);
       own = λ k. makes (sym of.release k) ((sym (all_brought p es next is) ∙ done.new) k) (sym of.relup k);
     }
 of_event v (adds r ls o) es next have says one taken =
     let (p, of, is) = event_of_record unpacked (is_small r && nat_lt (length es) most_releases) r ls o es next taken in
     let done = are_completed es have r.apps ls p.libraries (are_libraries says.libs ls says.libraries) of.libraries in
     let (small, few) = both (is_small r) (nat_lt (length es) most_releases)
-    (chosen (is_small r && nat_lt (length es) most_releases) (option_and_then (λ (q : Bundle). step (unpacked q) es) (brought_by es r ls o)) next taken).0 in
+    (passed (is_small r && nat_lt (length es) most_releases) (option_and_then (λ (q : Bundle). step (unpacked q) es) (brought_by es r ls o)) next taken).0 in
     record {
       event = unpacked p;
       leads = is;

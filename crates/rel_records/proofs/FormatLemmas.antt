@@ -4,9 +4,11 @@ use Rattle.std.specs.Str.{bytes_eq}
 use Rattle.std.specs.List.{list_any}
 use Rattle.std.specs.Prelude.{◌==◌, find, is_some, if◌then◌else◌}
 use Rattle.std.specs.Option.{option_map}
+use Rattle.rel_files.proofs.Options.{passed}
+use Rattle.rel_list.proofs.BootLaws.{no_one_shot-booted}
 use Rattle.rel_list.specs.declared.status.Status.{Status}
 use Rattle.rel_list.specs.declared.status.Status.TheVariants.{Unpacked, Current, Old, Permanent, OneShot}
-use Rattle.rel_list.specs.Event.{Event, booted_status, recorded_status, status_behind}
+use Rattle.rel_list.specs.Event.{Event, recorded_status, status_behind}
 use Rattle.rel_list.specs.Event.Event.{made, unpacked, installed, restart_installed, made_permanent, removed, reboot_old, boot}
 use Rattle.rel_list.specs.Laws.{makes_one_shot}
 use Rattle.rel_list.specs.Releases.{Entry, Releases, has_one_shot}
@@ -18,7 +20,6 @@ use Rattle.rel_records.specs.Laws.{ImagesWriteTheirOneShots, MakeItInFormat2, On
 use Rattle.rel_records.specs.Lists.{assigned, assigned_in, MakesFrom}
 use Rattle.rel_records.specs.Record.{Assignment, Record}
 use Rattle.rel_records.specs.Writing.{assignment_of, changes, is_changed, is_same}
-use Rattle.rel_records.proofs.RecordPlaces.{chosen}
 
 -- whether one of those has a property that are made of others
 pub any-map : {A B : Type 0} (p : B → Bool) (f : A → B) (xs : List A) → list_any p (map f xs) ≡ list_any (λ (x : A). p (f x)) xs
@@ -27,7 +28,7 @@ any-map p f (x ∷ xs) = ap (λ b. p (f x) || b) (any-map p f xs)
 
 -- what may stand in a store of a format is allowed there, and may stand
 pub allowed_so : (format : ℕ) (r : Record) (es next : Releases) → assigned_in format r es ≡ Some next → (allows format r ≡ true) × (assigned r es ≡ Some next)
-allowed_so format r es next is = chosen (allows format r) (assigned r es) next is
+allowed_so format r es next is = passed (allows format r) (assigned r es) next is
 
 -- and the other way round
 pub stands_so : (format : ℕ) (r : Record) (es next : Releases) → allows format r ≡ true → assigned r es ≡ Some next → assigned_in format r es ≡ Some next
@@ -49,14 +50,6 @@ from_in_2 format es (body ∷ bodies) end (r, next, spelled, taken, rest) = (r, 
 pub made_in_2 : MakeItInFormat2
 made_in_2 format bodies es makes_it = (from_in_2 format [] bodies es makes_it.0, makes_it.1)
 
--- An event that is no restart makes no release a one-shot that wasn't one.
-none_booted : (s : Status) → is_one_shot (booted_status s) ≡ false
-none_booted Unpacked = refl
-none_booted Current = refl
-none_booted Old = refl
-none_booted Permanent = refl
-none_booted OneShot = refl
-
 none_behind : (e : Event) → makes_one_shot e ≡ false → (vsn : List ℕ) (s : Status) → is_one_shot s ≡ false → is_one_shot (status_behind e vsn s) ≡ false
 none_behind (made p) other vsn s none = none
 none_behind (unpacked p) other vsn s none = none
@@ -65,7 +58,7 @@ none_behind (restart_installed v) other vsn s none = absurd (true≢false other)
 none_behind (made_permanent v) other vsn s none = none-permanent (bytes_eq v vsn) s none
 none_behind (removed v) other vsn s none = none
 none_behind (reboot_old v) other vsn s none = none-permanent (bytes_eq v vsn) s none
-none_behind boot other vsn s none = none_booted s
+none_behind boot other vsn s none = no_one_shot-booted s
 
 -- So it writes that status of none: it writes the statuses alone that it changes.
 none_written : (s t : Status) → (is_one_shot s ≡ false → is_one_shot t ≡ false) → not (is_same t s) ≡ true → is_one_shot (recorded_status t) ≡ false

@@ -2,7 +2,7 @@
 use Rattle.std.proofs.Common.{◌≡◌, ◌⊎◌, ℕ, inl, inr, true, List, [], ◌∷◌, length, map, take, drop, Some, refl, sym, ap, ◌∙◌, subst}
 use Rattle.std.specs.Prelude.{◌&&◌, ◌==◌, nat_lt}
 use Rattle.std.specs.Option.{option_and_then}
-use Rattle.rel_files.proofs.Options.{chained}
+use Rattle.rel_files.proofs.Options.{chained, passed}
 use Rattle.library.specs.Library.{Library}
 use Rattle.rel_list.specs.declared.status.Status.TheVariants.{Current, Old, OneShot, Permanent, Unpacked}
 use Rattle.rel_list.specs.Releases.{Releases, entry}
@@ -14,7 +14,7 @@ use Rattle.rel_records.specs.Limits.{has_one_permanent, is_small, most_releases}
 use Rattle.rel_records.specs.Lists.{all_come_in, assign_all, assigned, comes_in, count_new, may_be_assigned, own_status}
 use Rattle.rel_records.specs.Record.{Assignment, Imaged, adds, images, makes}
 use Rattle.rel_records.proofs.EventRecords.{one-push}
-use Rattle.rel_records.proofs.RecordPlaces.{assigned_so, chosen, event_of_record, pushed_last, settled_behind}
+use Rattle.rel_records.proofs.RecordPlaces.{assigned_so, event_of_record, pushed_last, settled_behind}
 
 -- A release of an image comes in by an event, and leaves one release permanent.
 record ComesBy (es next : Releases) : Type 0 where
@@ -71,7 +71,7 @@ come_by (x ∷ xs) ls es next same orderly e =
 none_set : (given : List Assignment) (next : Releases) → assign_all given [] ≡ Some next → next ≡ []
 none_set [] next e = cc e
 none_set (a ∷ given) next e =
-    let (may, rest) = chosen (may_be_assigned a []) (assign_all given (list_assigned a.vsn a.status [])) next e in
+    let (may, rest) = passed (may_be_assigned a []) (assign_all given (list_assigned a.vsn a.status [])) next e in
     absurd (nobody a.status a.vsn may)
   where
     nobody : (s : Status) (v : List ℕ) → may_be_given s v [] ≡ true → ⊥

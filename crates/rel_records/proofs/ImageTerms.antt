@@ -2,24 +2,19 @@
 use Rattle.std.proofs.Common.{◌≡◌, ◌⊎◌, inl, inr, codes, Option, Some, None, refl, sym, ap, ◌∙◌, subst}
 use Rattle.std.specs.Option.{option_and_then, option_map}
 use Rattle.erl_term.specs.Value.{Value, Values}
-use Rattle.erl_term.specs.Value.Value.{tuple}
-use Rattle.erl_term.specs.Value.Values.{no_values, value}
 use Rattle.rel_files.specs.File.{IsReleaseTerm}
 use Rattle.rel_files.specs.Parts.{is_word, list_in, triple_in}
 use Rattle.rel_files.specs.Release.{Release}
 use Rattle.rel_files.proofs.Options.{chained, mapped, passed}
 use Rattle.relup_file.specs.Relup.{RelupForm}
 use Rattle.library.proofs.TermRows.{RowOrNot, row_or_not}
+use Rattle.rel_files.proofs.TermParts.{from_is_word, from_list, from_triple}
+use Rattle.rel_files.specs.Terms.{triple_term}
 use Rattle.rel_list.specs.declared.status.Status.{Status}
 use Rattle.rel_records.specs.Parts.{lists_in, lists_of}
 use Rattle.rel_records.specs.Reading.{status_in, SaysImaged, StandsForRelup}
-use Rattle.rel_records.specs.Record.{Imaged, image_term, row_term}
-use Rattle.rel_records.proofs.TermLemmas.{SaysOrNot, says_or_not, StandsOrNot, stands_or_not, list_of_members, word_term}
-
-row_members : (v : Value) (t : Value × Value × Value) → triple_in v ≡ Some t → v ≡ row_term t.0 t.1 t.2
-row_members (tuple (value v (value w (value x no_values)))) t e =
-    let same : (v, w, x) ≡ t = cc in ap (λ (q : Value × Value × Value). row_term q.0 q.1 q.2) same
-row_members v t e = absurd cc
+use Rattle.rel_records.specs.Record.{Imaged, image_term}
+use Rattle.rel_records.proofs.TermLemmas.{SaysOrNot, says_or_not, StandsOrNot, stands_or_not}
 
 -- a term that is no row says no release of an image
 pub no_row : (v : Value) → triple_in v ≡ None → (x : Imaged) → SaysImaged v x → ⊥
@@ -47,7 +42,7 @@ module _ (v : Value) (t : Value × Value × Value) (row : triple_in v ≡ Some t
     rel = t.0;
     status = t.1;
     last = t.2;
-    is = row_members v t row;
+    is = from_triple v t row;
     release = release;
     has_status = status;
     relup = relup;
@@ -88,6 +83,6 @@ is_image_term v q e =
     let (word, rest) = passed (is_word (codes "image") t.0) (option_and_then (λ rows. option_map (λ libs. (rows, libs)) (list_in t.2)) (list_in t.1)) q found in
     let (rows, first, more) = chained (λ rows. option_map (λ libs. (rows, libs)) (list_in t.2)) (list_in t.1) q rest in
     let (libs, second, same) = mapped (λ libs. (rows, libs)) (list_in t.2) q more in
-    row_members v t row
-    ∙ (λ k. row_term (word_term (codes "image") t.0 word k) (list_of_members t.1 rows first k) (list_of_members t.2 libs second k))
+    from_triple v t row
+    ∙ (λ k. triple_term (from_is_word (codes "image") t.0 word k) (from_list t.1 rows first k) (from_list t.2 libs second k))
     ∙ ap (λ (p : Values × Values). image_term p.0 p.1) same

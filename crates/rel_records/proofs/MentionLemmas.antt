@@ -9,11 +9,11 @@ use Rattle.rel_files.specs.Release.{Application}
 use Rattle.library.specs.Library.{Library, AreLibrariesOf}
 use Rattle.rel_list.specs.declared.status.Status.TheVariants.{Unpacked}
 use Rattle.rel_list.specs.Releases.{Entry, Releases, each_once, libraries_named, library_in}
-use Rattle.rel_list.proofs.LibraryLaws.{each_once-push, is_among, is_like, libraries-push}
+use Rattle.rel_list.proofs.LibraryLaws.{each_once-push, is_among, is_like, libraries-push, same_name}
 use Rattle.rel_records.specs.Lists.{count_new}
 use Rattle.rel_records.specs.Startable.{AreStartable}
 use Rattle.rel_records.specs.Writing.{new_libraries}
-use Rattle.rel_records.proofs.AgreementLemmas.{IsOneOf, like_back, like_names, names_of, unlike}
+use Rattle.rel_records.proofs.AgreementLemmas.{IsOneOf, like_back, names_of, unlike}
 use Rattle.rel_records.proofs.CompletionLemmas.{looked_up}
 
 -- those that aren't among others yet
@@ -39,7 +39,7 @@ not_like l k m differ same = go (is_like k m) refl
     go : (b : Bool) → is_like k m ≡ b → not b ≡ true
     go false is = refl
     go true is =
-        let (name, vsn) = like_names k m is in
+        let (name, vsn) = same_name k m is in
         let also : is_like l k ≡ true = (λ j. bytes_eq (sym name j) l.app.name && bytes_eq (sym vsn j) l.app.vsn) ∙ same in
         cc (also, differ)
 

@@ -5,6 +5,7 @@ use Rattle.std.specs.List.{AllByRecursion}
 use Rattle.rel_files.specs.Release.{Release}
 use Rattle.relup_file.specs.Relup.{RelupForm}
 use Rattle.library.specs.Library.{Library, IsLibrary}
+use Rattle.rel_files.proofs.Options.{passed}
 use Rattle.rel_list.specs.Keyed.{IsOrderly}
 use Rattle.rel_list.specs.Releases.{Releases}
 use Rattle.rel_list.specs.Event.{list_assigned, step}
@@ -14,7 +15,7 @@ use Rattle.rel_records.specs.Limits.{is_small, most_releases}
 use Rattle.rel_records.specs.Lists.{Makes, added_by, assign_all, made_by, may_be_assigned}
 use Rattle.rel_records.specs.Record.{Assignment}
 use Rattle.rel_records.proofs.MadeLemmas.{AreSaid, kept_made}
-use Rattle.rel_records.proofs.RecordPlaces.{chosen, event_of_record}
+use Rattle.rel_records.proofs.RecordPlaces.{event_of_record}
 
 first_orderly : (r : Release) (ls : List Library) (o : Option RelupForm) (es next : Releases) → AreSaid r o → AllByRecursion IsLibrary ls → made_by r ls o es ≡ Some next → IsOrderly es → IsOrderly next
 first_orderly r ls o es next said all e orderly =
@@ -27,7 +28,7 @@ further_orderly r ls o es next said all e orderly =
 pub statuses_orderly : (given : List Assignment) (es next : Releases) → assign_all given es ≡ Some next → IsOrderly es → IsOrderly next
 statuses_orderly [] es next is orderly = let same : es ≡ next = cc is in subst IsOrderly same orderly
 statuses_orderly (a ∷ given) es next is orderly =
-    let (may, rest) = chosen (may_be_assigned a es) (assign_all given (list_assigned a.vsn a.status es)) next is in
+    let (may, rest) = passed (may_be_assigned a es) (assign_all given (list_assigned a.vsn a.status es)) next is in
     statuses_orderly given (list_assigned a.vsn a.status es) next rest (orderly-assigned a.vsn a.status es may orderly)
 
 left_orderly : (v : List ℕ) (es next : Releases) → step (removed v) es ≡ Some next → IsOrderly es → IsOrderly next

@@ -16,14 +16,13 @@ use Rattle.rel_files.specs.File.{IsReleaseTerm}
 use Rattle.rel_files.specs.Parts.{pair_in, is_word, list_in}
 use Rattle.rel_files.specs.Release.{Release}
 use Rattle.rel_files.specs.Sketch.{version_in}
-use Rattle.rel_files.specs.declared.fault.FileFault.{FileFault}
 use Rattle.rel_files.specs.declared.fault.FileFault.TheVariants as file
 use Rattle.relup_file.specs.Relup.{RelupForm}
 use Rattle.library.specs.Library.{Library}
 use Rattle.library.specs.Reading.{AreOfLibraries, SaysLibrary}
 use Rattle.library.proofs.TermRows.{RowOrNot}
 use Rattle.library.proofs.TermCases.{libraries_or_not}
-use Rattle.rel_records.specs.Parts.{ReleaseParts, lists_in, parts_in, parts_term, record_read, fault_of_text, fault_of_release}
+use Rattle.rel_records.specs.Parts.{ReleaseParts, lists_in, parts_in, parts_term, record_read, fault_of_text}
 use Rattle.rel_records.specs.declared.reading.Record.{Record as RecordInMemory}
 use Rattle.rel_records.specs.Record.{Assignment, Imaged, Record, makes, adds, assigns, removes, images, image_term}
 use Rattle.rel_records.specs.Reading.{change_of, change_in, assignments_of, AreImaged, Brings, Says, SaysImage, SaysImaged, Spells, StandsForRelup}
@@ -227,9 +226,6 @@ no_term body never r s = never s.term s.text
 not_text : (f : TermFault) → fault_of_text f ≡ Bad → f ≡ term.NoMemory → ⊥
 not_text f bad is = cc (bad, ap fault_of_text is)
 
-not_release : (f : FileFault) → fault_of_release f ≡ Bad → f ≡ file.NoMemory → ⊥
-not_release f bad is = cc (bad, ap fault_of_release is)
-
 -- a fault that is told as a bad record
 pub told_bad : {T : Type 0} (r : Result T RecordFault) (f : RecordFault) → IsErr r × IsErrAnd r (λ e. e ≡ f) → IsErrOf r Bad → f ≡ Bad
 told_bad (Ok x) f told bad = absurd told.1
@@ -239,11 +235,6 @@ told_bad (Err e) f told bad = sym told.1 ∙ cc bad
 pub no_text : {T : Type 0} (body : List ℕ) (f : TermFault) (told : Result T RecordFault) → ((v : Value) → HasTerm 72 body v → f ≡ term.NoMemory) → IsErr told × IsErrAnd told (λ e. e ≡ fault_of_text f)
     → IsErrOf told Bad → (r : Record) → Spells body r → ⊥
 no_text body f told only is bad = no_term body (λ v has. not_text f (told_bad told (fault_of_text f) is bad) (only v has))
-
--- and one of the release that of a term without one
-pub no_rel : {T : Type 0} (rel : Value) (f : FileFault) (told : Result T RecordFault) → ((x : Release) → IsReleaseTerm rel x → f ≡ file.NoMemory) → IsErr told × IsErrAnd told (λ e. e ≡ fault_of_release f)
-    → IsErrOf told Bad → (x : Release) → IsReleaseTerm rel x → ⊥
-no_rel rel f told only is bad x says = not_release f (told_bad told (fault_of_release f) is bad) (only x says)
 
 module _ (body : List ℕ) (v : Value) (has : HasTerm 72 body v) where
   -- a body whose term says a record spells it

@@ -5,7 +5,7 @@ use Rattle.std.specs.List.{AllByRecursion}
 use Rattle.std.specs.Option.{option_and_then}
 use Rattle.std.specs.Str.{bytes_eq}
 use Rattle.rel_files.specs.Release.{Release}
-use Rattle.rel_files.proofs.Options.{chained}
+use Rattle.rel_files.proofs.Options.{chained, passed}
 use Rattle.library.specs.Library.{Library}
 use Rattle.relup_file.specs.Relup.{RelupForm}
 use Rattle.rel_check.specs.declared.relup.RelupMismatch.{RelupMismatch}
@@ -23,11 +23,6 @@ use Rattle.rel_records.specs.Lists.{may_be_assigned, added_by, assign_all, broug
 use Rattle.rel_list.proofs.OwnRules.{never_made_again, own_of_step}
 use Rattle.rel_records.proofs.InvariantLemmas.{IsOf, kept_behind}
 
--- a choice that gives a value
-pub chosen : {A : Type 0} (b : Bool) (o : Option A) (x : A) → (if b then o else None) ≡ Some x → (b ≡ true) × (o ≡ Some x)
-chosen true o x e = (refl, e)
-chosen false o x e = absurd cc
-
 -- behind each record exactly one release is permanent
 pub assigned_so : (r : Record) (es next : Releases) → assigned r es ≡ Some next → (taken_by r es ≡ Some next) × (has_one_permanent next ≡ true)
 assigned_so r es next e = go (taken_by r es) e
@@ -42,7 +37,7 @@ assigned_so r es next e = go (taken_by r es) e
 
 -- so it is in a store of each format
 pub taken_so : (format : ℕ) (r : Record) (es next : Releases) → assigned_in format r es ≡ Some next → taken_by r es ≡ Some next
-taken_so format r es next e = (assigned_so r es next (chosen (allows format r) (assigned r es) next e).1).0
+taken_so format r es next e = (assigned_so r es next (passed (allows format r) (assigned r es) next e).1).0
 
 pub one_behind : (r : Record) (es next : Releases) → assigned r es ≡ Some next → has_one_permanent next ≡ true
 one_behind r es next e = (assigned_so r es next e).1
@@ -58,11 +53,6 @@ as_given Current v es may = absurd cc
 as_given Old v es may = refl
 as_given Permanent v es may = refl
 as_given OneShot v es may = refl
-
-pub both : (a b : Bool) → (a && b) ≡ true → (a ≡ true) × (b ≡ true)
-both true true e = (refl, refl)
-both true false e = absurd cc
-both false b e = absurd cc
 
 -- no assignment of such a status makes a release current
 recorded-assigned : (t : Status) → recorded_status t ≡ t → (b : Bool) (s : Status) → recorded_status s ≡ s → recorded_status (assigned_status t b s) ≡ assigned_status t b s
@@ -91,7 +81,7 @@ recorded-list_assigned v t (e ∷ es) new is =
 recorded-assign_all : (given : List Assignment) (es next : Releases) → assign_all given es ≡ Some next → recorded es ≡ es → recorded next ≡ next
 recorded-assign_all [] es next e is = let same : es ≡ next = cc e in subst (λ l. recorded l ≡ l) same is
 recorded-assign_all (a ∷ given) es next e is =
-    let (may, rest) = chosen (may_be_assigned a es) (assign_all given (list_assigned a.vsn a.status es)) next e in
+    let (may, rest) = passed (may_be_assigned a es) (assign_all given (list_assigned a.vsn a.status es)) next e in
     recorded-assign_all given (list_assigned a.vsn a.status es) next rest (recorded-list_assigned a.vsn a.status es (as_given a.status a.vsn es may) is)
 
 pub recorded-push : (es : Releases) (e : Entry) → recorded (es ++ e ∷ []) ≡ recorded es ++ record e { status = recorded_status e.status } ∷ []
@@ -135,7 +125,7 @@ of_record es r ls o p e =
 pub event_of_record : (event : Bundle → Event) (b : Bool) (r : Release) (ls : List Library) (o : Option RelupForm) (es next : Releases)
     → (if b then option_and_then (λ (p : Bundle). step (event p) es) (brought_by es r ls o) else None) ≡ Some next → (p : Bundle) × IsOfRecord es r ls o p × (step (event p) es ≡ Some next)
 event_of_record event b r ls o es next e =
-    let (kept_limits, stepped) = chosen b (option_and_then (λ (p : Bundle). step (event p) es) (brought_by es r ls o)) next e in
+    let (kept_limits, stepped) = passed b (option_and_then (λ (p : Bundle). step (event p) es) (brought_by es r ls o)) next e in
     let (p, brought, is) = chained (λ (p : Bundle). step (event p) es) (brought_by es r ls o) next stepped in
     (p, of_record es r ls o p brought, is)
 
@@ -178,7 +168,7 @@ settled_behind r es next e same =
 
     left : (w : List ℕ) (es next : Releases) → step (removed w) es ≡ Some next → recorded es ≡ es → recorded next ≡ next
     left w es next e same =
-        let (may, is) = chosen (may_be_removed (status_of w es)) (Some (without w es)) next (own_of_step (removed w) es next e).1 in
+        let (may, is) = passed (may_be_removed (status_of w es)) (Some (without w es)) next (own_of_step (removed w) es next e).1 in
         let gone : without w es ≡ next = cc is in
         subst (λ l. recorded l ≡ l) gone (recorded-without w es ∙ ap (without w) same)
 

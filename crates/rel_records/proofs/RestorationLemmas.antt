@@ -19,6 +19,7 @@ use Rattle.rel_list.proofs.OneShotLaws.{none-push}
 use Rattle.rel_list.proofs.LibraryLaws.{all-append, is_like, libraries-push}
 use Rattle.rel_list.proofs.Orderly.{differs_back, first_differs, is_itself, none_behind, unlisted-with_statuses}
 use Rattle.rel_list.proofs.Orderly.{none_at_all as unlisted-cons}
+use Rattle.rel_list.proofs.RestLaws.{not_temporary}
 use Rattle.rel_records.specs.Image.{imaged}
 use Rattle.rel_records.specs.Limits.{is_small}
 use Rattle.rel_records.specs.Lists.{HaveLibraries, all_come_in, assign_all, brought_by, comes_in, count_new, may_be_assigned, own_status, restored}
@@ -27,7 +28,7 @@ use Rattle.rel_records.specs.Startable.{AreStartable, IsStartable}
 use Rattle.rel_records.specs.Writing.{new_libraries}
 use Rattle.rel_records.proofs.AgreementLemmas.{Agree, IsOneOf, found_one, one-left, one-right}
 use Rattle.rel_records.proofs.CompletionLemmas.{all_new, completed_first, found_passes, of_applications}
-use Rattle.rel_records.proofs.EventRecords.{AreApartFrom, AreOfOthers, and_false, behind_first, beside_none, brought_whole, none_given, not_one_shot, unassigned}
+use Rattle.rel_records.proofs.EventRecords.{AreApartFrom, AreOfOthers, and_false, behind_first, beside_none, brought_whole, none_given, unassigned}
 use Rattle.rel_records.proofs.EventRecords.{comes_in as unpacked_comes_in}
 use Rattle.rel_records.proofs.MentionLemmas.{apart_within, counted, mentioned, named_more, new_behind, once_more, unset}
 use Rattle.rel_records.proofs.RecordPlaces.{recorded-push}
@@ -137,7 +138,7 @@ none_among : (es : Releases) → length (of_status is_temporary es) ≡ 0 → Al
 none_among [] few = tt
 none_among (x ∷ es) few = elim (cases_Bool (is_temporary x.status)) [
   | inl is ↦ let one : length (x ∷ of_status is_temporary es) ≡ 0 = rw is at few in absurd (omega (arith, one))
-  | inr is ↦ (not_one_shot x.status is, none_among es (rw is at few))
+  | inr is ↦ (not_temporary x.status is, none_among es (rw is at few))
 ]
 
 apart_from_first : (x : Entry) (es : Releases) → length (of_status is_temporary (x ∷ es)) ≤ 1 → AreApartFrom x.status (map own_status (map imaged es))

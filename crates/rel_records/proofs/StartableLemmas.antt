@@ -1,5 +1,5 @@
 -- Releases that a boot can start.
-use Rattle.std.proofs.Common.{◌≡◌, ℕ, true, List, [], ◌∷◌, map, Option, Some, refl, ap, subst, find}
+use Rattle.std.proofs.Common.{◌≡◌, ℕ, true, List, [], ◌∷◌, map, Option, refl, ap, subst}
 use Rattle.std.specs.List.{AllByRecursion}
 use Rattle.rel_files.specs.Form.{AppForm, app_form_of}
 use Rattle.rel_files.specs.Name.{AreDistinct}
@@ -7,7 +7,6 @@ use Rattle.rel_files.specs.Release.{Application, Release}
 use Rattle.relup_file.specs.Relup.{RelupForm}
 use Rattle.library.specs.Library.{Library, IsLibrary}
 use Rattle.rel_list.specs.declared.status.Status.{Status}
-use Rattle.rel_list.specs.Status.{is_permanent}
 use Rattle.rel_list.specs.Releases.{Bundle, Releases, Entry, entry, libraries_named}
 use Rattle.rel_list.specs.Event.{recorded}
 use Rattle.rel_list.proofs.LibraryLaws.{all-append}
@@ -16,20 +15,13 @@ use Rattle.rel_records.specs.Limits.{is_small}
 use Rattle.rel_records.specs.Lists.{HaveLibraries}
 use Rattle.rel_records.specs.Startable.{IsStartable, AreStartable}
 use Rattle.rel_records.proofs.CompletionLemmas.{are_completed, brought_complete, of_applications}
-use Rattle.rel_records.proofs.EachRelease.{each-found, each-recorded, each-of_recorded, each_made}
+use Rattle.rel_records.proofs.EachRelease.{each-of_recorded, each_made}
 use Rattle.rel_records.proofs.MadeLemmas.{AreSaid}
 use Rattle.rel_records.proofs.RecordPlaces.{IsOfRecord}
-
--- the permanent release of a list is startable
-pub permanent_is_startable : (es : Releases) (e : Entry) → AreStartable es → find (λ (f : Entry). is_permanent f.status) es ≡ Some e → IsStartable e
-permanent_is_startable = each-found IsStartable (λ (f : Entry). is_permanent f.status)
 
 -- whatever its status is
 pub still_startable : (e : Entry) (s : Status) → IsStartable e → IsStartable (record e { status = s })
 still_startable e s is = record { complete = is.complete; distinct = is.distinct }
-
-pub startable-recorded : (es : Releases) → AreStartable es → AreStartable (recorded es)
-startable-recorded = each-recorded IsStartable still_startable
 
 pub startable-of_recorded : (es : Releases) → AreStartable (recorded es) → AreStartable es
 startable-of_recorded = each-of_recorded IsStartable still_startable

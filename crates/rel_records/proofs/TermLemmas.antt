@@ -1,20 +1,20 @@
 -- What the term of a record says.
 use Rattle.std.proofs.Common.{◌≡◌, ◌⊎◌, inl, inr, ℕ, Bool, true, false, List, codes, Option, Some, None, Result, Ok, Err, refl, sym, ap, ◌∙◌, subst}
 use Rattle.std.specs.Option.{option_and_then, option_map}
-use Rattle.std.proofs.lemmas.Slice.Eq.{bytes_eq-Decides}
 use Rattle.erl_term.specs.Value.{Value, Values}
-use Rattle.erl_term.specs.Value.Value.{atom, list, tuple}
+use Rattle.erl_term.specs.Value.Value.{list, tuple}
 use Rattle.erl_term.specs.Value.Values.{no_values, value}
 use Rattle.rel_files.specs.File.{IsReleaseTerm}
-use Rattle.rel_files.specs.Form.{form_of, names_in}
+use Rattle.rel_files.specs.Form.{app_names, form_of}
 use Rattle.rel_files.specs.Name.{AreDistinct, IsFirstTwice}
 use Rattle.rel_files.specs.Parts.{is_word, four_in, list_in, word_in}
 use Rattle.rel_files.specs.Release.{Release}
 use Rattle.rel_files.specs.Sketch.{Sketch, sketch_in, release_in}
 use Rattle.rel_files.proofs.Options.{mapped, chained}
-use Rattle.rel_files.proofs.Distinct.{distinct_or_twice}
-use Rattle.rel_files.proofs.Outcomes.{sketch_names, form_names, never_both, says}
+use Rattle.rel_files.proofs.Distinct.{distinct_or_twice, never_both}
+use Rattle.rel_files.proofs.Outcomes.{sketch_names, form_names, says}
 use Rattle.rel_files.proofs.Shape.{form_sketch, sketch_in-term}
+use Rattle.rel_files.proofs.TermParts.{from_word, from_is_word, from_list, from_four}
 use Rattle.rel_files.proofs.Versions.{release_in-form}
 use Rattle.relup_file.specs.Parts.{relup_in}
 use Rattle.relup_file.specs.Relup.{RelupForm}
@@ -40,29 +40,12 @@ says_or_not v = by_sketch (sketch_in v) refl
     by_names : (k : Sketch) → sketch_in v ≡ Some k → AreDistinct (sketch_names k.apps) ⊎ ((n : List ℕ) × IsFirstTwice (sketch_names k.apps) n) → SaysOrNot v
     by_names k e (inl distinct) = by_release k e distinct (release_in k) refl
     by_names k e (inr (n, twice)) = inr (λ r is.
-        let same : names_in (form_of r) ≡ sketch_names k.apps = sym (form_names (form_of r).apps) ∙ ap (λ (s : Sketch). sketch_names s.apps) (sketch_of_form v k e r is) in
+        let same : app_names (form_of r) ≡ sketch_names k.apps = sym (form_names (form_of r).apps) ∙ ap (λ (s : Sketch). sketch_names s.apps) (sketch_of_form v k e r is) in
         never_both (sketch_names k.apps) n (subst AreDistinct same is.distinct) twice)
 
     by_sketch : (o : Option Sketch) → sketch_in v ≡ o → SaysOrNot v
     by_sketch None e = inr (λ r is. let lost : None ≡ Some (form_sketch (form_of r)) = sym e ∙ sketch_in-term v (form_of r) is.shape in cc)
     by_sketch (Some k) e = by_names k e (distinct_or_twice (sketch_names k.apps))
-
-four_term : (v : Value) (m : Value × Value × Value × Value) → four_in v ≡ Some m → v ≡ tuple (value m.0 (value m.1 (value m.2 (value m.3 no_values))))
-four_term (tuple (value v (value w (value x (value y no_values))))) m e =
-    let same : (v, w, x, y) ≡ m = cc in ap (λ (q : Value × Value × Value × Value). tuple (value q.0 (value q.1 (value q.2 (value q.3 no_values))))) same
-four_term v m e = absurd cc
-
-atom_named : (v : Value) (word : List ℕ) → word_in v ≡ Some word → v ≡ atom word
-atom_named (atom s) word e = let same : s ≡ word = cc in ap atom same
-atom_named v word e = absurd cc
-
-pub word_term : (word : List ℕ) (v : Value) → is_word word v ≡ true → v ≡ atom word
-word_term word (atom s) e = ap atom ((bytes_eq-Decides s word).0 e)
-word_term word v e = absurd cc
-
-pub list_of_members : (v : Value) (vs : Values) → list_in v ≡ Some vs → v ≡ list vs
-list_of_members (list ws) vs e = let same : ws ≡ vs = cc in ap list same
-list_of_members v vs e = absurd cc
 
 -- A term stands for a relup or for none, or for neither.
 abbrev pub StandsOrNot : Value → Type 0
@@ -76,14 +59,14 @@ stands_or_not v = by_word (is_word (codes "none") v) refl (relup_in v) refl
     neither other n bad (Some r) says = cc (bad, relup_in-term v r says)
 
     by_word : (b : Bool) → is_word (codes "none") v ≡ b → (o : Result RelupForm ℕ) → relup_in v ≡ o → StandsOrNot v
-    by_word true is o read = inl (None, word_term (codes "none") v is)
+    by_word true is o read = inl (None, from_is_word (codes "none") v is)
     by_word false other (Ok r) read = inl (Some r, from_relup v r read)
     by_word false other (Err n) read = inr (neither other n read)
 
 -- a word, a list and two terms make the term of a record
 parts_spelled : (m : Value × Value × Value × Value) (word : List ℕ) (vs : Values) → word_in m.0 ≡ Some word → list_in m.2 ≡ Some vs
     → tuple (value m.0 (value m.1 (value m.2 (value m.3 no_values)))) ≡ release_term word m.1 vs m.3
-parts_spelled m word vs name libs = λ k. tuple (value (atom_named m.0 word name k) (value m.1 (value (list_of_members m.2 vs libs k) (value m.3 no_values))))
+parts_spelled m word vs name libs = λ k. tuple (value (from_word m.0 word name k) (value m.1 (value (from_list m.2 vs libs k) (value m.3 no_values))))
 
 -- the parts of a term are those of a record's term
 pub is_parts_term : (v : Value) (p : ReleaseParts) → parts_in v ≡ Some p → v ≡ parts_term p
@@ -94,4 +77,4 @@ is_parts_term v p e =
     by m word vs four name libs same
   where
     by : (m : Value × Value × Value × Value) (word : List ℕ) (vs : Values) → four_in v ≡ Some m → word_in m.0 ≡ Some word → list_in m.2 ≡ Some vs → parts_with m word vs ≡ p → v ≡ parts_term p
-    by m word vs four name libs same = four_term v m four ∙ (parts_spelled m word vs name libs ∙ ap parts_term same)
+    by m word vs four name libs same = from_four v m four ∙ (parts_spelled m word vs name libs ∙ ap parts_term same)

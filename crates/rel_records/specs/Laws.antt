@@ -12,6 +12,10 @@ use Rattle.rel_records.specs.Record.{Record, assigns, images}
 use Rattle.rel_records.specs.Startable.{AreStartable}
 use Rattle.rel_records.specs.Writing.{record_of, IsWithinLimits}
 
+-- A body spells one record at most.
+abbrev pub SpellsOneRecord : Type 0
+SpellsOneRecord = (body : List ℕ) (r s : Record) → Spells body r → Spells body s → r ≡ s
+
 -- Bodies make a list, which is the same behind a boot, or one of them is the first bad record.
 abbrev pub MakeOrHaveABadOne : Type 0
 MakeOrHaveABadOne =

@@ -13,9 +13,10 @@ use Rattle.relup_file.specs.Form.{IsRelupTerm}
 use Rattle.relup_file.specs.Relup.{RelupForm}
 use Rattle.library.specs.Library.{Library}
 use Rattle.library.specs.Reading.{AreOfLibraries, EachSays}
+use Rattle.rel_files.specs.Terms.{triple_term}
 use Rattle.rel_list.specs.declared.status.Status.{Status}
 use Rattle.rel_list.specs.declared.status.Status.TheVariants.{Unpacked, Old, Permanent, OneShot}
-use Rattle.rel_records.specs.Record.{Assignment, FileTerms, Imaged, Record, makes, adds, assigns, removes, images, release_term, relup_or_none, row_term, image_term}
+use Rattle.rel_records.specs.Record.{Assignment, FileTerms, Imaged, Record, makes, adds, assigns, removes, images, release_term, relup_or_none, image_term}
 
 -- A status that is written: `current` never is.
 abbrev pub status_in : Value → Option Status
@@ -69,7 +70,7 @@ pub record SaysImaged (v : Value) (x : Imaged) : Type 0 where
   pub rel : Value
   pub status : Value
   pub last : Value
-  pub is : v ≡ row_term rel status last
+  pub is : v ≡ triple_term rel status last
   pub release : IsReleaseTerm rel x.release
   pub has_status : status_in status ≡ Some x.status
   pub relup : StandsForRelup last x.relup

@@ -4,7 +4,7 @@ use Rattle.std.specs.Option.{option_map}
 use Rattle.erl_term.specs.Value.{Value, Values, values_of}
 use Rattle.erl_term.specs.Value.Value.{atom, list}
 use Rattle.erl_term.specs.Printing.{text_of}
-use Rattle.rel_files.specs.Form.{tuple_of, list_of, numbers_term, numbers_of}
+use Rattle.rel_files.specs.Terms.{tuple_of, list_of, pair_term, text_term, triple_term}
 use Rattle.rel_files.specs.Release.{Release}
 use Rattle.relup_file.specs.Form.{relup_term}
 use Rattle.relup_file.specs.Relup.{RelupForm}
@@ -52,12 +52,9 @@ release_term word rel libs relup = tuple_of (atom word ∷ rel ∷ list libs ∷
 abbrev pub library_terms : List Library → Values
 library_terms ls = values_of (map library_term ls)
 
-abbrev pub pair_term : Value → Value → Value
-pair_term v w = tuple_of (v ∷ w ∷ [])
-
 -- {Vsn, Status}
 abbrev pub assignment_term : Assignment → Value
-assignment_term a = pair_term (numbers_term (numbers_of a.vsn)) (atom (status_word a.status))
+assignment_term a = pair_term (text_term a.vsn) (atom (status_word a.status))
 
 -- {status, [{Vsn, Status}]}
 abbrev pub status_term : List Assignment → Value
@@ -65,15 +62,11 @@ status_term given = pair_term (atom (codes "status")) (list_of (map assignment_t
 
 -- {removed, Vsn}
 abbrev pub removed_term : List ℕ → Value
-removed_term v = pair_term (atom (codes "removed")) (numbers_term (numbers_of v))
-
--- {Rel, Status, Relup}
-abbrev pub row_term : Value → Value → Value → Value
-row_term rel status relup = tuple_of (rel ∷ status ∷ relup ∷ [])
+removed_term v = pair_term (atom (codes "removed")) (text_term v)
 
 -- the term of a release of an image
 abbrev pub imaged_term : Imaged → Value
-imaged_term x = row_term (file_term x.release) (atom (status_word x.status)) (relup_or_none (option_map relup_term x.relup))
+imaged_term x = triple_term (file_term x.release) (atom (status_word x.status)) (relup_or_none (option_map relup_term x.relup))
 
 -- {image, [{Rel, Status, Relup}], Libs}
 abbrev pub image_term : Values → Values → Value

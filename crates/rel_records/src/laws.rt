@@ -1,5 +1,10 @@
 //! Laws of records and lists, whatever reads and writes them. Each function does nothing: its contract is the law.
-ghost use Rattle.rel_records.specs.Laws.{MakeOrHaveABadOne, MakeOneList, NeverBothRecords, MakeItInFormat2, RecordsTellEvents, OnlyRestartsWriteOneShots, ImagesWriteTheirOneShots, RecordsAreOfEvents, MakeVersions, MakeLibraries, MakeStartableReleases};
+ghost use Rattle.rel_records.specs.Laws.{SpellsOneRecord, MakeOrHaveABadOne, MakeOneList, NeverBothRecords, MakeItInFormat2, RecordsTellEvents, OnlyRestartsWriteOneShots, ImagesWriteTheirOneShots, RecordsAreOfEvents, MakeVersions, MakeLibraries, MakeStartableReleases};
+
+/// A body spells one record at most.
+pub fn a_body_spells_one_record()
+    ensures { SpellsOneRecord }
+{}
 
 /// The bodies of records make one list, or one of them is the first bad record, and never both.
 pub fn records_make_a_list_or_one_is_bad()

@@ -2,8 +2,8 @@
 //!
 //! A record says that the node's first release was made, that a further one came in, that releases got other statuses, or that one
 //! left (specs/Record). One that brings a release carries its new libraries alone, those that the list doesn't have, and its
-//! relup. Its body is a printed term (`body_of`); a body spells one record at most (`Spells`). An image says a whole list in one
-//! record, which stands first.
+//! relup. Its body is a printed term (`body_of`); a body spells one record at most (`Spells`, `a_body_spells_one_record`). An image
+//! says a whole list in one record, which stands first.
 //! `read_list` gives the list that records make, each taken as what it says of the list (`Makes`), or the first record that the
 //! list so far can't take (`IsBadRecord`). Only a store of format 2 has records that write the status `one_shot` (`allows`,
 //! specs/Format). Which record is that of an event (`record_of`, specs/Writing), and which the image of a list (`image_of`,

@@ -3,7 +3,7 @@
 use Rattle.std.proofs.Common.{◌≡◌, ◌⊎◌, inl, inr, ℕ, Bool, true, false, List, [], ◌∷◌, ◌++◌, Option, Some, None, Result, Ok, Err, refl, sym, ap, ◌∙◌, subst, append-nil}
 use Rattle.std.specs.Prelude.{if◌then◌else◌, ◌==◌, codes, take}
 use Rattle.std.specs.Str.{bytes_eq}
-use Rattle.rel_list.specs.Releases.{Releases}
+use Rattle.rel_list.specs.Releases.{Releases, libraries_at}
 use Rattle.rel_list.specs.Event.{Event}
 use Rattle.rel_list.specs.Event.Event.{made, installed, restart_installed, reboot_old, boot as booting}
 use Rattle.rel_handler.specs.declared.error.BootError.{BootError}
@@ -41,9 +41,9 @@ use Rattle.rel_session.proofs.ActionLemmas.Kind.{of_bytes, at_rest, runs, fails}
 use Rattle.rel_handler.specs.Installing.{install_size, installation_event}
 use Rattle.node_processes.specs.Scripts.{behind_run}
 use Rattle.node_upgrade.specs.Stale.{stale_modules}
-use Rattle.node_upgrade.specs.Upgrade.{libraries_at}
 use Rattle.rel_session.specs.Run.{events_of}
 use Rattle.rel_session.proofs.AnswerLines.{IsWhole, installed_whole, one_front}
+use Rattle.rel_session.proofs.Contradiction.{never}
 use Rattle.rel_session.proofs.InstallationLemmas.{each_reply}
 use Rattle.rel_session.proofs.InstallLines.{append_left, done_or_failed, restart_first, tells_ok}
 
@@ -266,9 +266,6 @@ install_in_doubt vsn true s = restart_in_doubt refl refl refl
 
 restarts_with : (a b : Reply) (vsn line : List ℕ) → a ≡ with_text line (behind (restart_installed vsn) b) → have_restart (events_of a.outcome) ≡ true
 restarts_with a b vsn line is = ap (λ (r : Reply). have_restart (events_of r.outcome)) is ∙ restart_first vsn b.outcome.acknowledged b.outcome.in_doubt
-
-never : {A : Type 0} → false ≡ true → A
-never e = absurd cc
 
 -- Two replies with the same answer, from places of one kind.
 same_effect : (f : Report → Effect) (a b : Reply) → HasEffect f a → HasEffect f b → a.answer ≡ b.answer → effect_of a ≡ effect_of b

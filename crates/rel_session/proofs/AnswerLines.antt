@@ -13,10 +13,8 @@ use Rattle.erl_term.specs.TermFault.TheVariants as term
 use Rattle.erl_term.specs.Value.{Value, Values, values_of}
 use Rattle.erl_term.specs.Value.Value.{atom, list, tuple}
 use Rattle.erl_term.specs.Value.Values.{no_values, value}
-use Rattle.rel_files.specs.Form.{list_of}
 use Rattle.rel_files.specs.Fault.{Fault, file_fault_text}
 use Rattle.rel_files.specs.Fault.Fault.{bad_term, bad_shape, duplicate, bad_version, no_memory as out_of_memory}
-use Rattle.relup_instruction.specs.Form.{triple_term, text_term}
 use Rattle.relup_file.specs.Form.{entry_term}
 use Rattle.relup_file.specs.Relup.{RelupForm}
 use Rattle.relup_translate.specs.Fault.{FaultForm}
@@ -34,7 +32,7 @@ use Rattle.rel_unpack.specs.Refusal.Trouble.{unreadable, faulty, faulty_relup, m
 use Rattle.relup_file.specs.Fault.{relup_fault_text}
 use Rattle.relup_file.specs.declared.fault.RelupFault.{RelupFault}
 use Rattle.relup_file.specs.declared.fault.RelupFault.TheVariants as relup_fault
-use Rattle.node_listing.specs.Listing.{listing, count_line, release_line, text_value, application_value}
+use Rattle.node_listing.specs.Listing.{listing, count_line, release_line, application_value}
 use Rattle.rel_list.specs.declared.fault.ListError.{ListError}
 use Rattle.rel_list.specs.declared.fault.ListError.TheVariants as list_error
 use Rattle.rel_list.specs.Event.Event.{installed}
@@ -49,8 +47,9 @@ use Rattle.node_upgrade.specs.Failure.{Failure, Why, failure_text, why_text}
 use Rattle.node_upgrade.specs.Failure.Why.{new_emulator, no_point, two_points, misplaced, fails}
 use Rattle.script_progress.specs.Fault as script
 use Rattle.script_progress.specs.Fault.{Cause, cause_text}
-use Rattle.node_answer.specs.Lines.{installed_text, names_value}
+use Rattle.node_answer.specs.Lines.{installed_text}
 use Rattle.node_answer.specs.Lines.{ok_line, done_line, check_line, checked_line}
+use Rattle.rel_files.specs.Terms.{list_of, triple_term, text_term, atoms_term}
 
 -- Where a reader of answers stands: at the start of one or of a line of a listing, within such a line, or in the last line.
 pub data Mode : Type 0 where
@@ -209,10 +208,10 @@ boot_line_whole (boot_error.BadRecord i) behind = refl
 -- a release that was installed
 pub installed_whole : (other : List ℕ) (descr : Value) (stale : List (List ℕ)) → IsWhole (installed_text other descr stale)
 installed_whole other descr stale behind =
-    let modules = ends_behind (text_of (names_value stale)) (codes "\n") (term_line (names_value stale)) newline in
-    let later = ends_behind (text_of descr) (codes " " ++ (text_of (names_value stale) ++ codes "\n")) (term_line descr) (λ more. ap (λ t. 32 ∷ t) (modules more)) in
+    let modules = ends_behind (text_of (atoms_term stale)) (codes "\n") (term_line (atoms_term stale)) newline in
+    let later = ends_behind (text_of descr) (codes " " ++ (text_of (atoms_term stale) ++ codes "\n")) (term_line descr) (λ more. ap (λ t. 32 ∷ t) (modules more)) in
     ap (λ t. codes "ok " ++ t)
-    (ends_behind (text_of (text_value other)) (codes " " ++ (text_of descr ++ (codes " " ++ (text_of (names_value stale) ++ codes "\n")))) (term_line (text_value other)) (λ more. ap (λ t. 32 ∷ t) (later more)) behind)
+    (ends_behind (text_of (text_term other)) (codes " " ++ (text_of descr ++ (codes " " ++ (text_of (atoms_term stale) ++ codes "\n")))) (term_line (text_term other)) (λ more. ap (λ t. 32 ∷ t) (later more)) behind)
 
 -- a line that tells a tuple, and then an answer's rest
 pub tuple_line : (vs : Values) (end rest : List ℕ) → EndsLine end → IsWhole rest → IsWhole ((text_of (tuple vs) ++ end) ++ rest)
@@ -225,7 +224,7 @@ tuple_line vs end rest ends whole behind =
 line_of_listing : (e : Entry) (rest : List ℕ) → IsWhole rest → IsWhole (release_line e ++ rest)
 line_of_listing e rest whole =
     let apps = list (values_of (map application_value e.release.apps)) in
-    tuple_line (values_of (text_value e.release.name ∷ text_value e.release.vsn ∷ apps ∷ atom (status_word e.status) ∷ [])) (codes "\n") rest (λ behind. refl) whole
+    tuple_line (values_of (text_term e.release.name ∷ text_term e.release.vsn ∷ apps ∷ atom (status_word e.status) ∷ [])) (codes "\n") rest (λ behind. refl) whole
 
 count_whole : (n : ℕ) → IsWhole (count_line n)
 count_whole n behind = ap (λ t. codes "ok " ++ t) (ends_behind (decimal n) (codes "\n") (decimal_line n) newline behind)
@@ -258,9 +257,9 @@ check_whole vsn es = go (refusal (installed vsn) es) (script_to vsn es)
     go (Some why) found = listed_whole why
     go None None = λ behind. refl
     go None (Some f) =
-        let other = text_of (text_value f.other) in
+        let other = text_of (text_term f.other) in
         done_whole (codes " " ++ (other ++ (codes " " ++ text_of f.descr)))
-        (append_line other (codes " " ++ text_of f.descr) (term_line (text_value f.other)) (term_line f.descr))
+        (append_line other (codes " " ++ text_of f.descr) (term_line (text_term f.other)) (term_line f.descr))
 
 -- a relup and `ok`, or why there is none
 term_whole : (u v w : Value) → IsWhole (text_of (triple_term u v w) ++ codes ".\nok\n")

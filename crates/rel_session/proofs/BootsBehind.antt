@@ -26,14 +26,12 @@ use Rattle.rel_session.specs.Transition.{StopsWithin, without_node}
 use Rattle.rel_session.specs.Transition.Action.{boots_node}
 use Rattle.rel_session.specs.Transition.StopsWithin.{without_its_boot, without_its_restart, without_its_node}
 use Rattle.node_command.proofs.CommandLemmas.{commanded_step}
+use Rattle.rel_session.proofs.Contradiction.{never}
 use Rattle.rel_session.proofs.ExtentLemmas.{reach_at}
 use Rattle.rel_session.proofs.DeviceLemmas.{IsDevice, weakened, joined, failed_behind}
 use Rattle.rel_session.proofs.ListLemmas.{list_after-push}
 use Rattle.rel_session.proofs.Prefixes.{stored, reached, reached_sooner, reached_behind, reached_with}
 use Rattle.rel_session.proofs.Replies.{leaves_all}
-
-never : {A : Type 0} → false ≡ true → A
-never f = absurd cc
 
 -- The result of the action tells that of the boot, behind this line; or memory was refused.
 abbrev pub TellsBehind : List ℕ → Result (String Global) AllocError → Result (String Global) HandlerError → Type 0

@@ -28,14 +28,12 @@ use Rattle.rel_session.specs.Run.{IsReached, Holds}
 use Rattle.rel_session.specs.Transition
 use Rattle.rel_session.specs.Transition.Action.{changes_node}
 use Rattle.node_command.proofs.CommandLemmas.{commanded_step}
+use Rattle.rel_session.proofs.Contradiction.{never}
 use Rattle.rel_session.proofs.ExtentLemmas.{reach_at}
 use Rattle.rel_session.proofs.DeviceLemmas.{IsDevice, weakened}
 use Rattle.rel_session.proofs.ListLemmas.{list_after-push}
 use Rattle.rel_session.proofs.Prefixes.{reached_with}
 use Rattle.rel_session.proofs.Replies.{stays, leaves_all, same_at, runs_at, tells, answers_line}
-
-never : {A : Type 0} → false ≡ true → A
-never e = absurd cc
 
 module _ {D : Type 0} (v : Device D) (laws : IsDevice v) (P : Place → Reply → Type 0) (n : BootedNode D) (alive : is_dead n.handler ≡ false) where
   -- An event comes to the node. Done says what is replied where it was committed.

@@ -29,15 +29,13 @@ use Rattle.rel_session.specs.Node.{Place, just_booted, Reply, reply, refused, fa
 use Rattle.rel_session.specs.Node.Place.{raw, closed, running, dead}
 use Rattle.node_answer.specs.Refusals.{NodeRefusal, refusal_of, refusal_for, refusal_line}
 use Rattle.node_answer.specs.Refusals.NodeRefusal.{full, exists, device}
+use Rattle.rel_session.proofs.Contradiction.{never}
 use Rattle.rel_session.specs.Transition
 use Rattle.rel_session.specs.Transition.Action.{makes_node}
 use Rattle.rel_session.specs.Transition.StopsWithin.{without_its_node}
 use Rattle.rel_session.proofs.DeviceLemmas.{IsDevice}
 use Rattle.rel_session.proofs.ReleaseLemmas.{files_refuse, told_alike, creation_refused}
 use Rattle.rel_session.proofs.Replies.{HasBooted, held, kept, quiet, moments_of_nothing, stays, booted_at, starts, answers_or_stops, tells_refusal, refuses_anywhere}
-
-never : {A : Type 0} → false ≡ true → A
-never e = absurd cc
 
 module _ {D : Type 0} (v : Device D) (laws : IsDevice v) (source : Source) (path : List ℕ) where
   abbrev Creates : Place → Reply → Type 0

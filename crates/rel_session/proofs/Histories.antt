@@ -18,10 +18,11 @@ use Rattle.rel_records.specs.Record.{Assignment, Record, makes, adds, assigns, r
 use Rattle.rel_records.proofs.FormatLemmas.{allowed_so}
 use Rattle.rel_records.proofs.ImageEvents.{restored_by}
 use Rattle.rel_records.proofs.OrderlyLemmas.{statuses_orderly}
-use Rattle.rel_records.proofs.RecordPlaces.{chosen, assigned_so, event_of_record, settled_behind}
+use Rattle.rel_records.proofs.RecordPlaces.{assigned_so, event_of_record, settled_behind}
 use Rattle.rel_store.specs.Layout.{format_of}
 use Rattle.node_store.specs.Events.{Events}
 use Rattle.node_store.specs.Image.{IsImageOf}
+use Rattle.rel_files.proofs.Options.{passed}
 
 -- Assignments keep the releases.
 bundles-assigned : (v : List ℕ) (t : Status) (es : Releases) → bundles_of (list_assigned v t es) ≡ bundles_of es
@@ -31,7 +32,7 @@ bundles-assigned v t (e ∷ es) = ap (λ (l : List Bundle). bundle_in e ∷ l) (
 kept_by : (given : List Assignment) (es next : Releases) → assign_all given es ≡ Some next → bundles_of next ≡ bundles_of es
 kept_by [] es next is = let same : es ≡ next = cc is in ap bundles_of (sym same)
 kept_by (a ∷ given) es next is =
-    let (may, rest) = chosen (may_be_assigned a es) (assign_all given (list_assigned a.vsn a.status es)) next is in
+    let (may, rest) = passed (may_be_assigned a es) (assign_all given (list_assigned a.vsn a.status es)) next is in
     kept_by given (list_assigned a.vsn a.status es) next rest ∙ bundles-assigned a.vsn a.status es
 
 is_one : (n : ℕ) → (n == 1) ≡ true → n ≡ 1

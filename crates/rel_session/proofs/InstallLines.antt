@@ -10,6 +10,7 @@ use Rattle.node_answer.specs.Refusals.{refusal_line}
 use Rattle.node_answer.specs.Refusals.NodeRefusal.{device}
 use Rattle.rel_session.specs.Run.{events_of}
 use Rattle.rel_session.proofs.AnswerLines.{IsWhole, one_front}
+use Rattle.rel_session.proofs.Contradiction.{never}
 
 -- the line tells that something was done
 abbrev pub tells_ok : List ℕ → Bool
@@ -31,9 +32,6 @@ restart_first vsn events (Some e) = refl
 pub append_left : (s x y : List ℕ) → s ++ x ≡ s ++ y → x ≡ y
 append_left [] x y is = is
 append_left (b ∷ s) x y is = append_left s x y (let same : s ++ x ≡ s ++ y = cc in same)
-
-never : {A : Type 0} → false ≡ true → A
-never e = absurd cc
 
 -- A line that tells that something was done isn't that of a failure.
 pub done_or_failed : {A : Type 0} (first behind x : List ℕ) → ((more : List ℕ) → tells_ok (first ++ more) ≡ true) → first ++ behind ≡ refusal_line device ++ x → A

@@ -4,7 +4,7 @@ use Rattle.std.specs.Prelude.{String, string_bytes, IfErr, IfOk, IsOk, IsOkAnd, 
 use Rattle.std.specs.declared.alloc.AllocError.{AllocError}
 use Rattle.std.specs.declared.alloc.Global.{Global}
 use Rattle.erl_term.specs.Value.{value_of}
-use Rattle.rel_list.specs.Releases.{Releases}
+use Rattle.rel_list.specs.Releases.{Releases, libraries_at}
 use Rattle.rel_list.specs.Event.{Event, list_after}
 use Rattle.rel_list.specs.Event.Event.{installed, restart_installed}
 use Rattle.held_processes.specs.Following.{HoldsNothing}
@@ -30,7 +30,7 @@ use Rattle.node_upgrade.specs.Failure.{Failure, failure, failure_of}
 use Rattle.node_upgrade.specs.Failure.Why.{fails}
 use Rattle.node_upgrade.specs.Running.{start_in, RunRefused}
 use Rattle.node_upgrade.specs.Stale.{stale_modules}
-use Rattle.node_upgrade.specs.Upgrade.{IsNoUpgrade, IsUpgrade, UpgradeForm, libraries_at, script_failure, site_for}
+use Rattle.node_upgrade.specs.Upgrade.{IsNoUpgrade, IsUpgrade, UpgradeForm, script_failure, site_for}
 use Rattle.node_store.specs.Commits.{Commits, IsDone}
 use Rattle.node_store.specs.Events.{Events, certain, uncertain, settled, IsStoredAs}
 use Rattle.node_store.specs.Image.{Extent, extent_behind, HasSpace}
@@ -55,14 +55,12 @@ use Rattle.rel_session.specs.Transition.{StopsWithin}
 use Rattle.rel_session.specs.Transition.Action.{installs, boots_node}
 use Rattle.rel_session.specs.Transition.StopsWithin.{without_its_restart, without_its_node}
 use Rattle.rel_session.proofs.BootsBehind.{TellsBehind, boots_behind, ends_before_boot, reaches_there}
+use Rattle.rel_session.proofs.Contradiction.{never}
 use Rattle.rel_session.proofs.ExtentLemmas.{reach_at}
 use Rattle.rel_session.proofs.DeviceLemmas.{IsDevice, weakened, still}
 use Rattle.rel_session.proofs.ListLemmas.{list_after-push}
 use Rattle.rel_session.proofs.Prefixes.{reached_with}
 use Rattle.rel_session.proofs.Replies.{held, moments_of_nothing, stays, leaves_all, never_stops, same_at, runs_at}
-
-never : {A : Type 0} → false ≡ true → A
-never e = absurd cc
 
 module _ {D : Type 0} (v : Device D) (laws : IsDevice v) (vsn : List ℕ) (n new : BootedNode D) (alive : is_dead n.handler ≡ false) (sound : AreSound n.processes)
     (commits : Commits v (install_event vsn (list_in n.handler)) (install_size vsn (list_in n.handler)) n.handler new.handler) where

@@ -1,3 +1,4 @@
+pub mod Contradiction
 pub mod ReleaseLemmas
 pub mod DeviceLemmas
 pub mod ListLemmas

@@ -4,6 +4,7 @@ use Rattle.std.specs.Prelude.{IsErrOf, String, string_bytes}
 use Rattle.std.specs.Option.{option_map}
 use Rattle.std.specs.Io.KnownBytes.{Appends, prepend_known}
 use Rattle.std.specs.declared.alloc.Global.{Global}
+use Rattle.counted_io.proofs.WriteLemmas.{Appends-nothing, Appends-twice}
 use Rattle.session_input.specs.declared.command.Command.{Command as CommandInMemory}
 use Rattle.session_input.specs.declared.error.SessionError.{SessionError}
 use Rattle.session_input.specs.declared.error.SessionError.TheVariants.{Read, Write, Limit, NoMemory}
@@ -101,16 +102,6 @@ written_next unread a more text is = ap (λ (l : List ℕ). a.answer ++ l) is
 written_next early a more text (inl is) = inl (ap (λ (l : List ℕ). a.answer ++ l) is)
 written_next early a more text (inr (first, last, part, left, are, parts, is)) =
     inr (a ∷ first, last, part, left, ap (λ (l : List Reply). a ∷ l) are, parts, ap (λ (l : List ℕ). a.answer ++ l) is ∙ sym (append_assoc a.answer (answers_of first) part))
-
-Appends-nothing : (old : Option (List ℕ)) → Appends old old []
-Appends-nothing None = tt
-Appends-nothing (Some xs) = sym (append-nil xs)
-
-Appends-twice : (old mid new : Option (List ℕ)) (xs ys : List ℕ) → Appends old mid xs → Appends mid new ys → Appends old new (xs ++ ys)
-Appends-twice None mid new xs ys a b = tt
-Appends-twice (Some o) None new xs ys a b = absurd a
-Appends-twice (Some o) (Some m) None xs ys a b = absurd b
-Appends-twice (Some o) (Some m) (Some n) xs ys a b = b ∙ ap (λ k. k ++ ys) a ∙ append_assoc o xs ys
 
 module _ {D : Type 0} (v : Device D) (base : Source) where
   -- Where the node stands, what was written, and how a run of the commands that are left completes that of all.

@@ -15,7 +15,7 @@ use Rattle.proc_history.specs.declared.value.Standing.{Standing}
 use Rattle.proc_history.specs.declared.value.Standing.TheVariants.{Up, Down, Stopped}
 use Rattle.proc_history.specs.declared.value.Value.{Value}
 use Rattle.proc_history.specs.Values.{nothing, up_if, up_at, up_in}
-use Rattle.node_listing.specs.Listing.{process_line, process_value, term_line, text_value, standing_word, module_line}
+use Rattle.node_listing.specs.Listing.{process_line, process_value, term_line, standing_word, module_line}
 use Rattle.node_processes.specs.Answers.{processes_line, modules_line, peek_line, peeked_line, state_line, call_line, called_line, reply_line, outcome_line, outcome_at, value_at}
 use Rattle.node_processes.specs.Calls.{Calls, calls_line}
 use Rattle.node_processes.specs.Calls.Calls.{once, often}
@@ -24,6 +24,7 @@ use Rattle.node_processes.specs.ModuleVersions.{HasModuleVersion, HaveModuleVers
 use Rattle.proc_table.specs.declared.pid.Pid.{Pid}
 use Rattle.node_processes.specs.Processes.{Processes, process_named}
 use Rattle.node_processes.proofs.ModuleVersions.{each_at, nothing_version}
+use Rattle.rel_files.specs.Terms.{text_term}
 use Rattle.rel_session.proofs.AnswerLines.{EndsIt, IsWhole, ends_behind, newline, lines_whole, tuple_line}
 
 process_whole : (v : Value) (rest : List ℕ) → IsWhole rest → IsWhole (process_line v ++ rest)
@@ -31,13 +32,13 @@ process_whole v rest whole = go v.now
   where
     go : (o : Option Now) → IsWhole (option_map_or (λ (n : Now). term_line (process_value n)) o [] ++ rest)
     go None = whole
-    go (Some n) = tuple_line (values_of (atom n.app ∷ atom n.id ∷ atom n.table.name ∷ text_value n.table.vsn ∷ atom (standing_word n.standing) ∷ [])) (codes "\n") rest (λ behind. refl) whole
+    go (Some n) = tuple_line (values_of (atom n.app ∷ atom n.id ∷ atom n.table.name ∷ text_term n.table.vsn ∷ atom (standing_word n.standing) ∷ [])) (codes "\n") rest (λ behind. refl) whole
 
 pub processes_whole : (ps : Processes) → IsWhole (processes_line ps)
 processes_whole ps = lines_whole process_line process_whole ps.values _
 
 module_whole : (m : List ℕ × List ℕ) (rest : List ℕ) → IsWhole rest → IsWhole (module_line m.0 m.1 ++ rest)
-module_whole m rest whole = tuple_line (values_of (atom m.0 ∷ text_value m.1 ∷ [])) (codes "\n") rest (λ behind. refl) whole
+module_whole m rest whole = tuple_line (values_of (atom m.0 ∷ text_term m.1 ∷ [])) (codes "\n") rest (λ behind. refl) whole
 
 pub modules_whole : (ps : Processes) → IsWhole (modules_line ps)
 modules_whole ps = lines_whole (λ (m : List ℕ × List ℕ). module_line m.0 m.1) module_whole _ _

@@ -1,5 +1,5 @@
 -- What is replied to commands that ask a node which runs, or change its processes.
-use Rattle.std.proofs.Common.{◌≡◌, ℕ, ◌≤◌, true, false, List, Result, Ok, Err, inr, refl, sym, ap, ◌∙◌, subst, arith}
+use Rattle.std.proofs.Common.{◌≡◌, ℕ, ◌≤◌, false, List, Result, Ok, Err, inr, refl, sym, ap, ◌∙◌, subst, arith}
 use Rattle.std.specs.Prelude.{IfOk, MatchResult, String, string_bytes}
 use Rattle.std.specs.declared.alloc.AllocError.{AllocError}
 use Rattle.std.specs.declared.alloc.Global.{Global}
@@ -11,6 +11,7 @@ use Rattle.node_command.specs.declared.error.HandlerError.{HandlerError}
 use Rattle.node_command.specs.declared.error.HandlerError.TheVariants as handler_error
 use Rattle.node_processes.specs.InMemory.{processes_in}
 use Rattle.node_processes.specs.Processes.{Processes}
+use Rattle.rel_session.proofs.Contradiction.{never}
 use Rattle.rel_session.specs.declared.booted_node.BootedNode.{BootedNode}
 use Rattle.rel_session.specs.declared.place.Place.TheVariants as memory
 use Rattle.rel_session.specs.Device.{Device}
@@ -20,9 +21,6 @@ use Rattle.rel_session.specs.Node.Place.{raw, closed, running, dead}
 use Rattle.rel_session.specs.Run.{Moments}
 use Rattle.rel_session.proofs.DeviceLemmas.{IsDevice, still}
 use Rattle.rel_session.proofs.Replies.{moments_of_nothing}
-
-never : {A : Type 0} → false ≡ true → A
-never e = absurd cc
 
 -- The processes alone change, by a command that says this of the releases and of them, and leaves these.
 module _ {D : Type 0} (v : Device D) (laws : IsDevice v) (P : Place → Reply → Type 0) (says : Releases → Processes → List ℕ) (leaves : Processes → Processes)

@@ -37,6 +37,7 @@ use Rattle.rel_session.specs.Node.Place.{raw, closed, running, dead}
 use Rattle.node_answer.specs.Refusals.{refusal_of, refusal_line}
 use Rattle.rel_session.specs.Booting.{boot_line}
 use Rattle.node_answer.specs.Refusals.NodeRefusal.{dead as dead_node}
+use Rattle.rel_session.proofs.Contradiction.{never}
 use Rattle.rel_session.specs.Run.{IsReached, Holds, Moments, Happens}
 use Rattle.rel_session.specs.Transition
 use Rattle.rel_session.specs.Transition.Action.{answers, changes_node, installs, reboots_node, boots_node, tells_start, calls}
@@ -107,9 +108,6 @@ module _ {D : Type 0} (v : Device D) (laws : IsDevice v) where
   holds_still (closed s) old new here same leaves = kept (IsStoredAs s) old new here leaves
   holds_still (running events extent ps) old new here same leaves = kept (IsStoredAs (certain events extent)) old new here leaves
   holds_still (dead s) old new here same leaves = kept (IsStoredAs s) old new here leaves
-
-  never : {A : Type 0} → false ≡ true → A
-  never e = absurd cc
 
   -- nothing was done, and nothing of the disk has changed
   pub stays : (p : Place) (answer : List ℕ) (P : Reply → Type 0) (old new : PlaceInMemory D) → IsAt v old p → disk_at new ≡ disk_at old → IsAt v new p → P (reply answer nothing p) → Replied v p P old new

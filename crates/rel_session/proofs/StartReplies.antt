@@ -23,6 +23,7 @@ use Rattle.node_answer.specs.Refusals.{refusal_line}
 use Rattle.node_answer.specs.Refusals.NodeRefusal.{device}
 use Rattle.rel_session.specs.Run.{Holds}
 use Rattle.node_answer.specs.Lines.{ok_line}
+use Rattle.rel_session.proofs.Contradiction.{never}
 use Rattle.rel_session.specs.Transition.{Acts, start_versions}
 use Rattle.rel_session.specs.Transition.Action.{tells_start}
 use Rattle.rel_session.specs.declared.place.Place.TheVariants as memory
@@ -36,9 +37,6 @@ module _ {D : Type 0} (v : Device D) (laws : IsDevice v) (n new : BootedNode D) 
 
   still_holds : (p : Place) → IsAt v (memory.Made n) p → Holds v p (disk_in new.handler)
   still_holds p at = holds_still v laws p (disk_in n.handler) (disk_in new.handler) (held v laws (memory.Made n) p at) read.only_read.same read.only_read.any_moment
-
-  never : {A : Type 0} → false ≡ true → A
-  never e = absurd cc
 
   -- the node runs on
   runs_on : is_dead new.handler ≡ false → (events : Events) (extent : Extent) (ps : Processes) → IsAt v (memory.Made n) (running events extent ps) → IsAt v (memory.Made new) (running events extent ps)

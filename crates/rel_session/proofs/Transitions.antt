@@ -1,6 +1,6 @@
 -- What each reply does to the acknowledged events.
 use Rattle.std.proofs.Common.{◌≡◌, ◌≢◌, ◌⊎◌, inl, inr, ⊎_elim, ℕ, Bool, true, false, List, [], ◌∷◌, ◌++◌, Option, None, Some, Result, Ok, Err, refl, sym, ap, ◌∙◌, subst, append-nil, append_assoc}
-use Rattle.rel_list.specs.Releases.{Releases}
+use Rattle.rel_list.specs.Releases.{Releases, libraries_at}
 use Rattle.rel_list.specs.Event.{Event}
 use Rattle.rel_list.specs.Event.Event.{restart_installed, reboot_old as rebooting, boot as booting}
 use Rattle.node_command.specs.declared.error.HandlerError.{HandlerError}
@@ -18,7 +18,6 @@ use Rattle.rel_unpack.specs.Source.{Source}
 use Rattle.node_processes.specs.Processes.{Processes}
 use Rattle.node_processes.specs.Scripts.{behind_run}
 use Rattle.node_upgrade.specs.Stale.{stale_modules}
-use Rattle.node_upgrade.specs.Upgrade.{libraries_at}
 use Rattle.relup_script.specs.Search.{FoundForm}
 use Rattle.node_answer.specs.Lines.{installed_line}
 use Rattle.rel_session.specs.Installation.{restarted, restarted_reply}

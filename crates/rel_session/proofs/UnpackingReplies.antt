@@ -1,5 +1,5 @@
 -- What `set_unpacked` replies on a node that runs.
-use Rattle.std.proofs.Common.{◌≡◌, inl, inr, ℕ, true, false, List, Result, Ok, Err, refl, sym, ap, ◌∙◌, subst}
+use Rattle.std.proofs.Common.{◌≡◌, inl, inr, ℕ, false, List, Result, Ok, Err, refl, sym, ap, ◌∙◌, subst}
 use Rattle.std.specs.Prelude.{IfOk, MatchResult, String, string_bytes}
 use Rattle.std.specs.declared.alloc.AllocError.{AllocError}
 use Rattle.std.specs.declared.alloc.Global.{Global}
@@ -28,10 +28,8 @@ use Rattle.rel_session.specs.Transition.Action.{changes_node}
 use Rattle.rel_session.proofs.DeviceLemmas.{IsDevice}
 use Rattle.rel_session.proofs.ReleaseLemmas.{files_refuse, told_alike, unpacking_refused}
 use Rattle.rel_session.proofs.CommitReplies.{changes, changes_none, files_refused}
+use Rattle.rel_session.proofs.Contradiction.{never}
 use Rattle.rel_session.proofs.Replies.{leaves_all, refuses_running, same_at, tells_refusal}
-
-never : {A : Type 0} → false ≡ true → A
-never e = absurd cc
 
 module _ {D : Type 0} (v : Device D) (laws : IsDevice v) (source : Source) (path : List ℕ) (n : BootedNode D) (alive : is_dead n.handler ≡ false) (new : BootedNode D)
     (kept_on : processes_in new.processes ≡ processes_in n.processes) where

@@ -6,7 +6,7 @@ use Rattle.erl_term.proofs.Lines.{append_line}
 use Rattle.erl_term.specs.Lines.{is_one_line}
 use Rattle.rel_unpack.proofs.LineOutcomes.{version_line}
 use Rattle.rel_files.specs.Release.{Release}
-use Rattle.rel_list.specs.Releases.{Bundle, bundle_in}
+use Rattle.rel_list.specs.Releases.{Bundle, bundle_in, libraries_at}
 use Rattle.rel_list.specs.Releases.{Releases, Entry, status_of, has_current, permanent, current, running as running_release}
 use Rattle.rel_list.specs.Status.{is_current, is_permanent}
 use Rattle.rel_list.specs.Event.{Event, is_barred, may_be_installed, may_be_made_permanent, may_be_removed, may_be_rebooted, booted_status, with_statuses, list_installed, list_restarted, list_made_permanent, without, own_step, step, list_after, booted, recorded, entry}
@@ -48,7 +48,6 @@ use Rattle.rel_session.proofs.Transitions.{may_have}
 use Rattle.rel_session.proofs.AnswerLines.{IsWhole, ok_whole, done_whole, installed_whole, listed_whole, refusal_whole, boot_line_whole}
 use Rattle.node_processes.specs.Scripts.{behind_run}
 use Rattle.node_upgrade.specs.Stale.{stale_modules}
-use Rattle.node_upgrade.specs.Upgrade.{libraries_at}
 use Rattle.relup_script.specs.Search.{FoundForm}
 use Rattle.rel_handler.specs.Installing.{install_size, installation_event}
 use Rattle.node_answer.specs.Lines.{installed_line}

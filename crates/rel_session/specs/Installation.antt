@@ -1,6 +1,6 @@
 -- What a node that runs replies to an installation (OTP: release_handler:install_release/1).
 use Rattle.std.specs.Prelude.{◌≡◌, ◌⊎◌, ℕ, Bool, true, false, List, [], ◌∷◌, ◌++◌, Option, None, Some, Result, Ok, Err}
-use Rattle.rel_list.specs.Releases.{Releases}
+use Rattle.rel_list.specs.Releases.{Releases, libraries_at}
 use Rattle.rel_list.specs.Event.Event.{installed, restart_installed}
 use Rattle.rel_handler.specs.Installing.{install_event, install_room, install_size, needs_restart}
 use Rattle.node_command.specs.declared.error.HandlerError.{HandlerError}
@@ -9,7 +9,7 @@ use Rattle.node_processes.specs.Scripts.{behind_run, run_on}
 use Rattle.node_upgrade.specs.Failure.{Failure, failure}
 use Rattle.node_upgrade.specs.Failure.Why.{fails}
 use Rattle.node_upgrade.specs.Stale.{stale_modules}
-use Rattle.node_upgrade.specs.Upgrade.{libraries_at, script_failure, site_for, upgrade_to}
+use Rattle.node_upgrade.specs.Upgrade.{script_failure, site_for, upgrade_to}
 use Rattle.node_store.specs.Events.{Events, Stored, certain, uncertain}
 use Rattle.node_store.specs.Compaction.{MayReach}
 use Rattle.node_store.specs.Image.{Extent, extent_behind, HasSpace}

@@ -191,7 +191,7 @@ FailsToMake bytes p (Some why) a = a ≡ failed None (raw bytes)
 FailsToMake bytes p None a =
     (torn : List ℕ) × (holds_a_store bytes ≡ true → torn ≡ bytes) × (a ≡ failed (Some (made p)) (raw torn))
 
--- It is made, or refused, or the device fails in it. Beside a store that a boot has read nothing is in doubt.
+-- It is made, or refused, or the device fails in it. Beside a store whose events are known nothing is in doubt.
 abbrev pub MakesNode : Place → Brought → Reply → Type 0
 MakesNode (raw bytes) b a = MakesOn bytes b (holds_a_store bytes) a ⊎ FailsToMake bytes (bundle_brought b) (own_refusal b) a
 MakesNode (closed s) b a = (a ≡ refused exists (closed s)) ⊎ (a ≡ failed None (closed s))

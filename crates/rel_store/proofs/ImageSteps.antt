@@ -265,9 +265,6 @@ module _ {D : Type 0} (moment : D → ℕ) (left_since : D → ℕ → List ℕ 
   pub within_now : place ≤ length now
   within_now = elim free_now [ inl first ↦ omega (arith, first.0, gate_is_low, gate_is_within) | inr past ↦ omega (arith, past, gate_is_within) ]
 
-  pub layout_within : 288 ≤ length now
-  layout_within = omega (arith, gate_is_low, gate_is_within)
-
   few_now : place < 2 ^ 64
   few_now = omega (arith, at, fits.1)
 

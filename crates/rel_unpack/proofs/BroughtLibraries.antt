@@ -9,8 +9,7 @@ use Rattle.erl_term.specs.Printing.{is_string, characters_of}
 use Rattle.erl_term.specs.Value.{Value, values_of}
 use Rattle.erl_term.specs.Within.{HaveShortNames, IsShortName, IsWithin, brackets, most_brackets}
 use Rattle.erl_term.proofs.Limits.{keeps_limits}
-use Rattle.rel_files.specs.Form.{list_of}
-use Rattle.rel_files.specs.Kind.{HasTermAt}
+use Rattle.rel_files.specs.OneTermFile.{HasTermAt}
 use Rattle.rel_files.specs.Release.{Application}
 use Rattle.rel_files.proofs.Options.{mapped}
 use Rattle.app_file.specs.File.{Specification, IsAppTerm, with_term}
@@ -18,6 +17,7 @@ use Rattle.app_file.specs.Parts.{contents_in}
 use Rattle.mod_table.specs.File.{IsTableTerm, name_of}
 use Rattle.library.specs.Library.{AreLibrariesOf, HaveTables, IsLibrary, Library, TableTerm, is_at, library_term, tables_there}
 use Rattle.rel_check.specs.Fault.{Fault, release_fault}
+use Rattle.rel_files.specs.Terms.{list_of}
 use Rattle.rel_unpack.specs.Applications.{AppAt, LibraryAt, LibrariesAt, ModuleAt, TableAt, is_named, is_of}
 use Rattle.rel_unpack.specs.Order.{Each}
 use Rattle.rel_unpack.specs.Paths.{app_path, mod_path}

@@ -11,7 +11,7 @@ use Rattle.erl_term.specs.Lines.{is_one_line}
 use Rattle.erl_term.specs.Value.{Value}
 use Rattle.erl_term.proofs.Lines.{append_line}
 use Rattle.rel_files.specs.File.{HasVersions}
-use Rattle.rel_files.specs.Form.{AreAppTerms, app_form_of}
+use Rattle.rel_files.specs.Form.{AreAppSpecs, app_form_of}
 use Rattle.rel_files.specs.Name.{IsName, IsVersion, is_name_byte}
 use Rattle.rel_files.specs.Release.{Application, Release}
 use Rattle.app_file.specs.File.{Specification}
@@ -154,7 +154,7 @@ pub record IsLineRelease (r : Release) : Type 0 where
   pub versions : HasVersions r
   pub apps : AllByRecursion IsLineApplication r.apps
 
-applications_line : (vs : List Value) (apps : List Application) → AreAppTerms vs (map app_form_of apps) → AllByRecursion (λ (a : Application). IsVersion a.vsn) apps
+applications_line : (vs : List Value) (apps : List Application) → AreAppSpecs vs (map app_form_of apps) → AllByRecursion (λ (a : Application). IsVersion a.vsn) apps
     → AllByRecursion IsLineApplication apps
 applications_line vs [] are versions = tt
 applications_line [] (a ∷ apps) are versions = absurd are

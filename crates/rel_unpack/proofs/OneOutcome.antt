@@ -6,8 +6,8 @@ use Rattle.erl_term.proofs.Exact.{one_reading}
 use Rattle.erl_term.specs.Grammar.{Reading}
 use Rattle.file_source.specs.declared.files.FilesError.{FilesError}
 use Rattle.file_source.specs.declared.files.FilesError.TheVariants as read
-use Rattle.rel_files.proofs.OneFault.{one_file_fault, never_says_and_fails, says_one}
-use Rattle.rel_files.proofs.OneTermFiles as kind
+use Rattle.rel_files.proofs.OneFault.{one_fault, never_says_and_fails, says_one}
+use Rattle.rel_files.proofs.KindFiles as kind
 use Rattle.rel_files.specs.Fault.{Fault}
 use Rattle.rel_files.specs.Release.{Application}
 use Rattle.app_file.specs.File.{app_files}
@@ -221,7 +221,7 @@ says_one_release = record {
       let terms : f.term ≡ g.term = sym is ∙ (let same : r ≡ s = cc in ap (λ (x : Reading). x.term) same) ∙ is_too in
       let releases : f.release ≡ g.release = says_one bs f.release g.release (f.term, says.0, of) (g.term, also.0, of_too) in
       λ k. record { release = releases k; term = terms k };
-  one_trouble = λ bs. faults_one _ (one_file_fault bs);
+  one_trouble = λ bs. faults_one _ (one_fault bs);
   never_both = λ bs f t says has. some_fault _ (λ e is. never_says_and_fails bs f.release e (f.term, says.0, says.1) is) t has;
 }
 

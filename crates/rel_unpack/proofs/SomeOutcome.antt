@@ -4,10 +4,10 @@ use Rattle.std.specs.Option.{option_map, option_or}
 use Rattle.file_source.specs.declared.files.FilesError.{FilesError}
 use Rattle.file_source.specs.declared.files.FilesError.TheVariants as read
 use Rattle.rel_files.proofs.Either.{says_or_fault}
-use Rattle.rel_files.proofs.OneTermFiles as kind
+use Rattle.rel_files.proofs.KindFiles as kind
 use Rattle.rel_files.specs.Fault.{Fault}
-use Rattle.rel_files.specs.File.{SaysRelease, HasFault}
-use Rattle.rel_files.specs.Kind.{Says, HasFault as KindHasFault}
+use Rattle.rel_files.specs.File.{SaysRelease, HasReleaseFault}
+use Rattle.rel_files.specs.Kind.{Says, HasFault}
 use Rattle.rel_files.specs.Release.{Release, Application}
 use Rattle.app_file.specs.File.{Specification, app_files}
 use Rattle.library.specs.Library.{Library, TableTerm}
@@ -91,21 +91,21 @@ module _ {X : Type 0} (form : Form X) (some : SaysSome form) (source : Source) (
 says_some_release : SaysSome rel_form
 says_some_release bs = go (says_or_fault bs)
   where
-    go : ((r : Release) × SaysRelease bs r) ⊎ ((f : Fault) × HasFault bs f) → ((f : Found) × rel_form.says bs f) ⊎ ((t : Trouble) × rel_form.fails bs t)
+    go : ((r : Release) × SaysRelease bs r) ⊎ ((f : Fault) × HasReleaseFault bs f) → ((f : Found) × rel_form.says bs f) ⊎ ((t : Trouble) × rel_form.fails bs t)
     go (inl (r, (term, has, is))) = inl (record { release = r; term = term }, (has, is))
     go (inr (f, has)) = inr (faulty f, has)
 
 says_some_application : SaysSome app_form
 says_some_application bs = go (kind.says_or_fault app_files bs)
   where
-    go : ((s : Specification) × Says app_files bs s) ⊎ ((f : Fault) × KindHasFault app_files bs f) → ((s : Specification) × app_form.says bs s) ⊎ ((t : Trouble) × app_form.fails bs t)
+    go : ((s : Specification) × Says app_files bs s) ⊎ ((f : Fault) × HasFault app_files bs f) → ((s : Specification) × app_form.says bs s) ⊎ ((t : Trouble) × app_form.fails bs t)
     go (inl (s, says)) = inl (s, says)
     go (inr (f, has)) = inr (faulty f, has)
 
 says_some_table : SaysSome mod_form
 says_some_table bs = go (kind.says_or_fault mod_files bs)
   where
-    go : ((t : Table) × Says mod_files bs t) ⊎ ((f : Fault) × KindHasFault mod_files bs f) → ((t : TableTerm) × mod_form.says bs t) ⊎ ((t : Trouble) × mod_form.fails bs t)
+    go : ((t : Table) × Says mod_files bs t) ⊎ ((f : Fault) × HasFault mod_files bs f) → ((t : TableTerm) × mod_form.says bs t) ⊎ ((t : Trouble) × mod_form.fails bs t)
     go (inl (t, (at, v, has, is))) = inl (record { term = v; table = t }, (at, has, is))
     go (inr (f, has)) = inr (faulty f, has)
 

@@ -1,7 +1,7 @@
 -- The release of a `.rel` file; docs/RULES.md tells the limits.
 use Rattle.std.specs.Prelude.{◌≡◌, ℕ, List, if◌then◌else◌, Ok, Err}
 use Rattle.erl_term.specs.Value.{Value, value_of}
-use Rattle.rel_files.specs.File.{HasFileTerm, IsReleaseTerm, HasFault}
+use Rattle.rel_files.specs.File.{HasFileTerm, IsReleaseTerm, HasReleaseFault}
 use Rattle.rel_files.specs.Release.{Release, release_of}
 use Rattle.rel_files.specs.declared.reader.RelFile.{RelFile}
 use Rattle.rel_check.specs.Limits.{is_small}
@@ -19,7 +19,7 @@ abbrev pub found_of : RelFile → Found
 found_of f = record { release = release_of f.release; term = value_of f.term }
 
 abbrev pub rel_form : Form Found
-rel_form = record { says = λ bytes f. HasFileTerm bytes f.term × IsReleaseTerm f.term f.release; fails = λ bytes t. IsFault (HasFault bytes) t }
+rel_form = record { says = λ bytes f. HasFileTerm bytes f.term × IsReleaseTerm f.term f.release; fails = λ bytes t. IsFault (HasReleaseFault bytes) t }
 
 -- the release of a path
 abbrev pub ReleaseAt : Source → List ℕ → Outcome Found

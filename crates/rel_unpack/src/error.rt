@@ -55,7 +55,7 @@ pub enum UnpackError {
     /// The library of this application and version is there, with another specification or other tables.
     #[error("LibDiffers {0}")]
     LibDiffers(String),
-    /// This module has no table, or not one of the kind that a child or a top asks for.
+    /// This module, of a child, has no table or one of the other kind; or it is a top and has the table of a worker.
     #[error("NoTable {0}")]
     NoTable(String),
     /// A limit is passed.

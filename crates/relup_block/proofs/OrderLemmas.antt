@@ -1,6 +1,6 @@
 -- One choice after another.
 use Rattle.std.proofs.Common.{◌≡◌, refl, ap, sym, ◌∙◌, ℕ, List, [], ◌∷◌, ◌++◌, length, Some}
-use Rattle.std.proofs.lemmas.List.{append_assoc, append-nil}
+use Rattle.std.proofs.lemmas.List.{append_assoc}
 use Rattle.relup_block.specs.declared.order.ChoiceRule.{ChoiceRule}
 use Rattle.relup_block.specs.Order.{BlockItemForm, choice, choose_then, choices, order}
 use Rattle.relup_block.proofs.PermutationLemmas.{choice_length}
@@ -20,7 +20,3 @@ one_more_chosen rule left x rest before now all e grown is =
     ∙ (append_assoc before (x ∷ []) (order rule rest)
     ∙ (ap (λ (xs : List BlockItemForm). before ++ xs) (sym (order_more rule left x rest e))
     ∙ is))
-
--- nothing is left to choose
-pub none_chosen : (rule : ChoiceRule) (left before all : List BlockItemForm) → left ≡ [] → before ++ order rule left ≡ all → before ≡ all
-none_chosen rule left before all none is = sym (append-nil before) ∙ (ap (λ (xs : List BlockItemForm). before ++ order rule xs) (sym none) ∙ is)

@@ -1,4 +1,5 @@
--- The instructions of a block: consecutive updates and loads of modules, which are made together (OTP: appup(4); their order is this project's own).
+-- The instructions of a block: consecutive updates and loads of modules, which are made together (OTP: appup(4)).
+-- Which of them make a block, and their order, are this project's own.
 use Rattle.std.specs.Prelude.{ℕ, Bool, true, false, not, List, [], ◌∷◌, ◌++◌, map, reverse, Option, None, Some, filter}
 use Rattle.std.specs.List.{filter_map}
 use Rattle.relup_instruction.specs.declared.instruction.Timeout.{Timeout}

@@ -6,7 +6,7 @@ use Rattle.std.specs.Str.{bytes_eq}
 use Rattle.std.proofs.lemmas.Bool.{and_parts}
 use Rattle.std.proofs.lemmas.Slice.Eq.{bytes_eq-Decides}
 use Rattle.erl_term.specs.Value.{Value}
-use Rattle.rel_files.specs.Form.{AreAppTerms, app_form_of}
+use Rattle.rel_files.specs.Form.{AreAppSpecs, app_form_of}
 use Rattle.rel_files.specs.Name.{IsName, IsVersion}
 use Rattle.rel_files.specs.Release.{Application}
 use Rattle.app_file.specs.File.{Specification, has_few_modules}
@@ -66,7 +66,7 @@ gives_said form source path x (bytes, reads, says) = (bytes, says)
 abbrev IsNamed : Application → Type 0
 IsNamed a = IsName a.name × IsVersion a.vsn
 
-named_applications : (vs : List Value) (apps : List Application) → AreAppTerms vs (map app_form_of apps)
+named_applications : (vs : List Value) (apps : List Application) → AreAppSpecs vs (map app_form_of apps)
     → AllByRecursion (λ (a : Application). IsVersion a.vsn) apps → AllByRecursion IsNamed apps
 named_applications vs [] are versions = tt
 named_applications [] (a ∷ apps) are versions = absurd are

@@ -1,6 +1,6 @@
 -- The request of a relup has one answer where each path of the source has one, and has an answer where each path has one.
 use Rattle.std.proofs.Common.{◌≡◌, ◌⊎◌, inl, inr, ℕ, List, refl, sym, ap, ◌∙◌}
-use Rattle.rel_files.proofs.OneTermFiles.{says_one}
+use Rattle.rel_files.proofs.KindFiles.{says_one}
 use Rattle.rel_files.specs.Release.{Application}
 use Rattle.appup_file.proofs.FileLemmas.{one_fault, never_both, says_or_fault}
 use Rattle.appup_file.specs.File.{appup_files, SaysAppup, IsAppupFault}

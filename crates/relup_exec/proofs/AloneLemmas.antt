@@ -54,7 +54,7 @@ change_alike s mode (c ∷ cs) f g r same =
     ap₂ (λ (b : Bool) (o : Option Cause). if b then Some no_change else o) (stuck_alike (old_version s mode c.name r) c f g r same)
     (change_alike s mode cs f g (changed_once s mode c r) same)
 
-uses_alike : (name : List ℕ) (f g : Values) (r : Run) → Alike f g → uses_up f (users_in r) name r.courses ≡ uses_up g (users_in r) name r.courses
+pub uses_alike : (name : List ℕ) (f g : Values) (r : Run) → Alike f g → uses_up f (users_in r) name r.courses ≡ uses_up g (users_in r) name r.courses
 uses_alike name f g r same =
     any_alike _ _ slots (λ p inside. ap (λ x. runs name (users_in r p) && is_some (up_at (replay_from x (r.courses p).pending).now)) (same p inside))
 

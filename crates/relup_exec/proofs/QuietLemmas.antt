@@ -1,9 +1,9 @@
 -- Before the point of no return no block is added to a course.
 use Rattle.std.proofs.Common.{◌≡◌, ℕ, Bool, true, false, ◌&&◌, if◌then◌else◌, codes, List, [], ◌∷◌, Option, Some, None, not, refl, ap, ◌∙◌}
 use Rattle.std.specs.List.{AllByRecursion}
-use Rattle.worker_table.specs.Table.{OldVersion, WorkerTable}
+use Rattle.worker_table.specs.Table.{WorkerTable}
 use Rattle.held_processes.specs.Course.{Courses, Users, on_module}
-use Rattle.held_processes.specs.Course.Operation.{suspend, load, change}
+use Rattle.held_processes.specs.Course.Operation.{suspend, load}
 use Rattle.held_processes.proofs.CourseLemmas.{module_adds_no_block}
 use Rattle.relup_instruction.specs.declared.instruction.Direction.{Direction}
 use Rattle.relup_instruction.specs.Instruction as instruction
@@ -14,11 +14,12 @@ use Rattle.std.specs.Str.{bytes_eq}
 use Rattle.std.proofs.lemmas.Slice.Eq.{bytes_eq-Decides}
 use Rattle.script_progress.specs.Calls.{AppCall, app_call, child_call, first_atom, is_on_child}
 use Rattle.script_progress.specs.Calls.AppCall.{starts, stops, idle}
-use Rattle.script_progress.specs.Script.{Run, Site, call_after, called_after, child_after, change_courses, changed, changed_once, load_courses, mode_of, old_version, on_each, run_after, suspended_in, users_in, worker_in}
+use Rattle.script_progress.specs.Script.{Run, Site, call_after, called_after, child_after, changed, changed_once, load_courses, mode_of, old_version, on_each, run_after, suspended_in, users_in, worker_in}
 use Rattle.relup_exec.specs.Outcome.{Start, began_at, run_behind, run_through}
 use Rattle.script_progress.specs.Steps.{IsEarly, SameBlocks}
 use Rattle.script_progress.proofs.CallLemmas.{left_true, right_true}
 use Rattle.relup_exec.proofs.RunLemmas.{not_the_point}
+use Rattle.script_steps.proofs.CourseLemmas.{change_same}
 
 -- a call that raises an error does nothing
 errors_do_nothing : (s : Site) (c : CallForm) (b : Bool) (r : Run) → IsEarly (instruction.Instruction.apply c) → call_after s c b r ≡ r
@@ -39,10 +40,6 @@ each_same (m ∷ ms) users cs p = each_same ms users (on_module users m suspend 
 loads_same : (name : List ℕ) (w : Option WorkerTable) (users : Users) (cs : Courses) → SameBlocks cs (load_courses true name w users cs)
 loads_same name None users cs p = refl
 loads_same name (Some w) users cs p = module_adds_no_block users name (load true w) cs tt p
-
-change_same : (name : List ℕ) (old : Option OldVersion) (c : ChangeForm) (users : Users) (cs : Courses) → SameBlocks cs (change_courses name old c users cs)
-change_same name None c users cs p = refl
-change_same name (Some old) c users cs p = module_adds_no_block users name (change old c.extra) cs tt p
 
 changed_same : (s : Site) (mode : Direction) (cs : List ChangeForm) (r : Run) → SameBlocks r.courses (changed s mode cs r).courses
 changed_same s mode [] r p = refl

@@ -93,10 +93,6 @@ behind_point [] rest true = still_behind rest
 behind_point [] rest false = still_behind rest
 behind_point (i ∷ front) rest e = behind_point front rest (e && not (is_point i))
 
-pub is_the_point : (i : Instruction) → is_point i ≡ true → i ≡ point_of_no_return
-is_the_point point_of_no_return e = refl
-is_the_point i e = absurd (cc e)
-
 early_or_point : (before after front : List Instruction) (i : Instruction) (rest : List Instruction) → AllByRecursion IsEarly before → AllByRecursion IsEarly front
     → before ++ (point_of_no_return ∷ after) ≡ front ++ (i ∷ rest) → IsEarly i ⊎ (i ≡ point_of_no_return)
 early_or_point [] after [] i rest early so_far e = inr (sym (cc e))

@@ -6,10 +6,10 @@ use Rattle.erl_term.specs.Value.Value.{list}
 use Rattle.rel_files.specs.Parts.{list_in, triple_in}
 use Rattle.rel_files.proofs.Options.{mapped, chained}
 use Rattle.rel_files.specs.Sketch.{version_in}
+use Rattle.rel_files.specs.Terms.{triple_term}
 use Rattle.relup_instruction.specs.Instruction.{Instruction}
-use Rattle.relup_instruction.specs.Form.{triple_term}
 use Rattle.relup_instruction.specs.Parts.{script_in}
-use Rattle.relup_instruction.proofs.Pieces.{from_list, from_triple, version_in-text, from_version}
+use Rattle.rel_files.proofs.TermParts.{from_list, from_triple, version_in-text, from_version}
 use Rattle.relup_instruction.proofs.InstructionLemmas.{script_in-terms, from_script}
 use Rattle.relup_file.specs.Relup.{EntryForm}
 use Rattle.relup_file.specs.Form.{IsEntryTerm, AreEntryTerms}

@@ -6,12 +6,13 @@ use Rattle.erl_term.specs.Grammar.{Reading, Reads}
 use Rattle.erl_term.specs.Faults.{IsFault}
 use Rattle.erl_term.proofs.Exact.{one_reading, never_both as reads_or_fails, reads_or_fault}
 use Rattle.erl_term.proofs.OneFault.{one_fault as one_term_fault}
+use Rattle.rel_files.proofs.OneTermFile.{one_term}
 use Rattle.rel_files.specs.declared.fault.FileFault.{FileFault}
 use Rattle.rel_files.specs.declared.fault.FileFault.TheVariants as file
 use Rattle.rel_files.specs.Fault.{Fault}
 use Rattle.rel_files.specs.Fault.Fault.{bad_term, bad_shape, duplicate, bad_version}
 use Rattle.rel_files.specs.File.{HasFileTerm}
-use Rattle.rel_files.specs.Kind.{HasNoTerm, IsCountFault}
+use Rattle.rel_files.specs.OneTermFile.{HasNoTerm, IsCountFault}
 use Rattle.relup_file.specs.declared.fault.RelupFault.{RelupFault}
 use Rattle.relup_file.specs.declared.fault.RelupFault.TheVariants.{BadTerm, BadShape, NoMemory}
 use Rattle.relup_file.specs.Fault.{relup_fault_of_file}
@@ -66,9 +67,6 @@ term_fault bytes v NoMemory has h = absurd h
 -- the term of a file says what the file says
 pub says_term : (bytes : List ℕ) (v : Value) (r : RelupForm) → ((w : Value) → HasFileTerm bytes w → v ≡ w) → SaysRelup bytes r → IsRelupTerm v r
 says_term bytes v r only (w, has, is) = subst (λ (x : Value). IsRelupTerm x r) (sym (only w has)) is
-
-one_term : (bytes : List ℕ) (r s : Reading) → Reads 64 bytes (r ∷ []) → Reads 64 bytes (s ∷ []) → r ≡ s
-one_term bytes r s p q = let same : r ∷ [] ≡ s ∷ [] = one_reading 64 bytes (r ∷ []) (s ∷ []) p q in cc
 
 -- what is read of the term of a file that says a relup
 read_as : (bytes : List ℕ) (p : Reading) (r : RelupForm) → Reads 64 bytes (p ∷ []) → SaysRelup bytes r → relup_in p.term ≡ Ok r

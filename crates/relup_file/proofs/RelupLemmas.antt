@@ -7,9 +7,10 @@ use Rattle.erl_term.specs.Value.Value.{list}
 use Rattle.rel_files.specs.Parts.{list_in, triple_in}
 use Rattle.rel_files.specs.Sketch.{count, version_in}
 use Rattle.rel_files.proofs.Options.{mapped, chained}
+use Rattle.rel_files.specs.Terms.{triple_term}
 use Rattle.relup_instruction.specs.Instruction.{Instruction}
-use Rattle.relup_instruction.specs.Form.{triple_term, instruction_term, SpellsScript}
-use Rattle.relup_instruction.proofs.Pieces.{from_list, from_triple, version_in-text, from_version}
+use Rattle.relup_instruction.specs.Form.{instruction_term, SpellsScript}
+use Rattle.rel_files.proofs.TermParts.{from_list, from_triple, version_in-text, from_version}
 use Rattle.relup_instruction.proofs.InstructionLemmas.{list_of_values}
 use Rattle.relup_file.specs.declared.fault.RelupFault.{RelupFault}
 use Rattle.relup_file.specs.declared.fault.RelupFault.TheVariants.{BadTerm, BadShape, NoMemory}

@@ -1,8 +1,9 @@
 -- The entries of a relup, one after another.
-use Rattle.std.proofs.Common.{◌≡◌, ℕ, ◌+◌, ◌<◌, ◌≤◌, suc, ◌++◌, List, [], ◌∷◌, length, map, drop, get_or, Some, None, Result, Ok, Err, MatchResult, IsErr, IsErrAnd, refl, sym, ap, subst, ◌∙◌, append_assoc, arith}
+use Rattle.std.proofs.Common.{◌≡◌, ℕ, ◌+◌, ◌<◌, ◌≤◌, ◌++◌, List, [], ◌∷◌, length, map, drop, get_or, Some, None, Result, Ok, Err, MatchResult, IsErr, IsErrAnd, refl, sym, ap, subst, ◌∙◌, append_assoc, arith}
 use Rattle.std.proofs.lemmas.List.{append-nil, drop_all, drop_more, map-append}
 use Rattle.erl_term.specs.declared.term.Term.{Term}
 use Rattle.erl_term.specs.Value.{Value, Values, value_of, members_of}
+use Rattle.rel_files.proofs.Members.{count-members_of}
 use Rattle.rel_files.specs.Sketch.{count}
 use Rattle.relup_file.specs.declared.fault.RelupFault.{RelupFault}
 use Rattle.relup_file.specs.declared.fault.RelupFault.TheVariants.{BadTerm, BadShape, NoMemory}
@@ -57,17 +58,13 @@ entries_bad before terms i term front all within at none so_far =
     ∙ (ap (λ (ts : List Term). behind front (entries_in (before + i) (members_of ts))) (sym split) ∙ so_far) in
     subst (λ (o : Result (List EntryForm) ℕ). TellsBad o (BadShape (before + i + 1))) bad refl
 
-count-members : (ts : List Term) → count (members_of ts) ≡ length ts
-count-members [] = refl
-count-members (t ∷ ts) = ap suc (count-members ts)
-
 -- a relup whose upgrades are read
 parts : (v : Value) (o : Outer) (ups : List Term) (us : List EntryForm) → Some o ≡ outer_in v → o.ups ≡ members_of ups → entries_in 0 (members_of ups) ≡ Ok us
     → relup_in v ≡ join o.vsn (Ok us) (entries_in (length ups) o.downs)
 parts v o ups us outer is read =
     ap from_outer (sym outer)
     ∙ (λ j. join o.vsn (entries_in 0 (is j)) (entries_in (count (is j)) o.downs))
-    ∙ (λ j. join o.vsn (read j) (entries_in (count-members ups j) o.downs))
+    ∙ (λ j. join o.vsn (read j) (entries_in (count-members_of ups j) o.downs))
 
 pub both_read : (v : Value) (o : Outer) (ups : List Term) (us ds : List EntryForm) → Some o ≡ outer_in v → o.ups ≡ members_of ups → entries_in 0 (members_of ups) ≡ Ok us
     → entries_in (length ups) o.downs ≡ Ok ds → relup_in v ≡ Ok (record { vsn = o.vsn; ups = us; downs = ds })

@@ -2,10 +2,10 @@
 use Rattle.std.specs.Prelude.{◌≡◌, ℕ, List, [], ◌∷◌, map}
 use Rattle.std.specs.List.{AllByRecursion}
 use Rattle.erl_term.specs.Value.{Value}
-use Rattle.rel_files.specs.Form.{list_of}
 use Rattle.rel_files.specs.Name.{IsVersion}
+use Rattle.rel_files.specs.Terms.{list_of, triple_term, text_term}
 use Rattle.relup_instruction.specs.Instruction.{Instruction}
-use Rattle.relup_instruction.specs.Form.{triple_term, text_term, instruction_term, IsInstruction, SpellsScript}
+use Rattle.relup_instruction.specs.Form.{instruction_term, IsInstruction, SpellsScript}
 use Rattle.relup_file.specs.Relup.{EntryForm, RelupForm}
 
 -- {Vsn, Descr, [Instr]}

@@ -3,7 +3,7 @@ ghost use Rattle.std.specs.Prelude.{◌≡◌, ◌++◌, IfOk, codes, map, strin
 ghost use Rattle.erl_term.specs.Printing.{text_of};
 ghost use Rattle.erl_term.specs.Value.{value_of};
 ghost use Rattle.erl_term.specs.Within.{IsWithin};
-ghost use Rattle.rel_files.specs.Form.{list_of};
+ghost use Rattle.rel_files.specs.Terms.{list_of};
 ghost use Rattle.relup_instruction.specs.Instruction.{script_of};
 ghost use Rattle.relup_instruction.specs.Form.{instruction_term};
 ghost use Rattle.relup_file.specs.Relup.{entry_of, relup_of};
@@ -12,7 +12,7 @@ ghost use Rattle.relup_file.specs.File.{SaysRelup};
 
 use crate::{Relup, RelupEntry};
 use erl_term::{Term, print};
-use relup_instruction::terms::{text_term, triple_term};
+use rel_files::terms::{text_term, triple_term};
 use relup_instruction::{Instr, instruction_term};
 use std::alloc::{AllocError, Global};
 

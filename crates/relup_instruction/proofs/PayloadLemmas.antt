@@ -6,17 +6,18 @@ use Rattle.erl_term.specs.Value.{Value, Values}
 use Rattle.erl_term.specs.Value.Value.{atom, list}
 use Rattle.erl_term.specs.Value.Values.{no_values, value}
 use Rattle.rel_files.specs.Name.{IsName}
-use Rattle.rel_files.specs.Form.{list_of}
 use Rattle.rel_files.specs.Parts.{list_in, pair_in, triple_in, word_in}
 use Rattle.rel_files.specs.Sketch.{name_in, version_in, names_in}
 use Rattle.rel_files.proofs.Options.{mapped, chained}
+use Rattle.rel_files.specs.Terms.{list_of, pair_term, triple_term, text_term, atoms_term}
 use Rattle.relup_instruction.specs.declared.instruction.Direction.{Direction}
 use Rattle.relup_instruction.specs.declared.instruction.Timeout.{Timeout}
 use Rattle.relup_instruction.specs.declared.instruction.PurgeMode.{PurgeMode}
 use Rattle.relup_instruction.specs.Instruction.{FetchForm, SuspensionForm, PurgingForm, ChangeForm, ConversionForm, CallForm}
-use Rattle.relup_instruction.specs.Form.{one, pair_term, triple_term, text_term, atoms_term, purge_word, timeout_term, limited_term, fetch_term, suspension_term, purging_term, change_term, mode_members, conversion_members, call_term, IsFetch, IsSuspension, IsChange}
+use Rattle.relup_instruction.specs.Form.{one, purge_word, timeout_term, limited_term, fetch_term, suspension_term, purging_term, change_term, mode_members, conversion_members, call_term, IsFetch, IsSuspension, IsChange}
 use Rattle.relup_instruction.specs.Parts.{all_in, one_in, purge_mode_in, mode_in, timeout_in, fetch_in, limited_in, suspension_in, suspensions_in, purging_in, change_in, changes_in, with_changes, with_mode, conversion_in, call_in}
-use Rattle.relup_instruction.proofs.Pieces.{all_in-terms, from_all, from_list, from_one, from_pair, from_triple, from_word, name_in-atom, from_name, names_in-atoms, from_names_in, version_in-text, from_version, purge_mode_of-word, from_purge_mode, direction_of-word, from_mode, timeout_in-term, from_timeout}
+use Rattle.rel_files.proofs.TermParts.{from_list, from_pair, from_triple, from_word, name_in-atom, from_name, names_in-atoms, from_names_in, version_in-text, from_version}
+use Rattle.relup_instruction.proofs.Pieces.{all_in-terms, from_all, from_one, purge_mode_of-word, from_purge_mode, direction_of-word, from_mode, timeout_in-term, from_timeout}
 
 abbrev fetched : List ℕ → List ℕ → List (List ℕ) → FetchForm
 fetched app vsn modules = record { app = app; vsn = vsn; modules = modules }

@@ -4,7 +4,7 @@ use Rattle.std.specs.List.{AllByRecursion}
 use Rattle.erl_term.specs.Value.{Value, Values}
 use Rattle.erl_term.specs.Value.Value.{int, atom, list, tuple}
 use Rattle.erl_term.specs.Value.Values.{no_values, value}
-use Rattle.rel_files.specs.Form.{list_of, numbers_term, numbers_of}
+use Rattle.rel_files.specs.Terms.{list_of, pair_term, triple_term, text_term, atoms_term}
 use Rattle.rel_files.specs.Name.{IsName, IsVersion}
 use Rattle.relup_instruction.specs.declared.instruction.Direction.{Direction}
 use Rattle.relup_instruction.specs.declared.instruction.Direction.TheVariants.{Up, Down}
@@ -18,23 +18,9 @@ use Rattle.relup_instruction.specs.Instruction.Instruction.{load_object_code, po
 abbrev pub one : Value → Values
 one v = value v no_values
 
-abbrev pub pair_term : Value → Value → Value
-pair_term v w = tuple (value v (one w))
-
-abbrev pub triple_term : Value → Value → Value → Value
-triple_term v w x = tuple (value v (value w (one x)))
-
 -- a tuple that begins with this word
 abbrev pub command : List ℕ → Values → Value
 command word vs = tuple (value (atom word) vs)
-
--- a text, as the list of its characters
-abbrev pub text_term : List ℕ → Value
-text_term s = numbers_term (numbers_of s)
-
--- a list of atoms
-abbrev pub atoms_term : List (List ℕ) → Value
-atoms_term names = list_of (map atom names)
 
 abbrev pub purge_word : PurgeMode → List ℕ
 purge_word Soft = codes "soft_purge"

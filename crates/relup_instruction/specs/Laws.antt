@@ -1,5 +1,5 @@
 -- Laws of instructions and scripts.
-use Rattle.std.specs.Prelude.{◌≡◌, List, Option, Some}
+use Rattle.std.specs.Prelude.{◌≡◌, List, Some}
 use Rattle.erl_term.specs.Value.{Value, Values, values_of}
 use Rattle.relup_instruction.specs.Instruction.{Instruction}
 use Rattle.relup_instruction.specs.Form.{instruction_term, IsInstruction, SpellsScript}

@@ -4,18 +4,17 @@
 //! instruction. What is read keeps all that the term has. [`script_in`] gives the script of a list of instructions; that of
 //! no instructions is the point of no return alone.
 //! The functions of `laws` say of both that nothing else is read.
-//! [`instruction_in`] and `members` are what readers of files with instructions share, and `terms` what printers need too.
+//! [`instruction_in`] and `words` are what readers of files with instructions share.
 //!
 //! Only tested: that an instruction is read and written where memory is there. Trusted: the toolchain alone.
 #![tactic(auto)]
 
 mod instruction;
 pub mod laws;
-pub mod members;
 mod payloads;
 mod spelling;
 mod steps;
-pub mod terms;
+pub mod words;
 
 pub use instruction::{
     Call, Change, Conversion, Direction, Fetch, Instr, PurgeMode, Purging, Suspension, Timeout,

@@ -3,14 +3,24 @@ ghost use Rattle.std.specs.Prelude.{◌≡◌, IfOk, map};
 ghost use Rattle.std.specs.Option.{option_map};
 ghost use Rattle.erl_term.specs.Value.{members_of, value_of};
 ghost use Rattle.relup_instruction.specs.Instruction.{fetch_of, suspension_of, purging_of, change_of, conversion_of, call_of};
-ghost use Rattle.relup_instruction.specs.Parts.{all_in, fetch_in, limited_in, suspension_in, suspensions_in, purging_in, change_in, changes_in, with_changes, with_mode, conversion_in, call_in};
+ghost use Rattle.relup_instruction.specs.Parts.{all_in, one_in, fetch_in, limited_in, suspension_in, suspensions_in, purging_in, change_in, changes_in, with_changes, with_mode, conversion_in, call_in};
 
-use crate::members::{mode_in, one_in, purge_mode_in, timeout_in};
+use crate::words::{mode_in, purge_mode_in, timeout_in};
 use crate::{Call, Change, Conversion, Direction, Fetch, Purging, Suspension};
 use erl_term::{Term, copy_terms};
 use rel_files::parts::{list_in, pair_in, triple_in, word_in};
 use rel_files::text::{name_in, names_in, version_in};
 use std::alloc::{AllocError, Global};
+
+// The only term of a row of one.
+pub(crate) fn one_in(members: &[Term]) -> Option<&Term>
+    ensures { option_map (λ t. value_of t.now) result ≡ one_in (members_of members.now) }
+{
+    match members {
+        [only] => Some(only),
+        _ => None,
+    }
+}
 
 // `{App, Vsn, [Mod]}`.
 pub(crate) fn fetch_in(alloc: Global, term: &Term) -> Result<Option<Fetch>, AllocError>

@@ -1,16 +1,24 @@
 //! The terms of instructions.
 ghost use Rattle.std.specs.Prelude.{◌≡◌, IfOk, codes, map, string_bytes};
 ghost use Rattle.erl_term.specs.Value.{members_of, value_of};
-ghost use Rattle.rel_files.specs.Form.{list_of};
+ghost use Rattle.rel_files.specs.Terms.{list_of, atoms_term};
 ghost use Rattle.relup_instruction.specs.Instruction.{fetch_of, suspension_of, purging_of, change_of, conversion_of, call_of, instruction_of};
-ghost use Rattle.relup_instruction.specs.Form.{one, command, atoms_term, purge_word, direction_word, timeout_term, fetch_term, suspension_term, purging_term, change_term, conversion_members, call_term, instruction_term};
+ghost use Rattle.relup_instruction.specs.Form.{one, command, purge_word, direction_word, timeout_term, fetch_term, suspension_term, purging_term, change_term, conversion_members, call_term, instruction_term};
 
-use crate::terms::{atom_term, atoms_term, command, pair_term, text_term, triple_term};
 use crate::{
     Call, Change, Conversion, Direction, Fetch, Instr, PurgeMode, Purging, Suspension, Timeout,
 };
 use erl_term::{Term, copy_terms};
+use rel_files::terms::{atom_term, atoms_term, pair_term, text_term, triple_term};
 use std::alloc::{AllocError, Global};
+
+// A word and one term.
+fn command(alloc: Global, word: &str, only: Term) -> Result<Term, AllocError>
+    ensures { IfOk result (λ t. value_of t ≡ command word.now (one (value_of only))) }
+{
+    let word = atom_term(alloc, word)?;
+    pair_term(alloc, word, only)
+}
 
 fn purge_word(mode: PurgeMode) -> &'static str
     ensures { result.now ≡ purge_word mode }

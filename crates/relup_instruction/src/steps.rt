@@ -7,8 +7,7 @@ ghost use Rattle.relup_instruction.specs.Instruction.{instruction_of, script_of}
 ghost use Rattle.relup_instruction.specs.Parts.{all_in, bare_in, over_modules, single_in, other_single_in, tagged_in, instruction_in, script_in};
 
 use crate::Instr;
-use crate::members::one_in;
-use crate::payloads::{call_in, conversion_in, fetch_in, purging_in, suspensions_in};
+use crate::payloads::{call_in, conversion_in, fetch_in, one_in, purging_in, suspensions_in};
 use erl_term::{Term, copy_terms};
 use rel_files::text::names_in;
 use std::alloc::{AllocError, Global};

@@ -97,7 +97,7 @@ are_late [] h = tt
 are_late (i ∷ is) h = (follows_so (is_end is) i h.0, are_late is h.1)
 
 -- Points of no return.
-the_point : (i : Instruction) → is_point i ≡ true → i ≡ point_of_no_return
+pub the_point : (i : Instruction) → is_point i ≡ true → i ≡ point_of_no_return
 the_point point_of_no_return e = refl
 the_point i e = absurd cc
 

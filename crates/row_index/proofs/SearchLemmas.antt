@@ -50,9 +50,6 @@ pub row_at : (entries : List Entry) (at : ℕ) → at < length entries → slice
 row_at entries at within = slice_get-map row_of entries at ∙ ap (option_map row_of) (slice_get-get_or entries at _ within)
 
 -- ---- what a search costs
-pub nothing_spent : (size : ℕ) → IsHalved size size 0
-nothing_spent size = record { halved = omega arith; cost = omega arith }
-
 -- one comparison more leaves at most half
 pub halve : (rows left part spent : ℕ) → 0 < left → part ≤ left / 2 → IsHalved rows left spent → IsHalved rows part (suc spent)
 halve rows left part spent some half h = record {

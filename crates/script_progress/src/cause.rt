@@ -15,11 +15,11 @@ pub enum Cause {
     NoModule,
     /// No instruction fetched the module before.
     NotFetched,
-    /// A process runs the module, and no table of a worker was fetched; or no table is loaded, or one of the other kind, for a child
-    /// or a top that begins.
+    /// A process runs the module, and no table of a worker was fetched; or for a child that begins no table is loaded, or one of the
+    /// other kind, or a top has the table of a worker.
     NoTable,
-    /// A process of the module is held, and no row of its table says how its code is changed, or there is no version to change
-    /// it from.
+    /// A process of the module is held and up, and no row of its table says how its code is changed; or one is held, and there is
+    /// no version to change it from or to.
     NoChange,
     /// The script itself raised an error, with this term.
     Raised(Term),

@@ -9,7 +9,8 @@
 //! [`apply`] makes a call behind the point of no return: an application is started or stopped, a child of a supervisor ends, goes
 //! or begins again, or the script raises an error, as [`raise`] does before the point. A call that takes a child away, or begins
 //! it again, leaves one that is up as it is, and `apply` tells which it did, since what the rest of a script does goes by that
-//! (`carried`).
+//! (`carried`). Where it fails, of the progress only what is held is said, so that it can be given back.
+//!
 //! Only tested: that a script begins, that a call is made, and that a cause is shown, where memory is there. Trusted: the
 //! toolchain alone.
 #![tactic(auto)]

@@ -56,7 +56,7 @@ load_within_same : (name : List ℕ) (w : Option WorkerTable) (slot : ℕ) (user
 load_within_same name None slot users cs p = refl
 load_within_same name (Some w) slot users cs p = part_way_adds_no_block slot users name (load true w) cs tt p
 
-change_same : (name : List ℕ) (old : Option OldVersion) (c : ChangeForm) (users : Users) (cs : Courses) → SameBlocks cs (change_courses name old c users cs)
+pub change_same : (name : List ℕ) (old : Option OldVersion) (c : ChangeForm) (users : Users) (cs : Courses) → SameBlocks cs (change_courses name old c users cs)
 change_same name None c users cs p = refl
 change_same name (Some old) c users cs p = module_adds_no_block users name (change old c.extra) cs tt p
 

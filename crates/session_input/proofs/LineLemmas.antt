@@ -49,10 +49,6 @@ IsSoFar most is_begun line None now = Unit {0}
 IsSoFar most is_begun line (Some old) None = ⊥
 IsSoFar most is_begun line (Some old) (Some now) = SoFar most is_begun line old now
 
-pub no_bytes : (most : ℕ) (line : Line) (old : Option (Feed (List ℕ))) → IsKept most line [] → IsSoFar most false line old old
-no_bytes most line None k = tt
-no_bytes most line (Some old) k = record { bytes = []; begun = refl; is = refl; kept = k }
-
 some_bytes : (xs : List ℕ) (b : ℕ) → is_some_list (xs ++ b ∷ []) ≡ true
 some_bytes [] b = refl
 some_bytes (x ∷ xs) b = refl
@@ -104,19 +100,6 @@ ends_at_end most is_begun line (Some old) (Some now) (Some new) b s (was, is) = 
   s.is ∙ ap (λ f. onto_all s.bytes (lines_of f)) was ∙ onto_all-over s.bytes (s.begun ∙ b) ∙ ap (λ f. next s.bytes (lines_of f)) (sym is),
   s.kept,
 )
-
-nothing_before : (xs : List ℕ) (ls : Feed (List ℕ)) → is_some_list xs ≡ false → onto_all xs ls ≡ ls
-nothing_before [] ls e = refl
-nothing_before (x ∷ xs) ls e = absurd cc
-
--- there is none
-pub no_line : (most : ℕ) (line : Line) (old : Option (Feed (List ℕ))) (now new : Option (Feed ℕ))
-    → IsSoFar most false line old (option_map lines_of now) → EndsAs over now new → EndsAs over old (option_map lines_of new)
-no_line most line None now new s e = tt
-no_line most line (Some old) None new s e = absurd s
-no_line most line (Some old) (Some now) None s e = absurd e
-no_line most line (Some old) (Some now) (Some new) s (was, is) =
-    (s.is ∙ nothing_before s.bytes (lines_of now) s.begun ∙ ap lines_of was, ap lines_of is)
 
 -- it is cut off
 pub cut_within : (most : ℕ) (is_begun : Bool) (line : Line) (old : Option (Feed (List ℕ))) (now new : Option (Feed ℕ))

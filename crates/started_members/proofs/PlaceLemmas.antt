@@ -19,10 +19,6 @@ pub in_front-none : (o : Option Place) → in_front [] o ≡ o
 in_front-none None = refl
 in_front-none (Some p) = refl
 
-pub in_front-last : (ms : List Member) (m : Member) (o : Option Place) → in_front (ms ++ m ∷ []) o ≡ in_front ms (one_further m o)
-in_front-last ms m None = refl
-in_front-last ms m (Some p) = ap (λ bs. Some (record p { before = bs })) (append_assoc ms (m ∷ []) p.before)
-
 in_front-more : (m : Member) (ms : List Member) (o : Option Place) → one_further m (in_front ms o) ≡ in_front (m ∷ ms) o
 in_front-more m ms None = refl
 in_front-more m ms (Some p) = refl

@@ -1,39 +1,19 @@
 -- The application with the supervisor of a child.
-use Rattle.std.proofs.Common.{◌≡◌, ℕ, suc, ◌+◌, ◌<◌, ◌≤◌, Bool, true, false, List, [], ◌∷◌, ◌++◌, length, map, take, drop, Some, None, if◌then◌else◌, slice_index_or, slice_set, refl, ap, sym, ◌∙◌, arith, append_assoc, append-nil}
-use Rattle.std.specs.List.{find}
+use Rattle.std.proofs.Common.{◌≡◌, ℕ, suc, ◌+◌, ◌<◌, Bool, true, false, List, [], ◌∷◌, ◌++◌, length, map, take, drop, Option, Some, None, ◌==◌, ◌||◌, if◌then◌else◌, slice_index_or, slice_set, refl, ap, sym, ◌∙◌, arith}
+use Rattle.std.specs.List.{filter, find, flat_map, list_any}
 use Rattle.std.specs.Option.{option_and_then}
-use Rattle.std.proofs.lemmas.List.{drop_all, drop_more, get_or_read, map-append, set_split, take_all, take_more}
+use Rattle.std.proofs.lemmas.List.{drop_more, get_or_read, map-append, set_split}
 use Rattle.std.proofs.Math.Seq.{map-set_same}
 use Rattle.sup_tree.specs.declared.tree.StartedApp.{StartedApp}
 use Rattle.started_members.specs.Places.{Change, child_in, members_with}
-use Rattle.sup_tree.specs.Children.{IsPlaceOfSuper, SupervisesAt, app_with, apps_with, child_place}
+use Rattle.sup_tree.specs.Children.{has_one_supervisor, IsPlaceOfOnlySuper, IsPlaceOfSuper, SupervisesAt, app_with, apps_with, child_place}
 use Rattle.sup_tree.specs.Tree.{App, app_of}
-use Rattle.started_members.specs.Members.{supervises_in}
+use Rattle.started_members.specs.Members.{supervises_in, supervisors_in}
 
 -- no application so far has a supervisor of the module
 pub record NoneSoFar (name : List ℕ) (apps : List StartedApp) (place : ℕ) : Type 0 where
   pub found : find (λ (a : App). supervises_in name a.members) (map app_of apps) ≡ find (λ (a : App). supervises_in name a.members) (map app_of (drop place apps))
   pub left : (f : Change) (id : List ℕ) → apps_with f name id (map app_of apps) ≡ map app_of (take place apps) ++ apps_with f name id (map app_of (drop place apps))
-
-pub none_yet : (name : List ℕ) (apps : List StartedApp) → NoneSoFar name apps 0
-none_yet name apps = record { found = refl; left = λ f id. refl }
-
--- nor has this one
-pub nor_here : (name : List ℕ) (apps : List StartedApp) (place : ℕ) (a : StartedApp) → place < length apps → a ≡ slice_index_or apps place a → supervises_in name a.members.items ≡ false
-    → NoneSoFar name apps place → NoneSoFar name apps (place + 1)
-nor_here name apps place a inside at other so_far =
-    let rest = drop (place + 1) apps in
-    let split : drop place apps ≡ a ∷ rest = drop_more apps place a inside ∙ ap (λ x. x ∷ rest) (sym at) in
-    let more : take (place + 1) apps ≡ take place apps ++ a ∷ [] = take_more apps place a inside ∙ ap (λ x. take place apps ++ x ∷ []) (sym at) in
-    record {
-      found = so_far.found ∙ (ap (λ l. find (λ (x : App). supervises_in name x.members) (map app_of l)) split
-          ∙ ap (λ b. if b then Some (app_of a) else find (λ (x : App). supervises_in name x.members) (map app_of rest)) other);
-      left = λ f id. so_far.left f id
-          ∙ (ap (λ l. map app_of (take place apps) ++ apps_with f name id (map app_of l)) split
-          ∙ (ap (λ b. map app_of (take place apps) ++ (if b then app_with f name id (app_of a) ∷ map app_of rest else app_of a ∷ apps_with f name id (map app_of rest))) other
-          ∙ (sym (append_assoc (map app_of (take place apps)) (app_of a ∷ []) (apps_with f name id (map app_of rest)))
-          ∙ ap (λ l. l ++ apps_with f name id (map app_of rest)) (sym (ap (map app_of) more ∙ map-append app_of (take place apps) (a ∷ []))))));
-    }
 
 -- this one has
 pub super_here : (name : List ℕ) (apps : List StartedApp) (place : ℕ) (a : StartedApp) → place < length apps → a ≡ slice_index_or apps place a → supervises_in name a.members.items ≡ true
@@ -55,13 +35,29 @@ super_here name apps place a inside at super so_far =
           ∙ ap (λ t. map app_of (take place apps) ++ (if t then app_with f name id (app_of a) ∷ map app_of rest else app_of a ∷ apps_with f name id (map app_of rest))) super))));
     }
 
--- no application has one
-pub none_at_all : (name : List ℕ) (apps : List StartedApp) (place : ℕ) → length apps ≤ place → NoneSoFar name apps place → IsPlaceOfSuper name apps None
-none_at_all name apps place past so_far =
-    let none = drop_all place apps past in (
-      so_far.found ∙ ap (λ l. find (λ (x : App). supervises_in name x.members) (map app_of l)) none,
-      λ f id. so_far.left f id ∙ ((λ j. map app_of (take_all place apps past j) ++ apps_with f name id (map app_of (none j))) ∙ append-nil (map app_of apps)),
-    )
+none_kept : {A : Type 0} (p : A → Bool) (xs : List A) → list_any p xs ≡ false → filter p xs ≡ []
+none_kept p [] none = refl
+none_kept {A} p (x ∷ xs) none = go (p x) none (none_kept p xs)
+  where
+    go : (b : Bool) → (b || list_any p xs) ≡ false → (list_any p xs ≡ false → filter p xs ≡ []) → (if b then x ∷ filter p xs else filter p xs) ≡ []
+    go true wrong later = absurd cc
+    go false behind later = later behind
+
+-- where no application has a supervisor of the module, none is started
+no_supers : (name : List ℕ) (apps : List App) → find (λ (a : App). supervises_in name a.members) apps ≡ None → flat_map (λ (a : App). supervisors_in name a.members) apps ≡ []
+no_supers name [] none = refl
+no_supers name (a ∷ as') none = go (supervises_in name a.members) refl none (no_supers name as')
+  where
+    go : (b : Bool) → supervises_in name a.members ≡ b → (if b then Some a else find (λ (x : App). supervises_in name x.members) as') ≡ None
+        → (find (λ (x : App). supervises_in name x.members) as' ≡ None → flat_map (λ (x : App). supervisors_in name x.members) as' ≡ [])
+        → flat_map (λ (x : App). supervisors_in name x.members) (a ∷ as') ≡ []
+    go true is wrong later = absurd cc
+    go false is behind later = λ j. none_kept _ a.members is j ++ later behind j
+
+-- so where exactly one is, its application has a place
+pub only_super : (name : List ℕ) (apps : List StartedApp) (o : Option ℕ) → has_one_supervisor name (map app_of apps) ≡ true → IsPlaceOfSuper name apps o → IsPlaceOfOnlySuper name apps o
+only_super name apps None one none = absurd (let wrong : false ≡ true = sym (ap (λ l. length l == 1) (no_supers name (map app_of apps) none)) ∙ one in cc)
+only_super name apps (Some place) one at = (one, at)
 
 -- the child is that of the application which was found
 pub child_there : (name id : List ℕ) (apps : List StartedApp) (place : ℕ) (a : StartedApp) → SupervisesAt name apps place → a ≡ slice_index_or apps place a

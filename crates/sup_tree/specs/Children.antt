@@ -76,7 +76,10 @@ pub record SupervisesAt (name : List ℕ) (apps : List StartedApp) (place : ℕ)
 
 -- where it stands; or no application has such a supervisor
 abbrev pub IsPlaceOfSuper : List ℕ → List StartedApp → Option ℕ → Type 0
-IsPlaceOfSuper name apps None =
-    (find (λ (a : App). supervises_in name a.members) (map app_of apps) ≡ None)
-    × ((f : Change) (id : List ℕ) → apps_with f name id (map app_of apps) ≡ map app_of apps)
+IsPlaceOfSuper name apps None = find (λ (a : App). supervises_in name a.members) (map app_of apps) ≡ None
 IsPlaceOfSuper name apps (Some place) = SupervisesAt name apps place
+
+-- where the only one stands; or not exactly one supervisor of the module is started
+abbrev pub IsPlaceOfOnlySuper : List ℕ → List StartedApp → Option ℕ → Type 0
+IsPlaceOfOnlySuper name apps None = has_one_supervisor name (map app_of apps) ≡ false
+IsPlaceOfOnlySuper name apps (Some place) = (has_one_supervisor name (map app_of apps) ≡ true) × SupervisesAt name apps place

@@ -1,6 +1,7 @@
 //! Children of started supervisors.
-ghost use Rattle.std.specs.Prelude.{◌≡◌, []};
-ghost use Rattle.sup_tree.specs.Children.{DeletesChild, IsPlaceOfSuper, TerminatesChild, child_members, has_one_supervisor};
+ghost use Rattle.std.specs.Prelude.{◌≡◌, [], map};
+ghost use Rattle.sup_tree.specs.Children.{DeletesChild, IsPlaceOfOnlySuper, IsPlaceOfSuper, TerminatesChild, child_members, has_one_supervisor};
+ghost use Rattle.sup_tree.specs.Tree.{app_of};
 
 use crate::{NoSuper, StartedApp, Tree};
 use proc_table::{HandlerSeat, ProcTable};
@@ -12,15 +13,7 @@ impl Tree {
     pub fn has_one_supervisor(&self, module: &str) -> bool
         ensures { result ≡ has_one_supervisor «module».now self.now }
     {
-        let mut count = 0;
-        for app in self.apps.as_slice() {
-            let more = supervisor_count(app.members.as_slice(), module);
-            if more > 1 - count {
-                return false;
-            }
-            count += more;
-        }
-        count == 1
+        has_one_super(self.apps.as_slice(), module)
     }
 
     /// The child of this id of the supervisor of this module, and those below it, in the order of the walk; none where there is
@@ -51,12 +44,10 @@ impl Tree {
         ensures terminated { TerminatesChild «module».now id.now
             self.old seat.old.view result self.new seat.new.view }
     {
-        if !self.has_one_supervisor(module) {
+        let Some(place) = place_of_only_super(self.apps.as_slice(), module) else {
             return Err(NoSuper);
-        }
-        if let Some(place) = place_of_super(self.apps.as_slice(), module) {
-            terminate(rt, table, seat, &mut self.apps[place].members, module, id);
-        }
+        };
+        terminate(rt, table, seat, &mut self.apps[place].members, module, id);
         Ok(())
     }
 
@@ -77,18 +68,41 @@ impl Tree {
         ensures deleted { DeletesChild «module».now id.now
             self.old seat.old.view result self.new seat.new.view }
     {
-        if !self.has_one_supervisor(module) {
+        let Some(place) = place_of_only_super(self.apps.as_slice(), module) else {
             return Err(NoSuper);
-        }
-        let Some(place) = place_of_super(self.apps.as_slice(), module) else {
-            return Ok(true);
         };
         Ok(delete(rt, table, seat, &mut self.apps[place].members, module, id))
     }
 }
 
+// Whether exactly one supervisor of this module is started.
+fn has_one_super(apps: &[StartedApp], module: &str) -> bool
+    ensures { result ≡ has_one_supervisor «module».now (map app_of apps.now) }
+{
+    let mut count = 0;
+    for app in apps {
+        let more = supervisor_count(app.members.as_slice(), module);
+        if more > 1 - count {
+            return false;
+        }
+        count += more;
+    }
+    count == 1
+}
+
+// Where the application with the one supervisor of this module stands; nothing unless exactly one is started.
+pub(crate) fn place_of_only_super(apps: &[StartedApp], module: &str) -> Option<usize>
+    ensures { IsPlaceOfOnlySuper «module».now apps.now result }
+{
+    if has_one_super(apps, module) {
+        place_of_super(apps, module)
+    } else {
+        None
+    }
+}
+
 // Where the first application with a supervisor of this module stands.
-pub(crate) fn place_of_super(apps: &[StartedApp], module: &str) -> Option<usize>
+fn place_of_super(apps: &[StartedApp], module: &str) -> Option<usize>
     ensures { IsPlaceOfSuper «module».now apps.now result }
 {
     for (place, app) in apps.iter().enumerate() {

@@ -11,8 +11,8 @@ use std::fmt::{self, Display, Formatter};
 pub enum StartError<'a> {
     /// It is started.
     AlreadyStarted,
-    /// This module has no table, or not one of the kind that a child or a top asks for. Of this and Unsupported the one that
-    /// comes first on the way through the children is reported.
+    /// This module, of a child, has no table or one of the other kind; or it is a top and has the table of a worker. Of this and
+    /// Unsupported the one that comes first on the way through the children is reported.
     NoTable(&'a str),
     /// Supervisors stand in each other deeper than 8, or there are more than 4,096 processes and supervisors.
     Unsupported,
@@ -86,7 +86,7 @@ impl std::error::Error for NoSuchApp {}
 pub enum RestartError {
     /// Not exactly one supervisor of its module is started.
     NoSuper,
-    /// A module has no table, or not one of the kind that the child asks for. Of this and Unsupported the one that comes first on
+    /// A child's module has no table, or one of the other kind. Of this and Unsupported the one that comes first on
     /// the way through the children is reported.
     NoTable,
     /// Supervisors stand in each other deeper than 8, or there are more than 4,096 processes and supervisors.

@@ -4,7 +4,7 @@ ghost use Rattle.loaded_modules.specs.Loaded.{modules_in, tables_of};
 ghost use Rattle.sup_tree.specs.Restarts.{Prepares, RestartsChild, RestartsIn};
 ghost use Rattle.sup_tree.specs.Tree.{app_of};
 
-use crate::children::place_of_super;
+use crate::children::place_of_only_super;
 use crate::{RestartError, StartedApp, Tree};
 use app_members::{NewChild, members_of_child};
 use loaded_modules::Loaded;
@@ -37,11 +37,8 @@ impl Tree {
         ensures restarted { RestartsChild «module».now id.now (tables_of (modules_in loaded.now))
             self.old seat.old.view result self.new seat.new.view }
     {
-        if !self.has_one_supervisor(module) {
+        let Some(place) = place_of_only_super(self.apps.as_slice(), module) else {
             return Err(RestartError::NoSuper);
-        }
-        let Some(place) = place_of_super(self.apps.as_slice(), module) else {
-            return Ok(true);
         };
         restart(
             rt,

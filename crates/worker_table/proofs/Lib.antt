@@ -2,3 +2,4 @@ pub mod Sameness
 pub mod FirstChange
 pub mod IndexLemmas
 pub mod HeadedLemmas
+pub mod FormLemmas

@@ -6,4 +6,5 @@ pub mod Indexed
 pub mod Parts
 pub mod Rows
 pub mod Headed
+pub mod Form
 pub mod InMemory

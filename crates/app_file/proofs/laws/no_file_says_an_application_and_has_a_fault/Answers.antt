@@ -1,4 +1,4 @@
-use Rattle.rel_files.proofs.OneTermFiles.{never_says_and_fails}
+use Rattle.rel_files.proofs.KindFiles.{never_says_and_fails}
 use Rattle.app_file.specs.File.{app_files}
 use Rattle.app_file.proofs.laws.no_file_says_an_application_and_has_a_fault.Goals as goal
 

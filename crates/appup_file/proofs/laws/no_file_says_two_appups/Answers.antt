@@ -1,4 +1,4 @@
-use Rattle.rel_files.proofs.OneTermFiles.{says_one}
+use Rattle.rel_files.proofs.KindFiles.{says_one}
 use Rattle.appup_file.specs.File.{appup_files}
 use Rattle.appup_file.proofs.laws.no_file_says_two_appups.Goals as goal
 

@@ -1,4 +1,4 @@
-use Rattle.rel_files.proofs.OneTermFiles.{says_or_fault}
+use Rattle.rel_files.proofs.KindFiles.{says_or_fault}
 use Rattle.mod_table.specs.File.{mod_files}
 use Rattle.mod_table.proofs.laws.each_file_says_a_table_or_has_a_fault.Goals as goal
 

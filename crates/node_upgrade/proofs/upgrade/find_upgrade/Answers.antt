@@ -8,7 +8,7 @@ returns-in-None-clause-found c =
     let f = found_of c.in_ok-found.found in
     record {
       found = c.in_ok-found.ensures;
-      is = λ j. record { found = f; releases = c.args.list.now; target = c.libraries_at.ensures j };
+      is = λ j. record { found = f; releases = c.args.list.now; target = c.libraries.ensures j };
       begins = sym c.in-None.ensures;
       runnable = begins_runnable c.args.vsn.now c.args.list.now f (sym c.in-None.ensures);
     }

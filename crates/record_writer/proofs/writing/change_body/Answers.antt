@@ -1,10 +1,10 @@
 use Rattle.std.proofs.Common.{◌∙◌, ap, [], None}
-use Rattle.rel_files.specs.Form.{list_of}
 use Rattle.rel_list.specs.Event.{event_of}
 use Rattle.rel_records.specs.Record.{FileTerms, term_of}
 use Rattle.rel_records.specs.Writing.{record_of}
 use Rattle.rel_records.proofs.EventRecords.{told_by_record}
 use Rattle.record_writer.proofs.WritingLemmas.{change_spelled, where_ok}
+use Rattle.rel_files.specs.Terms.{list_of}
 use Rattle.record_writer.proofs.writing.change_body.Goals as goal
 
 -- the record has no term of a file

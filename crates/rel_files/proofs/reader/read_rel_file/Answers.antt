@@ -1,12 +1,11 @@
-use Rattle.std.proofs.Common.{◌≡◌, ◌≢◌, ◌∙◌, ℕ, List, Result, Ok, Err, MatchResult, IfErr, IsErr, IsErrAnd, subst, sym}
+use Rattle.std.proofs.Common.{◌≡◌, ◌≢◌, ◌∙◌, ℕ, List, Result, Ok, Err, MatchResult, IfErr, IsErr, IsErrAnd, inl, inr, subst, sym}
 use Rattle.erl_term.specs.Value.{value_of}
 use Rattle.rel_files.specs.declared.fault.FileFault.{FileFault}
 use Rattle.rel_files.specs.declared.fault.FileFault.TheVariants.{NoMemory}
 use Rattle.rel_files.specs.declared.reader.RelFile.{RelFile}
-use Rattle.rel_files.specs.Fault.{fault_of}
 use Rattle.rel_files.specs.Release.{Release, release_of}
 use Rattle.rel_files.specs.File.{IsReleaseTerm, IsRelFault}
-use Rattle.rel_files.proofs.Files.{has_term, of_count, of_term}
+use Rattle.rel_files.proofs.Files.{has_term}
 use Rattle.rel_files.proofs.reader.read_rel_file.Goals as goal
 
 -- an error that is passed on
@@ -27,7 +26,7 @@ returns-in_err-file-clause-only c = λ r says.
 pub returns-in_err-file-clause-fault : goal.returns-in_err-file-clause-fault
 returns-in_err-file-clause-fault c =
     let f = c.in_err-file.field-0.0 in
-    tells c.from_residual.result f c.args.bytes.now c.from_residual.ensures (λ other. of_count c.args.bytes.now (fault_of f) (c.in_err-file.ensures.fault other))
+    tells c.from_residual.result f c.args.bytes.now c.from_residual.ensures (λ other. inl (c.in_err-file.ensures.fault other))
 
 pub returns-in_err-release-clause-only : goal.returns-in_err-release-clause-only
 returns-in_err-release-clause-only c = λ r says.
@@ -39,7 +38,7 @@ pub returns-in_err-release-clause-fault : goal.returns-in_err-release-clause-fau
 returns-in_err-release-clause-fault c =
     let f = c.in_err-release.field-0.0 in
     tells c.from_residual-in_err-release.result f c.args.bytes.now c.from_residual-in_err-release.ensures
-    (λ other. of_term c.args.bytes.now c.in_ok-file.file.at (value_of c.in_ok-file.file.term) (fault_of f) c.in_ok-file.ensures.says (c.in_err-release.ensures.fault other))
+    (λ other. inr (c.in_ok-file.file.at, value_of c.in_ok-file.file.term, c.in_ok-file.ensures.says, c.in_err-release.ensures.fault other))
 
 pub returns-clause-says : goal.returns-clause-says
 returns-clause-says c =

@@ -5,8 +5,8 @@ use Rattle.relup_instruction.specs.Instruction.{Instruction, instruction_of, scr
 use Rattle.relup_instruction.specs.Instruction.Instruction.{point_of_no_return}
 use Rattle.script_progress.specs.Steps.{IsEarly}
 use Rattle.script_steps.proofs.RowLemmas.{all_push, more, parted}
-use Rattle.relup_script.proofs.ScriptLemmas.{are_early, are_late}
-use Rattle.relup_exec.proofs.RunLemmas.{is_the_point, late_behind, next_is_early, not_all_early}
+use Rattle.relup_script.proofs.ScriptLemmas.{are_early, are_late, the_point}
+use Rattle.relup_exec.proofs.RunLemmas.{late_behind, next_is_early, not_all_early}
 use Rattle.relup_exec.proofs.before.point_in.Goals as goal
 
 pub returns-then-is_point : goal.returns-then-is_point
@@ -14,7 +14,7 @@ returns-then-is_point c =
     let script = c.args.script.now in
     let front = script_of (take c.loop-i.i script) in
     let rest = script_of (drop (c.loop-i.i + 1) script) in
-    let point = is_the_point (instruction_of c.index-script-i.result) (sym c.is_point.ensures ∙ c.if-is_point.true) in
+    let point = the_point (instruction_of c.index-script-i.result) (sym c.is_point.ensures ∙ c.if-is_point.true) in
     let is : script_of script ≡ front ++ (point_of_no_return ∷ rest) =
     parted instruction_of script c.loop-i.i c.index-script-i.result c.loop-i-test.true c.index-script-i.is ∙ ap (λ (i : Instruction). front ++ (i ∷ rest)) point in
     record {

@@ -1,4 +1,4 @@
-use Rattle.relup_instruction.proofs.Rows.{terms_more, terms_all}
+use Rattle.rel_files.proofs.TermRows.{terms_more, terms_all}
 use Rattle.relup_file.specs.Relup.{entry_of}
 use Rattle.relup_file.specs.Form.{entry_term}
 use Rattle.relup_file.proofs.printer.entries_term.Goals as goal

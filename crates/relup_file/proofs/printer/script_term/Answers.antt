@@ -1,6 +1,6 @@
 use Rattle.relup_instruction.specs.Instruction.{instruction_of}
 use Rattle.relup_instruction.specs.Form.{instruction_term}
-use Rattle.relup_instruction.proofs.Rows.{terms_more, terms_all}
+use Rattle.rel_files.proofs.TermRows.{terms_more, terms_all}
 use Rattle.relup_file.proofs.printer.script_term.Goals as goal
 
 pub loop-instr-preserved : goal.loop-instr-preserved

@@ -1,6 +1,6 @@
 use Rattle.relup_instruction.specs.Instruction.{change_of}
 use Rattle.relup_instruction.specs.Form.{change_term}
-use Rattle.relup_instruction.proofs.Rows.{terms_more, terms_all}
+use Rattle.rel_files.proofs.TermRows.{terms_more, terms_all}
 use Rattle.relup_instruction.proofs.spelling.changes_term.Goals as goal
 
 pub loop-change-preserved : goal.loop-change-preserved

@@ -1,6 +1,6 @@
 use Rattle.relup_instruction.specs.Instruction.{suspension_of}
 use Rattle.relup_instruction.specs.Form.{suspension_term}
-use Rattle.relup_instruction.proofs.Rows.{terms_more, terms_all}
+use Rattle.rel_files.proofs.TermRows.{terms_more, terms_all}
 use Rattle.relup_instruction.proofs.spelling.suspensions_term.Goals as goal
 
 pub loop-suspension-preserved : goal.loop-suspension-preserved

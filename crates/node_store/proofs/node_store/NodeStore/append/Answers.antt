@@ -8,6 +8,9 @@ use Rattle.node_store.proofs.Commits.{rested, same_with, no_room}
 use Rattle.node_store.proofs.Images.{leaves_boot_space}
 use Rattle.node_store.proofs.node_store.NodeStore.append.Goals as goal
 
+pub make_room-requires-clause-works : goal.make_room-requires-clause-works
+make_room-requires-clause-works g c = (c.requires.sound.ready c.requires.allowed.0).store.works
+
 pub write-requires-clause-behind : goal.write-requires-clause-behind
 write-requires-clause-behind g c =
     leaves_boot_space (event_of c.args.event) c.requires.other (length c.args.body.now) (store_extent c.make_room.new.store) (list_in c.args.self.now)

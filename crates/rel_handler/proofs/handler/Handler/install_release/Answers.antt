@@ -60,6 +60,9 @@ of-requires-clause-allowed g c = script_allows c.args.vsn.now (list_in c.self.in
 pub of-requires-clause-versions : goal.of-requires-clause-versions
 of-requires-clause-versions g c = have_versions c.self.inside.node.store.format (records_in c.self.inside.node.store) (list_in c.self.inside.node) ((rw (← c.self.view_is) at c.requires.sound).ready c.if-self.false).list
 
+pub make_room-requires-clause-works : goal.make_room-requires-clause-works
+make_room-requires-clause-works g c = ((rw (← c.self.view_is) at c.requires.sound).ready c.if-self.false).store.works
+
 -- there is no room for its record and the next boot's
 pub returns-in_err-make_room-clause-commits : goal.returns-in_err-make_room-clause-commits
 returns-in_err-make_room-clause-commits g c =

@@ -6,9 +6,8 @@ use Rattle.rel_handler.specs.Unpacking.{UnpackingRefused}
 use Rattle.rel_unpack.specs.Unpacking.{brought_of}
 use Rattle.rel_handler.proofs.PlaceLemmas.{no_place}
 use Rattle.node_command.proofs.Refusals.{refuses_with}
-use Rattle.node_store.proofs.Commits.{unchanged}
+use Rattle.node_store.proofs.Commits.{unchanged, all_same}
 use Rattle.node_command.proofs.ReleaseLemmas.{brings_same, still_agree, still_free, still_terms, still_whole, brought_free, agrees_so, room_so}
-use Rattle.rel_handler.proofs.ReleaseLemmas.{unchanged_handler}
 use Rattle.rel_records.specs.Limits.{is_small}
 use Rattle.rel_files.specs.Release.{release_of}
 use Rattle.rel_list.specs.Releases.{status_of}
@@ -19,7 +18,7 @@ use Rattle.rel_handler.proofs.handler.Handler.set_unpacked.Goals as goal
 pub returns-then-self-clause-refused : goal.returns-then-self-clause-refused
 returns-then-self-clause-refused g c =
     rw (← c.self.view_is)
-    (inl (refl, c.if-self.true, unchanged_handler c.self.inside.node))
+    (inl (refl, c.if-self.true, all_same c.self.inside.node))
 
 -- the release's file is refused
 pub returns-in_err-brought-clause-refused : goal.returns-in_err-brought-clause-refused
@@ -27,7 +26,7 @@ returns-in_err-brought-clause-refused g c =
     rw (← c.self.view_is)
     (let h = c.self.inside.node in
     refuses_with (UnpackingRefused g.D.Disk (g.F.Files.gives c.args.files.now) c.args.path.now h h) c.from_residual.result c.in_err-brought.field-0.0 c.from_residual.ensures
-    (inr (inl (c.in_err-brought.ensures.refused, c.if-self.false, unchanged_handler h))))
+    (inr (inl (c.in_err-brought.ensures.refused, c.if-self.false, all_same h))))
 
 -- the list has no place for it
 pub returns-in_err-vsn-clause-refused : goal.returns-in_err-vsn-clause-refused
@@ -56,7 +55,7 @@ returns-in_err-brought-2-clause-refused g c =
       alive = c.if-self.false;
       fresh = c.in_ok-vsn.ensures.fresh;
       barred = subst (λ o. IsToldAs o why) (sym (agrees_so b h.list c.in_ok-vsn.ensures.fresh c.in_ok-vsn.ensures.agree)) (subst (λ r. IsToldAs (refusal_with r b) why) c.has_room.ensures c.in_err-brought-2.ensures.refused);
-      same = unchanged_handler h;
+      same = all_same h;
     })))))
 
 -- what is taken in agrees with the list, and a node may have it

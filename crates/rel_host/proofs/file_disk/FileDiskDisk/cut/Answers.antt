@@ -2,7 +2,7 @@ use Rattle.std.proofs.Common.{sym, subst}
 use Rattle.rel_disk.specs.Calls.{content}
 use Rattle.rel_disk.specs.Damage.{Cut, Follows}
 use Rattle.rel_disk.specs.Images.{Image}
-use Rattle.rel_host.proofs.DamageLemmas.{cut_same}
+use Rattle.rel_disk.proofs.DamageLemmas.{cut_same}
 use Rattle.rel_host.proofs.file_disk.FileDiskDisk.cut.Goals as goal
 
 pub returns-then-self-clause-part : goal.returns-then-self-clause-part

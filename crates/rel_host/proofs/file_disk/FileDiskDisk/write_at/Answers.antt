@@ -2,7 +2,7 @@ use Rattle.std.proofs.Common.{length, sym, subst}
 use Rattle.rel_disk.specs.Calls.{content}
 use Rattle.rel_disk.specs.Damage.{Torn, Follows}
 use Rattle.rel_disk.specs.Images.{Image}
-use Rattle.rel_host.proofs.DamageLemmas.{torn_same}
+use Rattle.rel_disk.proofs.DamageLemmas.{torn_same}
 use Rattle.rel_host.proofs.file_disk.FileDiskDisk.write_at.Goals as goal
 
 pub returns-then-self-clause-part : goal.returns-then-self-clause-part

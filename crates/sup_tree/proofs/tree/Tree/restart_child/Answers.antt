@@ -1,11 +1,11 @@
-use Rattle.std.proofs.Common.{◌∙◌, ◌≡◌, [], ℕ, List, map, Option, slice_set, ap, subst, subst₂, sym}
+use Rattle.std.proofs.Common.{◌∙◌, ◌≡◌, [], ℕ, List, map, Option, slice_set, ap, subst, subst₂, sym, Some, true}
 use Rattle.std.specs.Option.{option_map_or}
 use Rattle.std.proofs.Math.Seq.{map-set_same}
 use Rattle.loaded_modules.specs.Loaded.{modules_in, tables_of}
 use Rattle.started_members.specs.declared.member.Member.{Member}
 use Rattle.sup_tree.specs.declared.tree.StartedApp.{StartedApp}
 use Rattle.started_members.specs.Places.{Place, child_in, in_place}
-use Rattle.sup_tree.specs.Children.{SupervisesAt, app_with, apps_with, child_place}
+use Rattle.sup_tree.specs.Children.{has_one_supervisor, IsPlaceOfOnlySuper, app_with, apps_with, child_place}
 use Rattle.sup_tree.specs.Restarts.{Restarts, super_app}
 use Rattle.sup_tree.specs.Tree.{App, app_of}
 use Rattle.sup_tree.proofs.ChildLemmas.{app_changed, child_there}
@@ -26,7 +26,9 @@ returns-clause-restarted g c =
     let w = c.restart.new.seat.view in
     let new = map app_of (slice_set items place b) in
     let change : List Member → List App = λ ms. apps_with (in_place ms) name id apps in
-    let at = subst (λ (l : List StartedApp). SupervisesAt name l place) c.as_slice.ensures.value (rw c.in-Some.is at c.place_of_super.ensures) in
+    let only = subst (λ (l : List StartedApp). IsPlaceOfOnlySuper name l (Some place)) c.as_slice.ensures.value (rw c.in-Some.is at c.place_of_only_super.ensures) in
+    let at = only.1 in
+    let one : has_one_supervisor name c.args.self.now ≡ true = subst (λ (l : List App). has_one_supervisor name l ≡ true) c.self.view_is only.0 in
     let child = child_there name id items place a at c.index_mut.ensures.value ∙ ap (child_place name id) c.self.view_is in
     let app : a.name ≡ super_app name apps =
     ap (λ (x : StartedApp). x.name) c.index_mut.ensures.value ∙ (sym (ap (λ (o : Option App). option_map_or (λ (x : App). x.name) o []) (at.there a)) ∙ ap (super_app name) c.self.view_is) in
@@ -34,5 +36,5 @@ returns-clause-restarted g c =
     (λ same. map-set_same app_of items place b a (same ∙ ap app_of c.index_mut.ensures.value) ∙ c.self.view_is)
     (λ ms changed. app_changed (in_place ms) name id items place a b at c.index_mut.ensures.value changed ∙ ap (apps_with (in_place ms) name id) c.self.view_is)
     c.restart.ensures.restarted in
-    with_one name id tables apps v c.restart.result new w (sym c.has_one_supervisor.ensures ∙ c.if-not-has_one_supervisor.false)
+    with_one name id tables apps v c.restart.result new w one
     (subst₂ (λ (n : List ℕ) (o : Option Place). Restarts tables n o change apps v c.restart.result new w) app child is)
