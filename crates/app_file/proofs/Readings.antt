@@ -1,11 +1,12 @@
 -- What a file says, from its one term.
-use Rattle.std.proofs.Common.{◌≡◌, ◌≢◌, ◌∙◌, ℕ, List, Result, Ok, Err, Option, Some, codes, IfOk, IfErr, inr, ap, sym, subst}
+use Rattle.std.proofs.Common.{◌≡◌, ◌≢◌, ℕ, List, Result, Ok, Err, Option, Some, codes, IfOk, IfErr, inr, ap, sym}
 use Rattle.std.specs.Option.{option_map, option_and_then}
 use Rattle.erl_term.specs.Value.{Value}
 use Rattle.rel_files.specs.declared.fault.FileFault.{FileFault}
 use Rattle.rel_files.specs.declared.fault.FileFault.TheVariants.{NoMemory}
 use Rattle.rel_files.specs.OneTermFile.{HasTermAt}
 use Rattle.rel_files.specs.Fault.{fault_of}
+use Rattle.rel_files.proofs.OneTermFile.{has_term}
 use Rattle.rel_files.proofs.KindFiles.{never_of_term}
 use Rattle.app_file.specs.declared.app.App.{App}
 use Rattle.app_file.specs.Parts.{Entries, Contents, value_at, vsn_in, modules_at, top_at, contents, contents_in}
@@ -30,14 +31,10 @@ pub only_memory : (v : Value) (at : ℕ) (a : Specification) (f : FileFault) →
 only_memory v at a NoMemory is fault = λ i. NoMemory
 only_memory v at a f is fault = absurd (never_of_term app_files v at a (fault_of f) is (fault (λ same. cc)))
 
--- what a file says, its term says
-pub of_its_term : (bytes : List ℕ) (a : Specification) (v : Value) (says : SaysApp bytes a) → v ≡ says.2.0.term → IsAppTerm v a
-of_its_term bytes a v says same = subst (λ (w : Value). IsAppTerm w a) (sym (same ∙ says.2.2)) says.3
-
 -- what its term says, a file says
 pub of_a_file : (r : Result App FileFault) (bytes : List ℕ) (at : ℕ) (v : Value) → HasTermAt bytes at v
     → IfOk r (λ app. IsAppTerm v (specification_of app)) → IfOk r (λ app. SaysApp bytes (specification_of app))
-of_a_file (Ok app) bytes at v has is = (at, v, has, is)
+of_a_file (Ok app) bytes at v has is = (v, has_term bytes at v has, is)
 of_a_file (Err f) bytes at v has is = tt
 
 pub fault_of_a_file : (r : Result App FileFault) (bytes : List ℕ) (at : ℕ) (v : Value) → HasTermAt bytes at v

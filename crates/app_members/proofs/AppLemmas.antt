@@ -4,11 +4,12 @@ use Rattle.std.specs.Option.{option_or}
 use Rattle.std.proofs.lemmas.Bool.Decides.{nat_tests}
 use Rattle.app_members.specs.declared.error.MembersError.{MembersError}
 use Rattle.app_members.specs.declared.error.MembersError.TheVariants.{NoTable, Unsupported, NoMemory}
-use Rattle.app_members.specs.InMemory.{AreTooMany, FaultIs}
+use Rattle.app_members.specs.InMemory.{AreTooMany, FaultIs, IsTop}
 use Rattle.mod_table.specs.Table.{ChildSpec}
 use Rattle.mod_table.specs.declared.table.Table.{Table}
+use Rattle.mod_table.specs.declared.table.Table.TheVariants.{Worker, Super}
 use Rattle.mod_table.specs.Tables.{Tables, child_table}
-use Rattle.app_members.specs.Walk.{NewMember, StartFault, app_fault, app_members, child_as_member, child_fault, child_members, children_fault, children_members, crowd_fault, fault_from, lone_fault, lone_members, members_below, top_children, worker_at_top}
+use Rattle.app_members.specs.Walk.{NewMember, StartFault, app_fault, app_members, child_as_member, child_fault, child_members, children_fault, children_members, crowd_fault, fault_from, fault_with, lone_fault, lone_members, members_below, members_with, super_children, top_children, worker_at_top}
 use Rattle.app_members.specs.Walk.StartFault.{unsupported}
 
 -- what is wrong, where the top has not the table of a worker
@@ -54,10 +55,23 @@ crowded (NoTable m) ms many = absurd many
 pub without_top : (tables : Tables) (top : Option (List ℕ)) → worker_at_top tables top ≡ None → top_children tables top ≡ [] → app_members tables top ≡ [] → app_fault tables top ≡ None
 without_top tables top none children members = below_top tables top [] [] none children members ∙ none_wrong (children_fault 8 tables []) [] (no_children tables) (omega arith)
 
+-- the top of an application, with those below it
+pub top_members : (tables : Tables) (top : Option (List ℕ)) (m : NewMember) → IsTop tables top m → app_members tables top ≡ members_with 8 tables m
+top_members tables top m is = is.members ∙ (λ j. m ∷ members_below (children_members 8 tables (sym is.depth j + 1)) m.table)
+
+pub top_fault : (tables : Tables) (top : Option (List ℕ)) (m : NewMember) → IsTop tables top m → app_fault tables top ≡ fault_with 8 tables m
+top_fault tables top m is =
+    below_top tables top (super_children (Some m.table)) (members_with 8 tables m) is.sound is.children (top_members tables top m is)
+    ∙ ap (λ f. option_or f (crowd_fault (members_with 8 tables m))) (by_table tables m.child m.table)
+  where
+    by_table : (tables : Tables) (c : ChildSpec) (t : Table) → children_fault 8 tables (super_children (Some t)) ≡ child_fault (children_fault 8 tables) c (Some t)
+    by_table tables c (Worker w) = no_children tables
+    by_table tables c (Super s) = refl
+
 -- a child that starts alone, by its table
 pub record LoneChild (tables : Tables) (depth : ℕ) (c : ChildSpec) (left : ℕ) (m : NewMember) : Type 0 where
-  pub fault : lone_fault tables depth c ≡ option_or (child_fault (children_fault left tables) c (Some m.table)) (crowd_fault (lone_members tables depth c))
-  pub members : lone_members tables depth c ≡ m ∷ members_below (children_members left tables (m.depth + 1)) m.table
+  pub fault : lone_fault tables depth c ≡ fault_with left tables m
+  pub members : lone_members tables depth c ≡ members_with left tables m
 
 member_there : (depth : ℕ) (c : ChildSpec) (o : Option Table) (m : NewMember) → child_as_member depth c o ≡ Some m → (o ≡ Some m.table) × (m ≡ (record { depth = depth; child = c; table = m.table }))
 member_there depth c None m is = absurd cc
@@ -74,9 +88,13 @@ lone_child tables depth c left m few is there =
     let member = member_there depth c (child_table tables c) m there in
     let so = sym is in
     let deep : suc depth ≡ m.depth + 1 = (let s : suc depth ≡ depth + 1 = omega arith in s) ∙ ap (λ (n : NewMember). n.depth + 1) (sym member.1) in
+    let own : c ≡ m.child = sym (ap (λ (n : NewMember). n.child) member.1) in
+    let all : lone_members tables depth c ≡ members_with left tables m =
+    (λ j. child_members (children_members (so j) tables (deep j)) depth c (member.0 j))
+    ∙ ap (λ n. n ∷ members_below (children_members left tables (m.depth + 1)) m.table) (sym member.1) in
     record {
       fault = ap (λ b. if b then Some unsupported else option_or (fault_from (8 - depth) tables c) (crowd_fault (lone_members tables depth c))) (few_levels depth few)
-          ∙ (λ j. option_or (child_fault (children_fault (so j) tables) c (member.0 j)) (crowd_fault (lone_members tables depth c)));
-      members = (λ j. child_members (children_members (so j) tables (deep j)) depth c (member.0 j))
-          ∙ ap (λ n. n ∷ members_below (children_members left tables (m.depth + 1)) m.table) (sym member.1);
+          ∙ (λ j. option_or (child_fault (children_fault (so j) tables) c (member.0 j)) (crowd_fault (lone_members tables depth c)))
+          ∙ (λ j. option_or (child_fault (children_fault left tables) (own j) (Some m.table)) (crowd_fault (all j)));
+      members = all;
     }

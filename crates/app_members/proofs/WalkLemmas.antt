@@ -1,10 +1,8 @@
 -- What is found through a number of supervisors in each other, and through more or fewer.
 use Rattle.std.proofs.Common.{◌≡◌, ℕ, zero, suc, ◌+◌, ◌-◌, ◌≤◌, List, [], ◌∷◌, ◌++◌, Bool, true, false, cond, nat_le, Option, Some, None, Result, Ok, Err, IsErr, IsErrAnd, refl, ap, sym, subst, ◌∙◌, add-zero, add-one, arith, append_assoc, length-append}
 use Rattle.std.specs.List.{flat_map}
-use Rattle.std.specs.Option.{option_or, option_and_then, option_map_or}
+use Rattle.std.specs.Option.{option_or, option_map_or}
 use Rattle.std.proofs.lemmas.Bool.Decides.{nat_tests}
-use Rattle.mod_table.specs.declared.child.ChildKind.{ChildKind}
-use Rattle.mod_table.specs.declared.child.ChildKind.TheVariants as kind
 use Rattle.mod_table.specs.declared.table.Table.{Table}
 use Rattle.mod_table.specs.declared.table.Table.TheVariants.{Worker, Super}
 use Rattle.mod_table.specs.Table.{ChildSpec, SuperTable}
@@ -12,7 +10,7 @@ use Rattle.std.specs.Borrow.{Bor}
 use Rattle.std.specs.BTreeMap.{BTreeMap}
 use Rattle.std.specs.Str.{bytes_eq}
 use Rattle.std.proofs.lemmas.Slice.Eq.{bytes_eq-Decides}
-use Rattle.mod_table.specs.Tables.{Tables, first_of, of_kind, child_table}
+use Rattle.mod_table.specs.Tables.{Tables, first_of, child_table}
 use Rattle.app_members.specs.Walk.{NewMember, StartFault, child_fault, children_fault, children_members, fault_from, members_from}
 use Rattle.app_members.specs.Walk.StartFault.{unsupported}
 use Rattle.app_members.specs.declared.error.MembersError.{MembersError}
@@ -89,14 +87,6 @@ pub all_here : {C X : Type 0} (f : C → List X) (old new : List X) (left rest :
 all_here f old new left rest c xs r split at is so_far =
     ap (λ l. l ++ flat_map f rest) is
     ∙ (append_assoc old xs (flat_map f rest) ∙ (ap (λ l. old ++ (l ++ flat_map f rest)) (sym at) ∙ (ap (λ l. old ++ flat_map f l) (sym split) ∙ so_far)))
-
--- the table of a child is that of its module
-pub table_there : (k : ChildKind) (o : Option Table) (t : Table) → option_and_then (of_kind k) o ≡ Some t → o ≡ Some t
-table_there k None t e = absurd cc
-table_there kind.Worker (Some (Worker w)) t e = e
-table_there kind.Worker (Some (Super s)) t e = absurd cc
-table_there kind.Supervisor (Some (Worker w)) t e = absurd cc
-table_there kind.Supervisor (Some (Super s)) t e = e
 
 -- an error that is passed on
 pub passed_on : {X E : Type 0} (P : Result X E → Type 0) (r : Result X E) (e : E) → IsErr r × IsErrAnd r (λ f. f ≡ e) → P (Err e) → P r

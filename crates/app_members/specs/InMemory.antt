@@ -72,12 +72,15 @@ TopIs tables top (Err e) = (f : StartFault) × (worker_at_top tables top ≡ Som
 TopIs tables top (Ok None) = (worker_at_top tables top ≡ None) × (top_children tables top ≡ []) × (app_members tables top ≡ [])
 TopIs tables top (Ok (Some m)) = IsTop tables top (new_member_of m)
 
+-- These members, if there is no fault.
+abbrev pub AreUnlessFault : Option StartFault → List walk.NewMember → Result (Vec NewMember Global) MembersError → Type 0
+AreUnlessFault fault all (Ok ms) = (fault ≡ None) × (new_members_of ms.items ≡ all)
+AreUnlessFault fault all (Err e) = FaultIs e fault
+
 -- The members of an application, if nothing is wrong with it.
 abbrev pub AreMembers : Tables → Option (List ℕ) → Result (Vec NewMember Global) MembersError → Type 0
-AreMembers tables top (Ok ms) = (app_fault tables top ≡ None) × (new_members_of ms.items ≡ app_members tables top)
-AreMembers tables top (Err e) = FaultIs e (app_fault tables top)
+AreMembers tables top result = AreUnlessFault (app_fault tables top) (app_members tables top) result
 
 -- The members with which a child starts alone, if nothing is wrong with it.
 abbrev pub AreChildMembers : Tables → ℕ → ChildSpec → Result (Vec NewMember Global) MembersError → Type 0
-AreChildMembers tables depth c (Ok ms) = (lone_fault tables depth c ≡ None) × (new_members_of ms.items ≡ lone_members tables depth c)
-AreChildMembers tables depth c (Err e) = FaultIs e (lone_fault tables depth c)
+AreChildMembers tables depth c result = AreUnlessFault (lone_fault tables depth c) (lone_members tables depth c) result

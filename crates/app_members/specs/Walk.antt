@@ -1,6 +1,6 @@
 -- What an application starts: its top, and below it the children of each supervisor in order, those of a supervisor before its
 -- next sibling (OTP: supervisor, Principles). A number says how many supervisors in each other the walk goes through at most.
-use Rattle.std.specs.Prelude.{ℕ, zero, suc, ◌-◌, List, [], ◌∷◌, length, nat_lt, Option, Some, None, if◌then◌else◌}
+use Rattle.std.specs.Prelude.{◌+◌, ℕ, zero, suc, ◌-◌, List, [], ◌∷◌, length, nat_lt, Option, Some, None, if◌then◌else◌}
 use Rattle.std.specs.List.{flat_map}
 use Rattle.std.specs.Option.{option_or, option_and_then, option_map, option_map_or}
 use Rattle.mod_table.specs.declared.child.ChildKind.TheVariants as kind
@@ -109,6 +109,14 @@ crowd_fault ms = if nat_lt 4096 (length ms) then Some unsupported else None
 abbrev pub app_fault : Tables → Option (List ℕ) → Option StartFault
 app_fault tables top =
     option_or (worker_at_top tables top) (option_or (children_fault 8 tables (top_children tables top)) (crowd_fault (app_members tables top)))
+
+-- a member and those below it, through so many supervisors in each other
+abbrev pub members_with : ℕ → Tables → NewMember → List NewMember
+members_with n tables m = m ∷ members_below (children_members n tables (m.depth + 1)) m.table
+
+-- what is wrong with these
+abbrev pub fault_with : ℕ → Tables → NewMember → Option StartFault
+fault_with n tables m = option_or (child_fault (children_fault n tables) m.child (Some m.table)) (crowd_fault (members_with n tables m))
 
 -- the processes that it starts
 abbrev pub app_starts : Tables → Option (List ℕ) → List Start

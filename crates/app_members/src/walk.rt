@@ -6,9 +6,9 @@ ghost use Rattle.app_file.specs.InMemory.{specification_of};
 ghost use Rattle.mod_table.specs.InMemory.{child_of};
 ghost use Rattle.mod_table.specs.Table.{ChildSpec};
 ghost use Rattle.mod_table.specs.Tables.{child_table, of_kind};
-ghost use Rattle.app_members.specs.InMemory.{AreSound, Reports, Adds, noted_in, new_child_of, new_member_of, new_members_of, AreChildMembers, AreMembers, TopIs};
+ghost use Rattle.app_members.specs.InMemory.{AreSound, Reports, Adds, noted_in, new_child_of, new_member_of, new_members_of, AreChildMembers, AreMembers, AreUnlessFault, TopIs};
 ghost use Rattle.loaded_modules.specs.Loaded.{modules_in, tables_of};
-ghost use Rattle.app_members.specs.Walk.{child_as_member, child_fault, children_fault, children_members, fault_from, members_below, members_from, starts_among, super_children};
+ghost use Rattle.app_members.specs.Walk.{child_as_member, child_fault, children_fault, children_members, fault_from, fault_with, members_below, members_from, members_with, starts_among};
 
 use crate::MembersError;
 use app_file::App;
@@ -70,13 +70,10 @@ pub fn members_of_app<'a>(
     ensures { AreMembers
         (tables_of (modules_in loaded.now)) (specification_of app.now).top result }
 {
-    let mut members = Vec::new(alloc);
-    let Some(top) = top_of(loaded, app)? else {
-        return Ok(members);
-    };
-    check_below(alloc, loaded, children_of(top.table), MOST_SUPERVISORS)?;
-    add_member(loaded, top, MOST_SUPERVISORS, &mut members)?;
-    Ok(members)
+    match top_of(loaded, app)? {
+        Some(top) => members_with(alloc, loaded, top, MOST_SUPERVISORS),
+        None => Ok(Vec::new(alloc)),
+    }
 }
 
 /// The members with which a child of a supervisor starts alone: the child, and where it is a supervisor those below it. Else it is
@@ -95,6 +92,22 @@ pub fn members_of_child<'a>(
     let Some(member) = member_of_child(loaded, child) else {
         return Err(MembersError::NoTable(child.module));
     };
+    members_with(alloc, loaded, member, left)
+}
+
+// A member and those below it, through so many supervisors in each other, if nothing is wrong there and they are few enough.
+fn members_with<'a>(
+    alloc: Global,
+    loaded: &'a Loaded,
+    member: NewMember<'a>,
+    left: usize,
+) -> Result<Vec<NewMember<'a>>, MembersError<'a>>
+    requires { member.depth + left ≤ MOST_SUPERVISORS }
+    ensures { AreUnlessFault
+        (fault_with left (tables_of (modules_in loaded.now)) (new_member_of member.entry))
+        (members_with left (tables_of (modules_in loaded.now)) (new_member_of member.entry))
+        result }
+{
     check_table(alloc, loaded, member.table, left)?;
     let mut members = Vec::new(alloc);
     add_member(loaded, member, left, &mut members)?;
@@ -139,15 +152,6 @@ fn top_of<'a>(loaded: &'a Loaded, app: &'a App) -> Result<Option<NewMember<'a>>,
             table,
         })),
         Table::Worker(_) => Err(MembersError::NoTable(module)),
-    }
-}
-
-fn children_of(table: &Table) -> &[Child]
-    ensures { map child_of result.now ≡ super_children (Some table.now) }
-{
-    match table {
-        Table::Super(supervisor) => supervisor.children(),
-        Table::Worker(_) => &[],
     }
 }
 

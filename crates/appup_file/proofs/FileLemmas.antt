@@ -7,7 +7,8 @@ use Rattle.rel_files.specs.declared.fault.FileFault.TheVariants as file
 use Rattle.rel_files.specs.Fault.{Fault}
 use Rattle.rel_files.specs.Fault.Fault.{bad_term, bad_shape, duplicate, bad_version, no_memory}
 use Rattle.rel_files.specs.Kind.{HasFault}
-use Rattle.rel_files.specs.OneTermFile.{HasTermAt, HasNoTerm, IsCountFault}
+use Rattle.rel_files.specs.OneTermFile.{HasTermAt, HasNoTerm, IsNoTermFault}
+use Rattle.rel_files.proofs.OneTermFile.{has_term}
 use Rattle.rel_files.proofs.KindFiles.{one_fault as one_kind_fault, never_says_and_fails, says_or_fault as kind_says_or_fault}
 use Rattle.appup_file.specs.declared.fault.AppupFault.{AppupFault}
 use Rattle.appup_file.specs.declared.fault.AppupFault.TheVariants.{BadTerm, BadShape, NoMemory}
@@ -45,7 +46,7 @@ never_memory bytes h = go (no_term bytes no_memory h)
     go (inr (at, is)) = absurd cc
 
 -- the fault of the file's terms is the file's
-pub tells_terms : (bytes : List ℕ) (f : FileFault) → (f ≢ file.NoMemory → IsCountFault bytes f) → appup_fault_of f ≢ NoMemory → IsAppupFault bytes (appup_fault_of f)
+pub tells_terms : (bytes : List ℕ) (f : FileFault) → (f ≢ file.NoMemory → IsNoTermFault bytes f) → appup_fault_of f ≢ NoMemory → IsAppupFault bytes (appup_fault_of f)
 tells_terms bytes (file.BadTerm e) h other = inl (h (λ same. absurd cc))
 tells_terms bytes (file.BadShape at) h other = (at, inl (h (λ same. absurd cc)))
 tells_terms bytes (file.Duplicate name) h other = absurd (never_twice bytes (string_bytes name) (h (λ same. absurd cc)))
@@ -65,7 +66,7 @@ only_memory P (Err g) f is e = is.1 ∙ e
 -- what the file's term says or how it fails, the file does
 pub says : (bytes : List ℕ) (at : ℕ) (v : Value) (result : Result Appup AppupFault) → HasTermAt bytes at v → IfOk result (λ a. TermSaysAppup v (appup_of a))
     → IfOk result (λ a. SaysAppup bytes (appup_of a))
-says bytes at v (Ok a) has h = (at, v, has, h)
+says bytes at v (Ok a) has h = (v, has_term bytes at v has, h)
 says bytes at v (Err f) has h = tt
 
 pub fault : (bytes : List ℕ) (at : ℕ) (v : Value) (result : Result Appup AppupFault) → HasTermAt bytes at v → IfErr result (λ f. f ≢ NoMemory → IsTermFault v f)
@@ -74,10 +75,6 @@ fault bytes at v (Ok a) has h = tt
 fault bytes at v (Err (BadTerm e)) has h = λ other. absurd (h other)
 fault bytes at v (Err BadShape) has h = λ other. (at, inr (at, v, has, (h other, refl)))
 fault bytes at v (Err NoMemory) has h = λ other. absurd (other refl)
-
--- what the file says, its term says
-pub of_its_term : (bytes : List ℕ) (a : AppupForm) (v : Value) (says : SaysAppup bytes a) → v ≡ says.2.0.term → TermSaysAppup v a
-of_its_term bytes a v says same = subst (λ (w : Value). TermSaysAppup w a) (sym (same ∙ says.2.2)) says.3
 
 -- No file has two faults.
 pub one_fault : (bytes : List ℕ) (f g : AppupFault) → IsAppupFault bytes f → IsAppupFault bytes g → f ≡ g

@@ -1,3 +1,4 @@
 pub mod MemberLemmas
 pub mod Readings
 pub mod FormLemmas
+pub mod ChildTables

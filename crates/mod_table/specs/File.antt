@@ -7,7 +7,7 @@ use Rattle.rel_files.specs.declared.fault.FileFault.{FileFault}
 use Rattle.rel_files.specs.Fault.{fault_of}
 use Rattle.rel_files.specs.Name.{is_text}
 use Rattle.rel_files.specs.Kind.{Kind, TermSays, HasTermFault, Says, HasFault}
-use Rattle.rel_files.specs.OneTermFile.{HasTermAt}
+use Rattle.rel_files.specs.OneTermFile.{HasFileTerm}
 use Rattle.mod_table.specs.declared.table.Table.{Table}
 use Rattle.mod_table.specs.declared.table.Table.TheVariants.{Worker, Super}
 use Rattle.worker_table.specs.Parts.{tagged_in}
@@ -53,7 +53,7 @@ SaysTable bytes t = Says mod_files bytes t
 
 -- The file has this term alone, which says this table.
 abbrev pub SaysWith : List ℕ → Value → Table → Type 0
-SaysWith bytes v t = (at : ℕ) × HasTermAt bytes at v × IsTableTerm v t
+SaysWith bytes v t = HasFileTerm bytes v × IsTableTerm v t
 
 -- The fault of a term that begins at this place.
 abbrev pub IsTermFault : Value → ℕ → FileFault → Type 0

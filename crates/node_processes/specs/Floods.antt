@@ -3,6 +3,7 @@ use Rattle.std.specs.Prelude.{◌≡◌, ℕ, ◌-◌, List, [], ◌∷◌, ◌+
 use Rattle.proc_history.specs.declared.value.Outcome.{Outcome}
 use Rattle.proc_history.specs.declared.value.Value.{Value}
 use Rattle.proc_history.specs.Events.Event.{call}
+use Rattle.proc_history.specs.Outcomes.{after_call, outcome_in}
 use Rattle.proc_history.specs.Values.{after}
 use Rattle.proc_table.specs.declared.pid.Pid.{Pid}
 use Rattle.proc_workers.specs.Floods.{crashed_in, done_in, ended_in, outcomes_of}
@@ -45,7 +46,12 @@ flooded_at input times ps (Some p) =
 abbrev pub flooded : List ℕ → List ℕ → ℕ → ℕ → Processes → Processes
 flooded app id input times ps = flooded_at input times ps (process_named app id ps)
 
--- Nothing has changed but the value in this process's slot, if there is one.
-abbrev pub StaysBut : Option Pid → Processes → Processes → Type 0
-StaysBut None ps qs = qs ≡ ps
-StaysBut (Some p) ps qs = (v : Value) × (qs ≡ record ps { values = slice_set ps.values p.slot v })
+-- What calls with these inputs make of a value, one after another. One that finds no process of this round up leaves it.
+abbrev pub after_inputs : ℕ → List ℕ → Value → Value
+after_inputs round [] v = v
+after_inputs round (i ∷ is) v = after_inputs round is (after_call v i (outcome_in round i v))
+
+-- Some calls of this process were made, with some inputs. Where there is no process, nothing has changed.
+abbrev pub LeftByCalls : Option Pid → Processes → Processes → Type 0
+LeftByCalls None ps qs = qs ≡ ps
+LeftByCalls (Some p) ps qs = (inputs : List ℕ) × (qs ≡ record ps { values = slice_set ps.values p.slot (after_inputs p.round inputs (value_at ps p)) })

@@ -2,7 +2,7 @@
 ghost use Rattle.std.specs.Prelude.{◌≡◌, string_bytes, IfOk, OnErr};
 ghost use Rattle.proc_table.specs.Waits.{IsAnswer};
 ghost use Rattle.node_processes.specs.Answers.{call_line, called, modules_line, peek_line, processes_line};
-ghost use Rattle.node_processes.specs.Floods.{counts_line, flood_line, flooded, StaysBut};
+ghost use Rattle.node_processes.specs.Floods.{counts_line, flood_line, flooded, LeftByCalls};
 ghost use Rattle.node_processes.specs.InMemory.{AreSound, processes_in, tried_line};
 ghost use Rattle.node_processes.specs.Processes.{process_named};
 
@@ -100,7 +100,7 @@ impl Processes {
 
     /// Calls a process so often with one input, from threads. The answer tells how often each outcome came, and how often the
     /// process was down; or that the application has no such process. Where memory is refused, some calls of the process may have
-    /// been made.
+    /// been made, with some inputs.
     pub fn flood<R: Threads + Wait + Sync>(
         &mut self,
         rt: &R,
@@ -118,8 +118,8 @@ impl Processes {
             ≡ flood_line app.now id.now input times (processes_in self.old)) }
         ensures kept { OnErr result ((self.new.tree ≡ self.old.tree)
             × (self.new.loaded ≡ self.old.loaded)) }
-        ensures stays { OnErr result
-            (StaysBut (process_named app.now id.now (processes_in self.old))
+        ensures refused { OnErr result
+            (LeftByCalls (process_named app.now id.now (processes_in self.old))
             (processes_in self.old) (processes_in self.new)) }
     {
         match self.tree.find(app, id) {

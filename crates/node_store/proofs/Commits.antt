@@ -75,9 +75,6 @@ extent_kept old new same = same_extent (store_extent new) (store_extent old) sam
 pub same_with : {D : Type 0} (h : NodeStore D) (s : Store D) → store.IsSame h.store s → IsSame h (record { store = s; list = h.list; dead = h.dead })
 same_with h s same = record { disk = same.disk; list = refl; dead = refl; extent = extent_kept h.store s same }
 
-pub same_both : {D : Type 0} (a b c : NodeStore D) → IsSame a b → IsSame b c → IsSame a c
-same_both a b c x y = record { disk = y.disk ∙ x.disk; list = y.list ∙ x.list; dead = y.dead ∙ x.dead; extent = y.extent ∙ x.extent }
-
 -- the disk was not touched
 pub read_nothing : {D : Type 0} (v : Ghosts D) (h : NodeStore D) → ((c : List ℕ) → v.left_since (disk_in h) (v.moment (disk_in h)) c → v.may_leave (disk_in h) c)
     → HasOnlyRead v.seen v.may_leave v.moment v.left_since (disk_in h) (disk_in h)

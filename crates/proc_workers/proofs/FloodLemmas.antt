@@ -1,28 +1,26 @@
 -- Many calls of one process: what the answers of a worker say of its history, and how they are counted.
-use Rattle.std.proofs.Common.{◌≡◌, ◌≢◌, ◌<◌, ◌≤◌, ◌==◌, ℕ, zero, suc, ◌+◌, Bool, true, false, if◌then◌else◌, List, [], ◌∷◌, ◌++◌, length, refl, ap, sym, subst, ◌∙◌, ⊎_elim, append-nil, append_assoc, arith, Some, None, Option, option_map, All}
+use Rattle.std.proofs.Common.{◌≡◌, ◌≢◌, ◌≤◌, ◌==◌, ℕ, zero, suc, ◌+◌, Bool, true, false, if◌then◌else◌, List, [], ◌∷◌, ◌++◌, length, length-append, refl, ap, sym, subst, subst₂, ◌∙◌, inr, ⊎_elim, append-nil, append_assoc, arith, Some, None, Option}
 use Rattle.std.proofs.lemmas.Bool.Decides.{nat_tests}
-use Rattle.std.proofs.lemmas.List.Elements.{All-head, All-tail}
 use Rattle.std.specs.List.{Contains}
 use mathlib.Core.List.{IsPrefix}
 use mathlib.Core.Logic.{dite}
 use native.Mathlib.Decide.{ℕ_discrete}
-use Rattle.proc_history.specs.declared.value.Now.{Now}
 use Rattle.proc_history.specs.declared.value.Outcome.{Outcome}
 use Rattle.proc_history.specs.declared.value.Outcome.TheVariants as outcome
 use Rattle.proc_history.specs.declared.value.Value.{Value}
 use Rattle.proc_history.specs.Events.{HistoryEntry, entry, own}
 use Rattle.proc_history.specs.Events.Event.{call}
-use Rattle.proc_history.specs.Histories.{replay, replay_from, IsLegal, LegalFrom}
-use Rattle.proc_history.specs.Values.{after, answer, nothing, outcome_of, up_at, up_in}
+use Rattle.proc_history.specs.Histories.{replay}
+use Rattle.proc_history.specs.Outcomes.{after_call, call_entries, outcome_in}
+use Rattle.proc_history.specs.Values.{after, nothing}
 use Rattle.proc_history.proofs.Entries.{own-append, append_nothing, replay-append}
-use Rattle.proc_history.proofs.Prefixes.{prefix_more}
-use Rattle.proc_history.proofs.StandLemmas.{legal_rest}
+use Rattle.proc_history.proofs.Prefixes.{prefix_both, prefix_more, prefix_shorter, prefix_trans}
 use Rattle.proc_table.specs.declared.pass.Tried.{Tried}
 use Rattle.proc_table.specs.declared.pass.Tried.TheVariants as tried
 use Rattle.proc_table.specs.declared.pid.Pid.{Pid}
 use Rattle.proc_table.specs.declared.view.View.{View}
 use Rattle.proc_table.specs.Alone.{ByOnePass}
-use Rattle.proc_table.specs.Calls.{Made, Joined}
+use Rattle.proc_table.specs.Calls.{Made, Joined, tried_of}
 use Rattle.proc_table.specs.Parts.{Part, part_of, longer}
 use Rattle.proc_table.specs.Views.{seen, all_but}
 use Rattle.proc_table.proofs.AloneLemmas.{longer_of}
@@ -30,8 +28,155 @@ use Rattle.proc_table.proofs.LentLemmas.{only_lent, none_left}
 use Rattle.proc_workers.specs.declared.floods.FloodCounts.{FloodCounts}
 use Rattle.proc_workers.specs.declared.note.Answer.{Answer}
 use Rattle.proc_workers.specs.Counted.{AreCounted, AreOf, outcome_before, outcomes_in}
-use Rattle.proc_workers.specs.Floods.{and_then, calls_with, Counts, IsFlooded, outcomes_of}
-use Rattle.proc_workers.specs.Work.{calls_of, entries_of, HasAnswered, MayAnswer, WasDown, WasUp}
+use Rattle.proc_workers.specs.Floods.{and_then, calls_in_turn, calls_with, Counts, IsBrokenOff, IsFlooded, outcomes_of}
+use Rattle.proc_workers.specs.Work.{calls_of, entries_of, AnswersBy, AnswersInTurn, HasAnswered}
+
+-- ---- answers with nothing between
+-- Each answer was given by what the calls of those before it left.
+abbrev AnswersAtOnce : Pid → ℕ → List HistoryEntry → List Answer → Type 0
+AnswersAtOnce pid k h [] = Unit {0}
+AnswersAtOnce pid k h (a ∷ more) = AnswersBy pid h a × AnswersAtOnce pid k (h ++ entries_of k a.input a.tried) more
+
+turns_longer : (pid : Pid) (k : ℕ) (h : List HistoryEntry) (answers : List Answer) (g : List HistoryEntry) → AnswersInTurn pid k h answers g → IsPrefix h g
+turns_longer pid k h [] g turns = turns
+turns_longer pid k h (a ∷ more) g turns =
+    let new = entries_of k a.input a.tried in
+    prefix_trans h turns.0 g turns.1 (prefix_trans turns.0 (turns.0 ++ new) g (prefix_more turns.0 new) (turns_longer pid k (turns.0 ++ new) more g turns.3))
+
+-- what was seen at last has room for all calls
+turns_within : (pid : Pid) (k : ℕ) (h : List HistoryEntry) (answers : List Answer) (g : List HistoryEntry) → AnswersInTurn pid k h answers g → length h + length (calls_of k answers) ≤ length g
+turns_within pid k h [] g turns =
+    let all = ap (λ (l : List HistoryEntry). length l) turns.1 in
+    let parts = length-append h turns.0 in
+    omega arith
+turns_within pid k h (a ∷ more) g turns =
+    let new = entries_of k a.input a.tried in
+    let rest = turns_within pid k (turns.0 ++ new) more g turns.3 in
+    let here = length-append turns.0 new in
+    let calls = length-append new (calls_of k more) in
+    let first = ap (λ (l : List HistoryEntry). length l) turns.1.1 in
+    let parts = length-append h turns.1.0 in
+    omega arith
+
+-- where nothing but the calls came, nothing came between
+come_at_once : (pid : Pid) (k : ℕ) (h : List HistoryEntry) (answers : List Answer) (g : List HistoryEntry) → AnswersInTurn pid k h answers g → g ≡ h ++ calls_of k answers → AnswersAtOnce pid k h answers
+come_at_once pid k h [] g turns is = tt
+come_at_once pid k h (a ∷ more) g turns is = (
+  subst (λ (l : List HistoryEntry). AnswersBy pid l a) same turns.2,
+  come_at_once pid k (h ++ new) more g (subst (λ (l : List HistoryEntry). AnswersInTurn pid k (l ++ new) more g) same turns.3) (is ∙ sym (append_assoc h new (calls_of k more))),
+)
+  where
+    new : List HistoryEntry
+    new = entries_of k a.input a.tried
+
+    short : length turns.0 ≤ length h
+    short =
+        let rest = turns_within pid k (turns.0 ++ new) more g turns.3 in
+        let here = length-append turns.0 new in
+        let all = ap (λ (l : List HistoryEntry). length l) is in
+        let parts = length-append h (new ++ calls_of k more) in
+        let calls = length-append new (calls_of k more) in
+        omega arith
+
+    same : turns.0 ≡ h
+    same =
+        let within = prefix_trans turns.0 (turns.0 ++ new) g (prefix_more turns.0 new) (turns_longer pid k (turns.0 ++ new) more g turns.3) in
+        let begins = turns_longer pid k h (a ∷ more) g turns in
+        prefix_both turns.0 h (prefix_shorter turns.0 h g within begins short) turns.1
+
+-- what a call adds, and leaves
+entries_are : (k input : ℕ) (o : Option Outcome) → entries_of k input (tried_of o) ≡ call_entries k input o
+entries_are k input None = refl
+entries_are k input (Some (outcome.Done r)) = refl
+entries_are k input (Some outcome.Crashed) = refl
+entries_are k input (Some (outcome.Ended r)) = refl
+
+left_behind : (k input : ℕ) (h : List HistoryEntry) (o : Option Outcome) → replay (h ++ call_entries k input o) ≡ after_call (replay h) input o
+left_behind k input h None = ap replay (append-nil h)
+left_behind k input h (Some o) = replay-append nothing h (entry k (call input o) ∷ [])
+
+answer_leaves : (k input : ℕ) (h : List HistoryEntry) (t : Tried) (o : Option Outcome) → t ≡ tried_of o → replay (h ++ entries_of k input t) ≡ after_call (replay h) input o
+answer_leaves k input h t o is = ap (λ (x : Tried). replay (h ++ entries_of k input x)) is
+    ∙ (ap (λ (l : List HistoryEntry). replay (h ++ l)) (entries_are k input o) ∙ left_behind k input h o)
+
+down_leaves : (k input : ℕ) (h : List HistoryEntry) (t : Tried) → t ≡ tried.Down → replay (h ++ entries_of k input t) ≡ replay h
+down_leaves k input h t is = answer_leaves k input h t None is
+
+-- ---- the calls of such answers
+-- They are calls in turn, with some inputs.
+abbrev AreInTurn : Pid → ℕ → List HistoryEntry → List Answer → Type 0
+AreInTurn pid k h answers = (inputs : List ℕ) × (calls_of k answers ≡ calls_in_turn k pid.round inputs (replay h))
+
+one_called : (pid : Pid) (k : ℕ) (h : List HistoryEntry) (a : Answer) (more : List Answer) → a.tried ≡ tried_of (outcome_in pid.round a.input (replay h))
+    → AreInTurn pid k (h ++ entries_of k a.input a.tried) more → AreInTurn pid k h (a ∷ more)
+one_called pid k h a more is rest =
+    let o = outcome_in pid.round a.input (replay h) in
+    let first : entries_of k a.input a.tried ≡ call_entries k a.input o = ap (λ (t : Tried). entries_of k a.input t) is ∙ entries_are k a.input o in
+    let others = rest.1 ∙ ap (calls_in_turn k pid.round rest.0) (answer_leaves k a.input h a.tried o is) in
+    (a.input ∷ rest.0, ap (λ (l : List HistoryEntry). l ++ calls_of k more) first ∙ ap (λ (l : List HistoryEntry). call_entries k a.input o ++ l) others)
+
+one_named : (pid : Pid) (k : ℕ) (h : List HistoryEntry) (a : Answer) (more : List Answer) → a.tried ≡ tried.Down
+    → AreInTurn pid k (h ++ entries_of k a.input a.tried) more → AreInTurn pid k h (a ∷ more)
+one_named pid k h a more is rest = (
+  rest.0,
+  ap (λ (t : Tried). entries_of k a.input t ++ calls_of k more) is ∙ (rest.1 ∙ ap (calls_in_turn k pid.round rest.0) (down_leaves k a.input h a.tried is)),
+)
+
+-- the inputs are those of the jobs that named the process
+are_in_turn : (pid : Pid) (k : ℕ) (h : List HistoryEntry) (answers : List Answer) → AnswersAtOnce pid k h answers → AreInTurn pid k h answers
+are_in_turn pid k h [] once = ([], refl)
+are_in_turn pid k h (a ∷ more) once =
+    let rest = are_in_turn pid k (h ++ entries_of k a.input a.tried) more once.1 in
+    ⊎_elim (λ called. one_called pid k h a more called.1 rest) (λ other. one_named pid k h a more other.1 rest) once.0
+
+-- ---- calls with one input
+call_first : (k input : ℕ) (given : ℕ) (t : Tried) (es : List HistoryEntry) (os : List Outcome) → given ≡ input → es ≡ calls_with k input os → entries_of k given t ++ es ≡ calls_with k input (outcome_before t os)
+call_first k input given (tried.Done r) es os is rest = ap (λ (n : ℕ). entry k (call n (outcome.Done r)) ∷ es) is ∙ ap (λ (l : List HistoryEntry). entry k (call input (outcome.Done r)) ∷ l) rest
+call_first k input given tried.Crashed es os is rest = ap (λ (n : ℕ). entry k (call n outcome.Crashed) ∷ es) is ∙ ap (λ (l : List HistoryEntry). entry k (call input outcome.Crashed) ∷ l) rest
+call_first k input given (tried.Ended r) es os is rest = ap (λ (n : ℕ). entry k (call n (outcome.Ended r)) ∷ es) is ∙ ap (λ (l : List HistoryEntry). entry k (call input (outcome.Ended r)) ∷ l) rest
+call_first k input given tried.Down es os is rest = rest
+call_first k input given tried.Busy es os is rest = rest
+call_first k input given tried.Held es os is rest = rest
+
+calls_are : (pid : Pid) (k input : ℕ) (answers : List Answer) → AreOf pid input answers → calls_of k answers ≡ calls_with k input (outcomes_in answers)
+calls_are pid k input [] of = refl
+calls_are pid k input (a ∷ more) of = call_first k input a.input a.tried (calls_of k more) (outcomes_in more) of.0 (calls_are pid k input more of.2)
+
+-- the process is down from then on, so no call more has an outcome
+no_outcomes : (round input n : ℕ) (x : Value) → outcome_in round input x ≡ None → outcomes_of round input n x ≡ []
+no_outcomes round input zero x is = refl
+no_outcomes round input (suc n) x is = ap (λ (u : Option Outcome). and_then u (λ o. outcomes_of round input n (after x (call input o)))) is
+
+outcome_first : (o : Outcome) (os : List Outcome) → outcome_before (tried_of (Some o)) os ≡ o ∷ os
+outcome_first (outcome.Done r) os = refl
+outcome_first outcome.Crashed os = refl
+outcome_first (outcome.Ended r) os = refl
+
+one_outcome : (round k input n : ℕ) (h : List HistoryEntry) (t : Tried) (os : List Outcome) (o : Option Outcome) → outcome_in round input (replay h) ≡ o → t ≡ tried_of o
+    → outcomes_of round input n (replay (h ++ entries_of k input t)) ≡ os → outcomes_of round input (suc n) (replay h) ≡ outcome_before t os
+one_outcome round k input n h t os None is tried_is rest =
+    no_outcomes round input (suc n) (replay h) is
+    ∙ sym (ap (λ (x : Tried). outcome_before x os) tried_is
+    ∙ (sym rest ∙ (ap (outcomes_of round input n) (down_leaves k input h t tried_is) ∙ no_outcomes round input n (replay h) is)))
+one_outcome round k input n h t os (Some o) is tried_is rest =
+    ap (λ (u : Option Outcome). and_then u (λ o'. outcomes_of round input n (after (replay h) (call input o')))) is
+    ∙ (ap (λ (l : List Outcome). o ∷ l) (ap (outcomes_of round input n) (sym (answer_leaves k input h t (Some o) tried_is)) ∙ rest)
+    ∙ sym (ap (λ (x : Tried). outcome_before x os) tried_is ∙ outcome_first o os))
+
+-- the outcomes are those that so many calls have
+outcomes_are : (pid : Pid) (k input times : ℕ) (h : List HistoryEntry) (answers : List Answer) → length answers ≡ times → AreOf pid input answers → AnswersAtOnce pid k h answers
+    → outcomes_of pid.round input times (replay h) ≡ outcomes_in answers
+outcomes_are pid k input zero h [] long of once = refl
+outcomes_are pid k input zero h (a ∷ more) long of once = absurd (omega arith)
+outcomes_are pid k input (suc n) h [] long of once = absurd (omega arith)
+outcomes_are pid k input (suc n) h (a ∷ more) long of once =
+    let rest = outcomes_are pid k input n (h ++ entries_of k a.input a.tried) more (omega arith) of.2 once.1 in
+    let rest' : outcomes_of pid.round input n (replay (h ++ entries_of k input a.tried)) ≡ outcomes_in more =
+    subst (λ (i : ℕ). outcomes_of pid.round input n (replay (h ++ entries_of k i a.tried)) ≡ outcomes_in more) of.0 rest in
+    ⊎_elim
+    (λ called. one_outcome pid.round k input n h a.tried (outcomes_in more) (outcome_in pid.round input (replay h)) refl
+    (subst (λ (i : ℕ). a.tried ≡ tried_of (outcome_in pid.round i (replay h))) of.0 called.1) rest')
+    (λ other. absurd (other.0 of.1)) once.0
 
 -- ---- a pass that was lent alone, and is taken back
 -- entries of one number alone are its own
@@ -48,16 +193,18 @@ own_alone k (e ∷ es) none = dite (ℕ_discrete e.by k)
     let yes : (e.by == e.by) ≡ true = grind (arith, nat_tests) in
     absurd (let gone = sym (ap (λ (b : Bool). if b then e ∷ own e.by es else own e.by es) yes) ∙ none e.by ne in cc))
 
-pub record TakenBack (pid : Pid) (answers : List Answer) (more : List HistoryEntry) (v both : View) : Type 0 where
-  pub more_is : more ≡ calls_of (v.count + 1) answers
-  pub seen_is : seen both pid.slot ≡ seen v pid.slot ++ calls_of (v.count + 1) answers
-  pub rest : ByOnePass pid.slot v both
+record TakenBack (pid : Pid) (answers : List Answer) (v both : View) : Type 0 where
+  seen_is : seen both pid.slot ≡ seen v pid.slot ++ calls_of (v.count + 1) answers
+  once : AnswersAtOnce pid (v.count + 1) (seen v pid.slot) answers
+  rest : ByOnePass pid.slot v both
 
-pub taken_back : (pid : Pid) (v one pass w both : View) (answers : List Answer) → v.lent ≡ [] → Made v one pass
-    → (h : HasAnswered pid pass answers w) → Joined one w both → TakenBack pid answers h.longer.0 v both
+taken_back : (pid : Pid) (v one pass w both : View) (answers : List Answer) → v.lent ≡ [] → Made v one pass
+    → HasAnswered pid pass answers w → Joined one w both → TakenBack pid answers v both
 taken_back pid v one pass w both answers none made h j = record {
-  more_is = all;
   seen_is = both_is ∙ ap (λ (l : List HistoryEntry). seen v p ++ l) all;
+  once = come_at_once pid (v.count + 1) (seen v p) answers (seen w p)
+      (subst₂ (λ (n : ℕ) (l : List HistoryEntry). AnswersInTurn pid n l answers (seen w p)) number (made.seen_is p) h.in_turn)
+      (there ∙ ap (λ (l : List HistoryEntry). seen v p ++ l) all);
   rest = record {
     number = j.number ∙ made.handler.0;
     count = j.count ∙ made.count;
@@ -73,8 +220,11 @@ taken_back pid v one pass w both answers none made h j = record {
     p : ℕ
     p = pid.slot
 
+    longer_is : IsPrefix (seen pass p) (seen w p)
+    longer_is = turns_longer pid pass.number (seen pass p) answers (seen w p) h.in_turn
+
     more : List HistoryEntry
-    more = h.longer.0
+    more = longer_is.0
 
     number : pass.number ≡ v.count + 1
     number = made.number ∙ made.count
@@ -86,7 +236,7 @@ taken_back pid v one pass w both answers none made h j = record {
     here q = ap (λ (ps : List Part). (part_of ps q).seen) made.handler.1
 
     there : seen w p ≡ seen v p ++ more
-    there = sym h.longer.1 ∙ ap (λ (l : List HistoryEntry). l ++ more) (made.seen_is p)
+    there = sym longer_is.1 ∙ ap (λ (l : List HistoryEntry). l ++ more) (made.seen_is p)
 
     both_is : seen both p ≡ seen v p ++ more
     both_is = j.seen_is p ∙ (ap (λ (l : List HistoryEntry). longer l (seen w p)) (here p) ∙ (ap (longer (seen v p)) there ∙ longer_of (seen v p) (seen v p ++ more) (prefix_more (seen v p) more)))
@@ -102,8 +252,9 @@ taken_back pid v one pass w both answers none made h j = record {
         let once = h.once (made.once p ∙ sym (made.mine_is p)) in
         let front : own pass.number (seen pass p ++ more) ≡ own pass.number more =
         own-append pass.number (seen pass p) more ∙ ap (λ (l : List HistoryEntry). l ++ own pass.number more) (made.once p) in
-        sym front ∙ (ap (own pass.number) h.longer.1 ∙ (once ∙ (h.mine_is ∙ ap (λ (l : List HistoryEntry). l ++ calls_of pass.number answers) (made.mine_is p))))
+        sym front ∙ (ap (own pass.number) longer_is.1 ∙ (once ∙ (h.mine_is ∙ ap (λ (l : List HistoryEntry). l ++ calls_of pass.number answers) (made.mine_is p))))
 
+    -- nobody else came, so what the pass saw more is its own
     all : more ≡ calls_of (v.count + 1) answers
     all = sym (own_alone (v.count + 1) more of_others) ∙ subst (λ (n : ℕ). own n more ≡ calls_of n answers) number of_pass
 
@@ -113,151 +264,21 @@ taken_back pid v one pass w both answers none made h j = record {
         let begins : IsPrefix (seen v q) (seen v q) = ([], append-nil (seen v q)) in
         j.seen_is q ∙ (ap (λ (l : List HistoryEntry). longer l (seen w q)) (here q) ∙ (ap (longer (seen v q)) behind ∙ longer_of (seen v q) (seen v q) begins))
 
-cancel : (xs ys zs : List HistoryEntry) → xs ++ ys ≡ xs ++ zs → ys ≡ zs
-cancel [] ys zs e = e
-cancel (x ∷ xs) ys zs e = cancel xs ys zs (cc)
-
--- ---- calls with one input
-call_first : (k input : ℕ) (given : ℕ) (t : Tried) (es : List HistoryEntry) (os : List Outcome) → given ≡ input → es ≡ calls_with k input os → entries_of k given t ++ es ≡ calls_with k input (outcome_before t os)
-call_first k input given (tried.Done r) es os is rest = ap (λ (n : ℕ). entry k (call n (outcome.Done r)) ∷ es) is ∙ ap (λ (l : List HistoryEntry). entry k (call input (outcome.Done r)) ∷ l) rest
-call_first k input given tried.Crashed es os is rest = ap (λ (n : ℕ). entry k (call n outcome.Crashed) ∷ es) is ∙ ap (λ (l : List HistoryEntry). entry k (call input outcome.Crashed) ∷ l) rest
-call_first k input given (tried.Ended r) es os is rest = ap (λ (n : ℕ). entry k (call n (outcome.Ended r)) ∷ es) is ∙ ap (λ (l : List HistoryEntry). entry k (call input (outcome.Ended r)) ∷ l) rest
-call_first k input given tried.Down es os is rest = rest
-call_first k input given tried.Busy es os is rest = rest
-call_first k input given tried.Held es os is rest = rest
-
-calls_are : (pid : Pid) (k input : ℕ) (answers : List Answer) → AreOf pid input answers → calls_of k answers ≡ calls_with k input (outcomes_in answers)
-calls_are pid k input [] of = refl
-calls_are pid k input (a ∷ more) of = call_first k input a.input a.tried (calls_of k more) (outcomes_in more) of.0 (calls_are pid k input more of.2)
-
-up_here : (round : ℕ) (x : Value) (m : Now) → x.round ≡ round → up_at x.now ≡ Some m → up_in round x ≡ Some m
-up_here round x m is up =
-    let yes : (x.round == round) ≡ true = grind (arith, nat_tests) in
-    ap (λ (b : Bool). if b then up_at x.now else None) yes ∙ up
-
-round_of : (round : ℕ) (x : Value) (m : Now) → up_in round x ≡ Some m → x.round ≡ round
-round_of round x m up = dite (ℕ_discrete x.round round) (λ e. e)
-    (λ ne.
-    let no : (x.round == round) ≡ false = grind (arith, nat_tests) in
-    absurd (let gone = sym (ap (λ (b : Bool). if b then up_at x.now else None) no) ∙ up in cc))
-
--- calls leave the round
-same_round : (k input : ℕ) (os : List Outcome) (g rest : List HistoryEntry) (x : Value) → g ++ rest ≡ calls_with k input os → (replay_from x g).round ≡ x.round
-same_round k input os [] rest x is = refl
-same_round k input [] (e ∷ es) rest x is = absurd (cc)
-same_round k input (o ∷ os) (e ∷ es) rest x is =
-    let first : e ≡ entry k (call input o) = cc in
-    let behind : es ++ rest ≡ calls_with k input os = cc in
-    ap (λ (f : HistoryEntry). (replay_from (after x f.event) es).round) first ∙ same_round k input os es rest (after x (call input o)) behind
-
--- a process that was down among such calls is down behind them
-stays_down : (round k input : ℕ) (os : List Outcome) (g rest : List HistoryEntry) (x : Value) → g ++ rest ≡ calls_with k input os → LegalFrom x (calls_with k input os)
-    → (os ≢ [] → x.round ≡ round) → up_in round (replay_from x g) ≡ None → up_in round (replay_from x (calls_with k input os)) ≡ None
-stays_down round k input [] [] rest x is legal same down = down
-stays_down round k input (o ∷ os) [] rest x is legal same down =
-    let m = legal.1 in
-    absurd (let up = up_here round x m.0 (same (λ e. cc)) m.1 in cc)
-stays_down round k input [] (e ∷ es) rest x is legal same down = absurd (cc)
-stays_down round k input (o ∷ os) (e ∷ es) rest x is legal same down =
-    let first : e ≡ entry k (call input o) = cc in
-    let behind : es ++ rest ≡ calls_with k input os = cc in
-    stays_down round k input os es rest (after x (call input o)) behind legal.2 (λ ne. same (λ e'. cc))
-    (ap (λ (f : HistoryEntry). up_in round (replay_from (after x f.event) es)) (sym first) ∙ down)
-
--- the outcomes of legal calls are those that the process has, as many as come before it is down
-outcomes_are : (round k input times : ℕ) (os : List Outcome) (x : Value) → LegalFrom x (calls_with k input os) → length os ≤ times → (os ≢ [] → x.round ≡ round)
-    → (length os < times → up_in round (replay_from x (calls_with k input os)) ≡ None) → outcomes_of round input times x ≡ os
-outcomes_are round k input zero [] x legal short same down = refl
-outcomes_are round k input zero (o ∷ os) x legal short same down = absurd (omega arith)
-outcomes_are round k input (suc n) [] x legal short same down =
-    ap (λ (u : Option Now). and_then (option_map (λ m. outcome_of (answer m input)) u) (λ o. outcomes_of round input n (after x (call input o)))) (down (omega arith))
-outcomes_are round k input (suc n) (o ∷ os) x legal short same down =
-    let m = legal.1 in
-    let up = up_here round x m.0 (same (λ e. cc)) m.1 in
-    let rest = outcomes_are round k input n os (after x (call input o)) legal.2 (omega arith) (λ ne. same (λ e. cc)) (λ lt. down (omega arith)) in
-    ap (λ (u : Option Now). and_then (option_map (λ m'. outcome_of (answer m' input)) u) (λ o'. outcomes_of round input n (after x (call input o')))) up
-    ∙ (ap (λ (o' : Outcome). o' ∷ outcomes_of round input n (after x (call input o'))) (sym m.2) ∙ ap (λ (l : List Outcome). o ∷ l) rest)
-
--- ---- what the answers say of the process
-answers_up : (pid : Pid) (v w : View) (answers : List Answer) → All (λ (a : Answer). MayAnswer pid v w a.pid a.tried) answers → outcomes_in answers ≢ [] → WasUp pid v w
-answers_up pid v w [] all some = absurd (some refl)
-answers_up pid v w (a ∷ more) all some = go a.tried (All-head (λ (x : Answer). MayAnswer pid v w x.pid x.tried) a more all) some (answers_up pid v w more (All-tail (λ (x : Answer). MayAnswer pid v w x.pid x.tried) a more all))
-  where
-    go : (t : Tried) → MayAnswer pid v w a.pid t → outcome_before t (outcomes_in more) ≢ [] → (outcomes_in more ≢ [] → WasUp pid v w) → WasUp pid v w
-    go (tried.Done r) may ne rest = may.1
-    go tried.Crashed may ne rest = may.1
-    go (tried.Ended r) may ne rest = may.1
-    go tried.Down may ne rest = rest ne
-    go tried.Busy may ne rest = absurd may
-    go tried.Held may ne rest = absurd may
-
-answers_down : (pid : Pid) (input : ℕ) (v w : View) (answers : List Answer) → All (λ (a : Answer). MayAnswer pid v w a.pid a.tried) answers → AreOf pid input answers
-    → length (outcomes_in answers) < length answers → WasDown pid v w
-answers_down pid input v w [] all of lt = absurd (omega arith)
-answers_down pid input v w (a ∷ more) all of lt = go a.tried (All-head (λ (x : Answer). MayAnswer pid v w x.pid x.tried) a more all) lt
-    (answers_down pid input v w more (All-tail (λ (x : Answer). MayAnswer pid v w x.pid x.tried) a more all) of.2)
-  where
-    go : (t : Tried) → MayAnswer pid v w a.pid t → length (outcome_before t (outcomes_in more)) < suc (length more) → (length (outcomes_in more) < length more → WasDown pid v w) → WasDown pid v w
-    go (tried.Done r) may lt' rest = rest (omega arith)
-    go tried.Crashed may lt' rest = rest (omega arith)
-    go (tried.Ended r) may lt' rest = rest (omega arith)
-    go tried.Down may lt' rest = ⊎_elim (λ other. absurd (other of.1)) (λ down. down) may
-    go tried.Busy may lt' rest = absurd may
-    go tried.Held may lt' rest = absurd may
-
 pub is_flooded : (pid : Pid) (input times : ℕ) (v one pass w both : View) (answers : List Answer) (f : FloodCounts) → v.lent ≡ [] → Made v one pass → HasAnswered pid pass answers w → Joined one w both
     → AreCounted pid input times answers f → IsFlooded pid input times v f both
-is_flooded pid input times v one pass w both answers f none made h j c = record {
-  counts = subst (λ (l : List Outcome). Counts times l f) (sym found) c.counts;
-  seen_is = back.seen_is ∙ (ap (λ (l : List HistoryEntry). seen v p ++ l) calls ∙ ap (λ (l : List Outcome). seen v p ++ calls_with k input l) (sym found));
-  rest = back.rest;
-}
-  where
-    p : ℕ
-    p = pid.slot
+is_flooded pid input times v one pass w both answers f none made h j c =
+    let k = v.count + 1 in
+    let before = seen v pid.slot in
+    let back = taken_back pid v one pass w both answers none made h j in
+    let found : outcomes_in answers ≡ outcomes_of pid.round input times (replay before) = sym (outcomes_are pid k input times before answers c.long c.are_of back.once) in
+    record {
+      counts = subst (λ (l : List Outcome). Counts times l f) found c.counts;
+      seen_is = back.seen_is ∙ ap (λ (l : List HistoryEntry). before ++ l) (calls_are pid k input answers c.are_of ∙ ap (calls_with k input) found);
+      rest = back.rest;
+    }
 
-    k : ℕ
-    k = v.count + 1
-
-    os : List Outcome
-    os = outcomes_in answers
-
-    x : Value
-    x = replay (seen v p)
-
-    back : TakenBack pid answers h.longer.0 v both
-    back = taken_back pid v one pass w both answers none made h j
-
-    calls : calls_of k answers ≡ calls_with k input os
-    calls = calls_are pid k input answers c.are_of
-
-    legal : LegalFrom x (calls_with k input os)
-    legal = legal_rest nothing (seen v p) (calls_with k input os)
-        (subst (λ (l : List HistoryEntry). IsLegal l) (back.seen_is ∙ ap (λ (l : List HistoryEntry). seen v p ++ l) calls) (back.rest.legal p))
-
-    longer_is : h.longer.0 ≡ calls_with k input os
-    longer_is = back.more_is ∙ calls
-
-    -- what the pass had seen then is what the handler had, and some of the calls
-    since : (h' : List HistoryEntry) → IsPrefix (seen pass p) h' → IsPrefix h' (seen w p) → (g : List HistoryEntry) × (rest : List HistoryEntry) × (g ++ rest ≡ calls_with k input os) × (replay h' ≡ replay_from x g)
-    since h' begins goes_on =
-        let g = begins.0 in
-        let is : h' ≡ seen v p ++ g = sym begins.1 ∙ ap (λ (l : List HistoryEntry). l ++ g) (made.seen_is p) in
-        let all : seen v p ++ (g ++ goes_on.0) ≡ seen v p ++ h.longer.0 =
-        sym (append_assoc (seen v p) g goes_on.0) ∙ (ap (λ (l : List HistoryEntry). l ++ goes_on.0) (sym is) ∙ (goes_on.1 ∙ (sym h.longer.1 ∙ ap (λ (l : List HistoryEntry). l ++ h.longer.0) (made.seen_is p)))) in
-        (g, goes_on.0, cancel (seen v p) (g ++ goes_on.0) h.longer.0 all ∙ longer_is, ap replay is ∙ replay-append nothing (seen v p) g)
-
-    same : os ≢ [] → x.round ≡ pid.round
-    same some =
-        let up = answers_up pid pass w answers h.each some in
-        let at = since up.0 up.1 up.2 in
-        sym (same_round k input os at.0 at.1 x at.2) ∙ (ap (λ (y : Value). y.round) (sym at.3) ∙ round_of pid.round (replay up.0) up.3 up.4)
-
-    down : length os < times → up_in pid.round (replay_from x (calls_with k input os)) ≡ None
-    down lt =
-        let gone = answers_down pid input pass w answers h.each c.are_of (let long = c.long in omega arith) in
-        let at = since gone.0 gone.1 gone.2 in
-        stays_down pid.round k input os at.0 at.1 x at.2 legal same (ap (up_in pid.round) (sym at.3) ∙ gone.3)
-
-    found : outcomes_of pid.round input times x ≡ os
-    found = outcomes_are pid.round k input times os x legal (let counted = c.counts.down in omega arith) same down
+pub is_broken_off : (pid : Pid) (v one pass w both : View) (answers : List Answer) → v.lent ≡ [] → Made v one pass → HasAnswered pid pass answers w → Joined one w both → IsBrokenOff pid v both
+is_broken_off pid v one pass w both answers none made h j =
+    let back = taken_back pid v one pass w both answers none made h j in
+    let calls = are_in_turn pid (v.count + 1) (seen v pid.slot) answers back.once in
+    inr (calls.0, back.seen_is ∙ ap (λ (l : List HistoryEntry). seen v pid.slot ++ l) calls.1, back.rest)

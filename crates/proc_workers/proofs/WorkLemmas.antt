@@ -1,12 +1,14 @@
 -- What one answer more makes of what a worker has done.
-use Rattle.std.proofs.Common.{◌≡◌, ℕ, List, [], ◌∷◌, ◌++◌, get_or, refl, ap, sym, subst, ◌∙◌, inl, inr, ⊎_elim, append-nil, append_assoc, All}
-use Rattle.std.proofs.lemmas.List.Elements.{All-nil, All-push}
+use Rattle.std.proofs.Common.{◌≡◌, ℕ, List, [], ◌∷◌, ◌++◌, Option, Some, None, option_map, refl, ap, sym, subst, ◌∙◌, inl, inr, ⊎_elim, append-nil, append_assoc}
 use mathlib.Core.List.{IsPrefix}
+use Rattle.proc_history.specs.declared.value.Now.{Now}
 use Rattle.proc_history.specs.declared.value.Outcome.{Outcome}
 use Rattle.proc_history.specs.declared.value.Outcome.TheVariants as outcome
 use Rattle.proc_history.specs.Events.{HistoryEntry, entry, own}
 use Rattle.proc_history.specs.Events.Event.{call}
-use Rattle.proc_history.specs.Histories.{IsLegal}
+use Rattle.proc_history.specs.Histories.{replay, IsLegal}
+use Rattle.proc_history.specs.Outcomes.{outcome_in}
+use Rattle.proc_history.specs.Values.{answer, outcome_of, up_in}
 use Rattle.proc_history.proofs.Prefixes.{prefix_self, prefix_more, prefix_trans}
 use Rattle.proc_table.specs.declared.view.View.{View}
 use Rattle.proc_table.specs.declared.pid.Pid.{Pid}
@@ -14,18 +16,21 @@ use Rattle.proc_table.specs.declared.pass.Tried.{Tried}
 use Rattle.proc_table.specs.declared.pass.Tried.TheVariants as tried
 use Rattle.proc_table.specs.Parts.{Part, part_of}
 use Rattle.proc_table.specs.Views.{seen, mine}
-use Rattle.proc_table.specs.Calls.{SameBut, Elsewhere, Looked, Called}
+use Rattle.proc_table.specs.Calls.{SameBut, Elsewhere, Looked, Called, tried_of}
 use Rattle.proc_table.specs.Waits.{Waited, AnswersAtLast}
 use Rattle.proc_workers.specs.declared.note.Answer.{Answer}
 use Rattle.proc_workers.specs.declared.note.Job.{Job}
 use Rattle.proc_workers.specs.Processes.{IsProcess}
-use Rattle.proc_workers.specs.Work.{job_of, entries_of, calls_of, WasUp, WasDown, MayAnswer, HasAnswered}
+use Rattle.proc_workers.specs.Work.{job_of, entries_of, calls_of, AnswersBy, AnswersInTurn, HasAnswered}
 use Rattle.proc_workers.specs.Desks.{HasAnswer}
 
 -- ---- a call that was waited for
--- What a call leaves, since before the waiting.
-record Since (p : ℕ) (new : List HistoryEntry) (v w : View) : Type 0 where
-  longer : IsPrefix (seen v p) (seen w p)
+-- What a call leaves, since before the waiting: it was answered by a history, and its entry stands right behind that.
+record Since (p round input : ℕ) (t : Tried) (new : List HistoryEntry) (v w : View) : Type 0 where
+  now : List HistoryEntry
+  longer : IsPrefix (seen v p) now
+  tried_is : t ≡ tried_of (outcome_in round input (replay now))
+  seen_is : seen w p ≡ now ++ new
   mine_is : mine w p ≡ mine v p ++ new
   once : own v.number (seen w p) ≡ mine w p
   legal : IsLegal (seen w p)
@@ -46,38 +51,45 @@ elsewhere_since p v u w was rest = record {
   others = λ q ne. rest.others q ne ∙ ap (λ (l : List Part). part_of l q) (same_parts p v u was);
 }
 
-called_since : (p round input : ℕ) (o : Outcome) (v u w : View) → Waited p v u → Called p round input o u w → Since p (entry v.number (call input o) ∷ []) v w
+called_since : (p round input : ℕ) (o : Outcome) (v u w : View) → Waited p v u → Called p round input o u w
+    → Since p round input (tried_of (Some o)) (entry v.number (call input o) ∷ []) v w
 called_since p round input o v u w was c =
     let number = same_number p v u was in
     let seen_was : seen u p ≡ seen v p = ap (λ (l : List Part). (part_of l p).seen) (same_parts p v u was) in
     let mine_was : mine u p ≡ mine v p = ap (λ (l : List Part). (part_of l p).mine) (same_parts p v u was) in
-    let new = entry u.number (call input o) ∷ [] in
+    let now : List HistoryEntry = seen u p ++ c.between in
     record {
-      longer = (c.between ++ new, sym (append_assoc (seen v p) c.between new) ∙ (ap (λ (l : List HistoryEntry). (l ++ c.between) ++ new) (sym seen_was) ∙ sym c.seen_is));
-      mine_is = c.mine_is ∙ (ap (λ (l : List HistoryEntry). l ++ new) mine_was ∙ ap (λ (n : ℕ). mine v p ++ entry n (call input o) ∷ []) number);
+      now = now;
+      longer = subst (λ (l : List HistoryEntry). IsPrefix l now) seen_was (prefix_more (seen u p) c.between);
+      tried_is = ap tried_of (ap (λ (x : Outcome). Some x) c.up.2 ∙ sym (ap (option_map (λ (m : Now). outcome_of (answer m input))) c.up.1));
+      seen_is = c.seen_is ∙ ap (λ (n : ℕ). now ++ entry n (call input o) ∷ []) number;
+      mine_is = c.mine_is ∙ (ap (λ (l : List HistoryEntry). l ++ entry u.number (call input o) ∷ []) mine_was ∙ ap (λ (n : ℕ). mine v p ++ entry n (call input o) ∷ []) number);
       once = subst (λ (n : ℕ). own n (seen w p) ≡ mine w p) number c.once;
       legal = c.legal;
       elsewhere = elsewhere_since p v u w was c.rest;
     }
 
-looked_since : (p : ℕ) (v u w : View) → Waited p v u → Looked p u w → Since p [] v w
-looked_since p v u w was c =
+looked_since : (p round input : ℕ) (v u w : View) → Waited p v u → Looked p u w → up_in round (replay (seen w p)) ≡ None → Since p round input tried.Down [] v w
+looked_since p round input v u w was c down =
     let number = same_number p v u was in
     let seen_was : seen u p ≡ seen v p = ap (λ (l : List Part). (part_of l p).seen) (same_parts p v u was) in
     let mine_was : mine u p ≡ mine v p = ap (λ (l : List Part). (part_of l p).mine) (same_parts p v u was) in
     record {
+      now = seen w p;
       longer = (c.between, ap (λ (l : List HistoryEntry). l ++ c.between) (sym seen_was) ∙ sym c.seen_is);
+      tried_is = sym (ap (λ (o : Option Now). tried_of (option_map (λ (m : Now). outcome_of (answer m input)) o)) down);
+      seen_is = sym (append-nil (seen w p));
       mine_is = c.mine_is ∙ (mine_was ∙ sym (append-nil (mine v p)));
       once = subst (λ (n : ℕ). own n (seen w p) ≡ mine w p) number c.once;
       legal = c.legal;
       elsewhere = elsewhere_since p v u w was c.rest;
     }
 
-since_call : (p round input : ℕ) (v : View) (t : Tried) (w : View) → AnswersAtLast p round input v t w → Since p (entries_of v.number input t) v w
+since_call : (p round input : ℕ) (v : View) (t : Tried) (w : View) → AnswersAtLast p round input v t w → Since p round input t (entries_of v.number input t) v w
 since_call p round input v (tried.Done r) w a = called_since p round input (outcome.Done r) v a.before w a.waited a.answers
 since_call p round input v tried.Crashed w a = called_since p round input outcome.Crashed v a.before w a.waited a.answers
 since_call p round input v (tried.Ended r) w a = called_since p round input (outcome.Ended r) v a.before w a.waited a.answers
-since_call p round input v tried.Down w a = looked_since p v a.before w a.waited a.answers.0
+since_call p round input v tried.Down w a = looked_since p round input v a.before w a.waited a.answers.0 a.answers.1
 since_call p round input v tried.Busy w a = absurd a.is_answer
 since_call p round input v tried.Held w a = absurd a.is_answer
 
@@ -87,58 +99,22 @@ calls_more n [] a = append-nil (entries_of n a.input a.tried)
 calls_more n (x ∷ more) a = ap (λ (l : List HistoryEntry). entries_of n x.input x.tried ++ l) (calls_more n more a)
     ∙ sym (append_assoc (entries_of n x.input x.tried) (calls_of n more) (entries_of n a.input a.tried))
 
-still_down : (pid : Pid) (v u w : View) → IsPrefix (seen u pid.slot) (seen w pid.slot) → WasDown pid v u → WasDown pid v w
-still_down pid v u w longer down = (down.0, down.1, prefix_trans down.0 (seen u pid.slot) (seen w pid.slot) down.2 longer, down.3)
-
-still_up : (pid : Pid) (v u w : View) → IsPrefix (seen u pid.slot) (seen w pid.slot) → WasUp pid v u → WasUp pid v w
-still_up pid v u w longer up = (up.0, up.1, prefix_trans up.0 (seen u pid.slot) (seen w pid.slot) up.2 longer, up.3, up.4)
-
-may_still : (pid : Pid) (v u w : View) → IsPrefix (seen u pid.slot) (seen w pid.slot) → (other : Pid) (t : Tried) → MayAnswer pid v u other t → MayAnswer pid v w other t
-may_still pid v u w longer other (tried.Done r) m = (m.0, still_up pid v u w longer m.1)
-may_still pid v u w longer other tried.Crashed m = (m.0, still_up pid v u w longer m.1)
-may_still pid v u w longer other (tried.Ended r) m = (m.0, still_up pid v u w longer m.1)
-may_still pid v u w longer other tried.Down m = ⊎_elim (λ no. inl no) (λ down. inr (still_down pid v u w longer down)) m
-may_still pid v u w longer other tried.Busy m = m
-may_still pid v u w longer other tried.Held m = m
-
--- a call found the process up
-up_now : (pid : Pid) (v u : View) (input : ℕ) (o : Outcome) (before w : View) → IsPrefix (seen v pid.slot) (seen u pid.slot) → Waited pid.slot u before
-    → Called pid.slot pid.round input o before w → WasUp pid v w
-up_now pid v u input o before w longer was c =
-    let p = pid.slot in
-    let same : seen before p ≡ seen u p = ap (λ (l : List Part). (part_of l p).seen) (same_parts p u before was) in
-    let h : List HistoryEntry = seen before p ++ c.between in
-    let begins : IsPrefix (seen u p) h = subst (λ (l : List HistoryEntry). IsPrefix l h) same (prefix_more (seen before p) c.between) in
-    let goes_on : IsPrefix h (seen w p) = subst (λ (l : List HistoryEntry). IsPrefix h l) (sym c.seen_is) (prefix_more h (entry before.number (call input o) ∷ [])) in
-    (h, prefix_trans (seen v p) (seen u p) h longer begins, goes_on, c.up.0, c.up.1)
-
-may_now : (pid : Pid) (v u : View) (input : ℕ) (other : Pid) (t : Tried) (w : View) → IsPrefix (seen v pid.slot) (seen u pid.slot) → IsProcess pid other
-    → AnswersAtLast pid.slot pid.round input u t w → MayAnswer pid v w other t
-may_now pid v u input other (tried.Done r) w longer is a = (is, up_now pid v u input (outcome.Done r) a.before w longer a.waited a.answers)
-may_now pid v u input other tried.Crashed w longer is a = (is, up_now pid v u input outcome.Crashed a.before w longer a.waited a.answers)
-may_now pid v u input other (tried.Ended r) w longer is a = (is, up_now pid v u input (outcome.Ended r) a.before w longer a.waited a.answers)
-may_now pid v u input other tried.Down w longer is a =
-    let more = (since_call pid.slot pid.round input u tried.Down w a).longer in
-    inr (seen w pid.slot, prefix_trans (seen v pid.slot) (seen u pid.slot) (seen w pid.slot) longer more, prefix_self (seen w pid.slot), a.answers.1)
-may_now pid v u input other tried.Busy w longer is a = absurd a.is_answer
-may_now pid v u input other tried.Held w longer is a = absurd a.is_answer
+-- answers in turn, and one by a later history
+turn_more : (pid : Pid) (n : ℕ) (h : List HistoryEntry) (answers : List Answer) (a : Answer) (g now later : List HistoryEntry) → AnswersInTurn pid n h answers g → IsPrefix g now → AnswersBy pid now a
+    → IsPrefix (now ++ entries_of n a.input a.tried) later → AnswersInTurn pid n h (answers ++ a ∷ []) later
+turn_more pid n h [] a g now later turns longer by more = (now, prefix_trans h g now turns longer, by, more)
+turn_more pid n h (x ∷ xs) a g now later turns longer by more =
+    (turns.0, turns.1, turns.2, turn_more pid n (turns.0 ++ entries_of n x.input x.tried) xs a g now later turns.3 longer by more)
 
 -- no answer yet
 pub answered_nothing : (pid : Pid) (v : View) → HasAnswered pid v [] v
 answered_nothing pid v = record {
-  longer = prefix_self (seen v pid.slot);
+  in_turn = prefix_self (seen v pid.slot);
   mine_is = sym (append-nil (mine v pid.slot));
   once = λ h. h;
   legal = λ h. h;
-  each = All-nil (λ (a : Answer). MayAnswer pid v v a.pid a.tried);
   elsewhere = record { number = refl; count = refl; lent = refl; others = λ q ne. refl };
 }
-
-each_more : (pid : Pid) (v u w : View) (answers : List Answer) (a : Answer) → IsPrefix (seen u pid.slot) (seen w pid.slot) → All (λ (x : Answer). MayAnswer pid v u x.pid x.tried) answers
-    → MayAnswer pid v w a.pid a.tried → All (λ (x : Answer). MayAnswer pid v w x.pid x.tried) (answers ++ a ∷ [])
-each_more pid v u w answers a longer all one =
-    All-push (λ (x : Answer). MayAnswer pid v w x.pid x.tried) answers a
-    (λ k d lt. let x : Answer = get_or answers k d in may_still pid v u w longer x.pid x.tried (all k d lt)) one
 
 by_call : (pid : Pid) (v : View) (answers : List Answer) (u : View) (a : Answer) (w : View) → HasAnswered pid v answers u → IsProcess pid a.pid
     → AnswersAtLast pid.slot pid.round a.input u a.tried w → HasAnswered pid v (answers ++ a ∷ []) w
@@ -146,13 +122,14 @@ by_call pid v answers u a w h is at =
     let p = pid.slot in
     let s = since_call p pid.round a.input u a.tried w at in
     let number = h.elsewhere.number in
+    let behind : s.now ++ entries_of v.number a.input a.tried ≡ seen w p = sym (s.seen_is ∙ ap (λ (n : ℕ). s.now ++ entries_of n a.input a.tried) number) in
     record {
-      longer = prefix_trans (seen v p) (seen u p) (seen w p) h.longer s.longer;
+      in_turn = turn_more pid v.number (seen v p) answers a (seen u p) s.now (seen w p) h.in_turn s.longer (inl (is, s.tried_is))
+          (subst (λ (l : List HistoryEntry). IsPrefix l (seen w p)) (sym behind) (prefix_self (seen w p)));
       mine_is = s.mine_is ∙ (ap (λ (l : List HistoryEntry). l ++ entries_of u.number a.input a.tried) h.mine_is ∙ (append_assoc (mine v p) (calls_of v.number answers) (entries_of u.number a.input a.tried)
           ∙ ap (λ (l : List HistoryEntry). mine v p ++ l) (ap (λ (n : ℕ). calls_of v.number answers ++ entries_of n a.input a.tried) number ∙ sym (calls_more v.number answers a))));
       once = λ before. subst (λ (n : ℕ). own n (seen w p) ≡ mine w p) number s.once;
       legal = λ before. s.legal;
-      each = each_more pid v u w answers a s.longer h.each (may_now pid v u a.input a.pid a.tried w h.longer is at);
       elsewhere = record {
         number = s.elsewhere.number ∙ h.elsewhere.number;
         count = s.elsewhere.count ∙ h.elsewhere.count;
@@ -165,12 +142,13 @@ by_name : (pid : Pid) (v : View) (answers : List Answer) (u : View) (a : Answer)
 by_name pid v answers u a h other down =
     let p = pid.slot in
     let none : entries_of v.number a.input a.tried ≡ [] = ap (λ (t : Tried). entries_of v.number a.input t) down in
+    let behind : seen u p ++ entries_of v.number a.input a.tried ≡ seen u p = ap (λ (l : List HistoryEntry). seen u p ++ l) none ∙ append-nil (seen u p) in
     record {
-      longer = h.longer;
+      in_turn = turn_more pid v.number (seen v p) answers a (seen u p) (seen u p) (seen u p) h.in_turn (prefix_self (seen u p)) (inr (other, down))
+          (subst (λ (l : List HistoryEntry). IsPrefix l (seen u p)) (sym behind) (prefix_self (seen u p)));
       mine_is = h.mine_is ∙ ap (λ (l : List HistoryEntry). mine v p ++ l) (sym (calls_more v.number answers a ∙ (ap (λ (l : List HistoryEntry). calls_of v.number answers ++ l) none ∙ append-nil (calls_of v.number answers))));
       once = h.once;
       legal = h.legal;
-      each = each_more pid v u u answers a (prefix_self (seen u p)) h.each (subst (λ (t : Tried). MayAnswer pid v u a.pid t) (sym down) (inl other));
       elsewhere = h.elsewhere;
     }
 

@@ -6,15 +6,13 @@ use Rattle.proc_history.specs.declared.value.Value.{Value}
 use Rattle.proc_history.specs.Events.{HistoryEntry, entry}
 use Rattle.proc_history.specs.Events.Event.{call}
 use Rattle.proc_history.specs.Histories.{replay}
-use Rattle.proc_history.specs.Outcomes.{outcome_in}
+use Rattle.proc_history.specs.Outcomes.{after_call, call_entries, outcome_in}
 use Rattle.proc_history.specs.Values.{after}
 use Rattle.proc_table.specs.declared.pid.Pid.{Pid}
 use Rattle.proc_table.specs.declared.view.View.{View}
 use Rattle.proc_table.specs.Alone.{ByOnePass}
 use Rattle.proc_table.specs.Views.{seen}
 use Rattle.proc_workers.specs.declared.floods.FloodCounts.{FloodCounts}
-use Rattle.proc_workers.specs.declared.note.Answer.{Answer}
-use Rattle.proc_workers.specs.Work.{calls_of}
 
 -- this outcome, and those behind it
 abbrev pub and_then : Option Outcome → (Outcome → List Outcome) → List Outcome
@@ -59,6 +57,14 @@ pub record IsFlooded (pid : Pid) (input times : ℕ) (v : View) (f : FloodCounts
   pub seen_is : seen w pid.slot ≡ seen v pid.slot ++ calls_with (v.count + 1) input (outcomes_of pid.round input times (replay (seen v pid.slot)))
   pub rest : ByOnePass pid.slot v w
 
--- nothing was done, or some calls of one pass
+-- The entries of calls of a pass with these inputs, one after another, each with the outcome of its process. A call that finds
+-- no process of this round up has none.
+abbrev pub calls_in_turn : ℕ → ℕ → List ℕ → Value → List HistoryEntry
+calls_in_turn number round [] v = []
+calls_in_turn number round (i ∷ is) v = call_entries number i (outcome_in round i v) ++ calls_in_turn number round is (after_call v i (outcome_in round i v))
+
+-- Nothing was done, or some calls of one pass were made, with some inputs and with nothing between. They stand right behind what
+-- the handler had seen.
 abbrev pub IsBrokenOff : Pid → View → View → Type 0
-IsBrokenOff pid v w = (w ≡ v) ⊎ ((answers : List Answer) × (seen w pid.slot ≡ seen v pid.slot ++ calls_of (v.count + 1) answers) × ByOnePass pid.slot v w)
+IsBrokenOff pid v w = (w ≡ v)
+    ⊎ ((inputs : List ℕ) × (seen w pid.slot ≡ seen v pid.slot ++ calls_in_turn (v.count + 1) pid.round inputs (replay (seen v pid.slot))) × ByOnePass pid.slot v w)

@@ -1,17 +1,16 @@
 -- What a worker has done with the jobs that it took.
-use Rattle.std.specs.Prelude.{◌≡◌, ◌⊎◌, ℕ, List, [], ◌∷◌, ◌++◌, map, Some, None, All}
+use Rattle.std.specs.Prelude.{◌≡◌, ◌⊎◌, ℕ, List, [], ◌∷◌, ◌++◌, map}
 use mathlib.Core.List.{IsPrefix}
-use Rattle.proc_history.specs.declared.value.Now.{Now}
 use Rattle.proc_history.specs.declared.value.Outcome.TheVariants as outcome
 use Rattle.proc_history.specs.Events.{HistoryEntry, entry, own}
 use Rattle.proc_history.specs.Events.Event.{call}
 use Rattle.proc_history.specs.Histories.{replay, IsLegal}
-use Rattle.proc_history.specs.Values.{up_in}
+use Rattle.proc_history.specs.Outcomes.{outcome_in}
 use Rattle.proc_table.specs.declared.view.View.{View}
 use Rattle.proc_table.specs.declared.pid.Pid.{Pid}
 use Rattle.proc_table.specs.declared.pass.Tried.{Tried}
 use Rattle.proc_table.specs.declared.pass.Tried.TheVariants as tried
-use Rattle.proc_table.specs.Calls.{Elsewhere}
+use Rattle.proc_table.specs.Calls.{Elsewhere, tried_of}
 use Rattle.proc_table.specs.Views.{seen, mine}
 use Rattle.proc_workers.specs.declared.note.Answer.{Answer}
 use Rattle.proc_workers.specs.declared.note.Job.{Job}
@@ -37,32 +36,26 @@ abbrev pub calls_of : ℕ → List Answer → List HistoryEntry
 calls_of n [] = []
 calls_of n (a ∷ more) = entries_of n a.input a.tried ++ calls_of n more
 
--- No process of that round was up at some moment since: by a history that begins with what the pass had seen, and that what it
--- has seen now begins with.
-abbrev pub WasDown : Pid → View → View → Type 0
-WasDown pid v w = (h : List HistoryEntry) × IsPrefix (seen v pid.slot) h × IsPrefix h (seen w pid.slot) × (up_in pid.round (replay h) ≡ None)
+-- What a worker of this process answers by this history. To a job that names the process: what a call behind the history
+-- answers, so Down where no process of that round is up. To any other job: Down.
+abbrev pub AnswersBy : Pid → List HistoryEntry → Answer → Type 0
+AnswersBy pid h a = (IsProcess pid a.pid × (a.tried ≡ tried_of (outcome_in pid.round a.input (replay h)))) ⊎ ((¬ IsProcess pid a.pid) × (a.tried ≡ tried.Down))
 
--- The process of that round was up at some moment since.
-abbrev pub WasUp : Pid → View → View → Type 0
-WasUp pid v w = (h : List HistoryEntry) × IsPrefix (seen v pid.slot) h × IsPrefix h (seen w pid.slot) × (n : Now) × (up_in pid.round (replay h) ≡ Some n)
+-- From the history h to g these answers were given one after another. Each goes by a history `now`, and the entry of its call
+-- stands right behind that. What the next one goes by begins with both, and g begins with all.
+abbrev pub AnswersInTurn : Pid → ℕ → List HistoryEntry → List Answer → List HistoryEntry → Type 0
+AnswersInTurn pid number h [] g = IsPrefix h g
+AnswersInTurn pid number h (a ∷ more) g =
+    (now : List HistoryEntry) × IsPrefix h now × AnswersBy pid now a × AnswersInTurn pid number (now ++ entries_of number a.input a.tried) more g
 
--- What a worker may answer to a job that names the process `other`: Down where that is another, or where its own was down. Any
--- other answer is that of its own, which was up.
-abbrev pub MayAnswer : Pid → View → View → Pid → Tried → Type 0
-MayAnswer pid v w other tried.Busy = ⊥
-MayAnswer pid v w other tried.Held = ⊥
-MayAnswer pid v w other tried.Down = (¬ IsProcess pid other) ⊎ WasDown pid v w
-MayAnswer pid v w other t = IsProcess pid other × WasUp pid v w
-
--- The worker of this process has given these answers: each but Down is a call of its pass, in order, and it made no other.
--- Where the pass's own entries in what it had seen were its `mine`, they still are, so each call stands in the history once.
--- Where that was legal, it still is, so each call has the outcome of its process. Other slots are as before.
+-- The worker of this process has given these answers in turn, from the history that its pass had seen to the one that it has
+-- seen now. Each but Down is a call of its pass, and it made no other. Where the pass's own entries in what it had seen were its
+-- `mine`, they still are, so each call stands in the history once. Where that was legal, it still is. Other slots are as before.
 pub record HasAnswered (pid : Pid) (v : View) (answers : List Answer) (w : View) : Type 0 where
-  pub longer : IsPrefix (seen v pid.slot) (seen w pid.slot)
+  pub in_turn : AnswersInTurn pid v.number (seen v pid.slot) answers (seen w pid.slot)
   pub mine_is : mine w pid.slot ≡ mine v pid.slot ++ calls_of v.number answers
   pub once : own v.number (seen v pid.slot) ≡ mine v pid.slot → own v.number (seen w pid.slot) ≡ mine w pid.slot
   pub legal : IsLegal (seen v pid.slot) → IsLegal (seen w pid.slot)
-  pub each : All (λ a. MayAnswer pid v w a.pid a.tried) answers
   pub elsewhere : Elsewhere pid.slot v w
 
 -- The jobs that it took are those of its answers, and then those that are left: the ones since a Suspend that no Resume

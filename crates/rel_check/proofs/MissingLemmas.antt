@@ -2,16 +2,15 @@
 use Rattle.std.proofs.Common.{◌≡◌, ℕ, zero, suc, Bool, true, false, List, [], ◌∷◌, Option, None, Some, Contains, if◌then◌else◌, refl, sym, ap, subst, ◌∙◌}
 use Rattle.std.specs.Option.{option_or, option_and_then}
 use Rattle.std.specs.Str.{bytes_eq}
-use Rattle.mod_table.specs.declared.child.ChildKind.{ChildKind}
-use Rattle.mod_table.specs.declared.child.ChildKind.TheVariants as kind
 use Rattle.mod_table.specs.declared.table.Table.{Table}
 use Rattle.mod_table.specs.declared.table.Table.TheVariants.{Worker, Super}
 use Rattle.mod_table.specs.Table.{ChildSpec}
 use Rattle.rel_check.specs.Modules.{Part, Module, table_of, modules_in}
-use Rattle.mod_table.specs.Tables.{first_of, of_kind, child_table}
+use Rattle.mod_table.specs.Tables.{first_of, child_table}
 use Rattle.rel_check.specs.Walk.{missing_at, missing_below, is_started, top_of, missing_from, part_missing, tables_of}
 use Rattle.rel_check.specs.Laws.{IsNamedIn, MissingIsNamed}
 use Rattle.rel_check.specs.Laws.IsNamedIn.{as_top, as_child}
+use Rattle.mod_table.proofs.ChildTables.{of_kind_is_found}
 use Rattle.rel_check.proofs.Members.{first_member, later_member}
 
 -- what is found of a list is found of a member
@@ -42,14 +41,6 @@ table_found (x ∷ ms) q t found = go (table_of ms q) refl (bytes_eq x.name q) r
     go None is false at rest =
         let lost : None ≡ Some t = (λ j. option_or (sym is j) (if sym at j then x.table else None)) ∙ found in absurd cc
 
--- a table of its kind is the table that was found
-kind_found : (k : ChildKind) (o : Option Table) (t : Table) → option_and_then (of_kind k) o ≡ Some t → o ≡ Some t
-kind_found k None t is = absurd cc
-kind_found kind.Worker (Some (Worker w)) t is = is
-kind_found kind.Worker (Some (Super s)) t is = absurd cc
-kind_found kind.Supervisor (Some (Worker w)) t is = absurd cc
-kind_found kind.Supervisor (Some (Super s)) t is = is
-
 IsTableIn : List Part → Table → Type 0
 IsTableIn ps t = (m : Module) × Contains (modules_in ps) m × (m.table ≡ Some t)
 
@@ -70,7 +61,7 @@ named_below ps (suc n) (Super s) q (m, member, table) missing =
         let here : c.start ≡ q = cc in
         subst (IsNamedIn ps) here (as_child m s c member table child)
     go c child (Some t) is at below =
-        below t q (table_found (modules_in ps) c.start t (kind_found c.kind (tables_of ps c.start) t is))
+        below t q (table_found (modules_in ps) c.start t (of_kind_is_found c.kind (tables_of ps c.start) t is))
         (ap (missing_at (missing_below n (tables_of ps)) c.start) (sym is) ∙ at)
 
 -- a top that is named is that of the file

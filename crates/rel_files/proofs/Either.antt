@@ -6,10 +6,8 @@ use Rattle.rel_files.specs.Fault.Fault.{bad_shape, duplicate, bad_version}
 use Rattle.rel_files.specs.Name.{AreDistinct, IsFirstTwice}
 use Rattle.rel_files.specs.Release.{Release}
 use Rattle.rel_files.specs.File.{IsReleaseTerm, HasReleaseTermFault, SaysRelease, HasReleaseFault}
-use Rattle.rel_files.specs.OneTermFile.{TermOfFileSays}
 use Rattle.rel_files.specs.Sketch.{Sketch, sketch_in, release_in}
 use Rattle.rel_files.proofs.Distinct.{distinct_or_twice}
-use Rattle.rel_files.proofs.Files.{has_term}
 use Rattle.rel_files.proofs.OneTermFile.{either_of_file}
 use Rattle.rel_files.proofs.Outcomes.{sketch_names, no_form, duplicate as tells_twice, bad_version as tells_no_version, says}
 
@@ -36,8 +34,4 @@ of_term v at = of_sketch v at (sketch_in v) refl
 
 -- Each file says a release or has a fault.
 pub says_or_fault : (bytes : List ℕ) → ((r : Release) × SaysRelease bytes r) ⊎ ((f : Fault) × HasReleaseFault bytes f)
-says_or_fault bytes = go (either_of_file IsReleaseTerm HasReleaseTermFault of_term bytes)
-  where
-    go : ((r : Release) × TermOfFileSays IsReleaseTerm bytes r) ⊎ ((f : Fault) × HasReleaseFault bytes f) → ((r : Release) × SaysRelease bytes r) ⊎ ((f : Fault) × HasReleaseFault bytes f)
-    go (inl (r, (at, v, has, is))) = inl (r, (v, has_term bytes at v has, is))
-    go (inr fails) = inr fails
+says_or_fault bytes = either_of_file IsReleaseTerm HasReleaseTermFault of_term bytes

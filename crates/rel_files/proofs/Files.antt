@@ -3,7 +3,7 @@ use Rattle.std.proofs.Common.{◌≡◌, ◌≢◌, ℕ, List, [], ◌∷◌, �
 use Rattle.erl_term.specs.TermFault.{TermFault}
 use Rattle.erl_term.specs.TermFault.TheVariants as term
 use Rattle.erl_term.specs.declared.term.Spanned.{Spanned}
-use Rattle.erl_term.specs.Value.{Value, value_of}
+use Rattle.erl_term.specs.Value.{value_of}
 use Rattle.erl_term.specs.Grammar.{Reading, Reads}
 use Rattle.erl_term.specs.Answers.{TellsFault, reading_of_spanned}
 use Rattle.rel_files.specs.declared.fault.FileFault.{FileFault}
@@ -11,8 +11,7 @@ use Rattle.rel_files.specs.declared.fault.FileFault.TheVariants.{NoMemory}
 use Rattle.rel_files.specs.declared.one_term.FileTerm.{FileTerm}
 use Rattle.rel_files.specs.Fault.{file_fault_of}
 use Rattle.rel_files.specs.Fault.Fault.{bad_shape}
-use Rattle.rel_files.specs.File.{HasFileTerm}
-use Rattle.rel_files.specs.OneTermFile.{HasTermAt, HasNoTerm, AreNotOne, IsCountFault}
+use Rattle.rel_files.specs.OneTermFile.{HasTermAt, HasNoTerm, AreNotOne, IsNoTermFault}
 
 -- more than one term
 pub several : (xs all : List Spanned) (first last : Spanned) (r : Reading) → Some first ≡ slice_get xs 0 → all ≡ xs ++ last ∷ []
@@ -27,20 +26,16 @@ pub alone : (xs all : List Spanned) (last : Spanned) (r : Reading) → None ≡ 
 alone [] all last r none split one = let same = ap (map reading_of_spanned) split in cc
 alone (x ∷ xs) all last r none split one = absurd cc
 
--- a file has the one term that it has at a place
-pub has_term : (bytes : List ℕ) (at : ℕ) (v : Value) → HasTermAt bytes at v → HasFileTerm bytes v
-has_term bytes at v (r, reads, is, from) = (r, reads, is)
-
 -- the fault of a file that is no row of terms
-unreadable : (bytes : List ℕ) (e : TermFault) → TellsFault 64 bytes e → file_fault_of e ≢ NoMemory → IsCountFault bytes (file_fault_of e)
+unreadable : (bytes : List ℕ) (e : TermFault) → TellsFault 64 bytes e → file_fault_of e ≢ NoMemory → IsNoTermFault bytes (file_fault_of e)
 unreadable bytes term.NoMemory tells other = absurd (other refl)
 unreadable bytes e tells other = inl (e, refl, tells)
 
 -- and so of one that is passed on
 pub tells_unreadable : (result : Result FileTerm FileFault) (bytes : List ℕ) (e : TermFault) → IsErr result × IsErrAnd result (λ f. f ≡ file_fault_of e)
-    → TellsFault 64 bytes e → IfErr result (λ f. f ≢ NoMemory → IsCountFault bytes f)
+    → TellsFault 64 bytes e → IfErr result (λ f. f ≢ NoMemory → IsNoTermFault bytes f)
 tells_unreadable (Ok file) bytes e is tells = tt
-tells_unreadable (Err f) bytes e is tells = subst (λ (g : FileFault). g ≢ NoMemory → IsCountFault bytes g) (sym is.1) (unreadable bytes e tells)
+tells_unreadable (Err f) bytes e is tells = subst (λ (g : FileFault). g ≢ NoMemory → IsNoTermFault bytes g) (sym is.1) (unreadable bytes e tells)
 
 -- a file with no terms
 pub no_terms : (bytes : List ℕ) (all : List Spanned) → length all ≡ 0 → Reads 64 bytes (map reading_of_spanned all) → HasNoTerm bytes (bad_shape 0)

@@ -6,7 +6,7 @@ use Rattle.rel_files.specs.Fault.Fault.{bad_term, bad_shape, duplicate, bad_vers
 use Rattle.rel_files.specs.Name.{AreDistinct, IsFirstTwice}
 use Rattle.rel_files.specs.Kind.{Kind, TermSays, HasTermFault, Says, HasFault}
 use Rattle.rel_files.proofs.Distinct.{distinct_or_twice, never_both, one_twice}
-use Rattle.rel_files.proofs.OneTermFile.{one_value, one_file_fault, never_both_of_file, either_of_file}
+use Rattle.rel_files.proofs.OneTermFile.{file_says_one, one_file_fault, never_both_of_file, either_of_file}
 
 module _ {X : Type 0} (k : Kind X) where
   one_shape : (v : Value) (x y : X) → k.read v ≡ Some x → k.read v ≡ Some y → x ≡ y
@@ -64,8 +64,7 @@ module _ {X : Type 0} (k : Kind X) where
 
   -- No file of the kind says two things.
   pub says_one : (bytes : List ℕ) (x y : X) → Says k bytes x → Says k bytes y → x ≡ y
-  says_one bytes x y (at, v, has, says) (at', w, has_too, says_too) =
-      one_shape w x y (subst (λ z. k.read z ≡ Some x) (one_value bytes at at' v w has has_too) says.shape) says_too.shape
+  says_one bytes x y says also = file_says_one (TermSays k) (λ v x y is is_too. one_shape v x y is.shape is_too.shape) bytes x y says also
 
   -- No file of the kind has two faults.
   pub one_fault : (bytes : List ℕ) (f g : Fault) → HasFault k bytes f → HasFault k bytes g → f ≡ g

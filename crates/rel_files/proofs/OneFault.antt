@@ -7,10 +7,9 @@ use Rattle.rel_files.specs.Name.{AreDistinct, IsFirstTwice}
 use Rattle.rel_files.specs.Release.{Release}
 use Rattle.rel_files.specs.Form.{Form, form_of, app_names, IsRelTerm}
 use Rattle.rel_files.specs.File.{HasVersions, IsReleaseTerm, HasReleaseTermFault, SaysRelease, HasReleaseFault}
-use Rattle.rel_files.specs.OneTermFile.{TermOfFileSays}
 use Rattle.rel_files.specs.Sketch.{Sketch, release_in}
 use Rattle.rel_files.proofs.Distinct.{never_both, one_twice}
-use Rattle.rel_files.proofs.OneTermFile.{one_value, one_file_fault, never_both_of_file}
+use Rattle.rel_files.proofs.OneTermFile.{file_says_one, one_file_fault, never_both_of_file}
 use Rattle.rel_files.proofs.Outcomes.{sketch_names, form_names, one_release}
 use Rattle.rel_files.proofs.Shape.{form_sketch, sketch_in-term}
 use Rattle.rel_files.proofs.Versions.{release_in-form, from_release}
@@ -75,16 +74,9 @@ one_of_term v at f g p q = one_cause v at f g (causes v at f p) (causes v at g q
 pub one_fault : (bytes : List ℕ) (f g : Fault) → HasReleaseFault bytes f → HasReleaseFault bytes g → f ≡ g
 one_fault bytes f g p q = one_file_fault HasReleaseTermFault one_of_term bytes f g p q
 
--- what a file says of a release its term says, where it begins
-pub at_its_place : (bytes : List ℕ) (r : Release) → SaysRelease bytes r → TermOfFileSays IsReleaseTerm bytes r
-at_its_place bytes r (v, (p, reads, is), says) = (p.from, v, (p, reads, is, refl), says)
-
 -- No file says two releases.
 pub says_one : (bytes : List ℕ) (r s : Release) → SaysRelease bytes r → SaysRelease bytes s → r ≡ s
-says_one bytes r s says says_too = go (at_its_place bytes r says) (at_its_place bytes s says_too)
-  where
-    go : TermOfFileSays IsReleaseTerm bytes r → TermOfFileSays IsReleaseTerm bytes s → r ≡ s
-    go (at, v, has, is) (at', w, has_too, also) = one_release v r s is (subst (λ x. IsReleaseTerm x s) (one_value bytes at' at w v has_too has) also)
+says_one bytes r s says also = file_says_one IsReleaseTerm one_release bytes r s says also
 
 -- a term that says a release has no cause of a fault
 never_caused : (v : Value) (at : ℕ) (r : Release) (f : Fault) → IsReleaseTerm v r → Causes v at f → ⊥
@@ -99,4 +91,4 @@ never_caused v at r f says (inr (inr p)) =
 -- No file both says a release and has a fault.
 pub never_says_and_fails : (bytes : List ℕ) (r : Release) (f : Fault) → SaysRelease bytes r → HasReleaseFault bytes f → ⊥
 never_says_and_fails bytes r f says fails =
-    never_both_of_file IsReleaseTerm HasReleaseTermFault (λ v at s g is fault. never_caused v at s g is (causes v at g fault)) bytes r f (at_its_place bytes r says) fails
+    never_both_of_file IsReleaseTerm HasReleaseTermFault (λ v at s g is fault. never_caused v at s g is (causes v at g fault)) bytes r f says fails

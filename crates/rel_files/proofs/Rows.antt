@@ -1,10 +1,12 @@
 -- Terms one after another, of each of which something is read.
-use Rattle.std.proofs.Common.{◌≡◌, ℕ, ◌+◌, ◌<◌, ◌≤◌, ◌++◌, List, [], ◌∷◌, length, map, take, drop, get_or, Option, Some, None, sym, ap, ◌∙◌, append_assoc, refl}
+use Rattle.std.proofs.Common.{◌≡◌, ℕ, ◌+◌, ◌<◌, ◌≤◌, ◌++◌, Bool, true, List, [], ◌∷◌, length, map, take, drop, get_or, Option, Some, None, sym, ap, subst, ◌∙◌, append_assoc, refl}
+use Rattle.std.specs.List.{AllByRecursion, list_all}
 use Rattle.std.specs.Option.{option_map, option_and_then}
 use Rattle.std.proofs.lemmas.List.{append-nil, drop_all, drop_more, map-append, take_all, take_more}
 use Rattle.erl_term.specs.declared.term.Term.{Term}
-use Rattle.erl_term.specs.Value.{Value, Values, value_of, members_of}
+use Rattle.erl_term.specs.Value.{Value, Values, value_of, values_of, members_of}
 use Rattle.erl_term.specs.Value.Values.{no_values, value}
+use Rattle.rel_files.proofs.Options.{mapped, chained, both}
 
 -- what a row of values gives: what each of them gives, one after another, if each gives something
 pub record ReadsEach {B : Type 0} (f : Value → Option B) (all : Values → Option (List B)) : Type 0 where
@@ -49,6 +51,41 @@ row_all {B} f all each items i read past so_far =
     ap Some (sym (append-nil read))
     ∙ (ap (option_map (λ (rest : List B). read ++ rest)) (sym each.none)
     ∙ (ap (λ (ts : List Term). option_map (λ (rest : List B). read ++ rest) (all (members_of ts))) (sym (drop_all i items past)) ∙ so_far))
+
+-- What is read of the terms of a row is that row, if each is what is read of its term.
+pub each_read : {A : Type 0} (f : Value → Option A) (all : Values → Option (List A)) → ReadsEach f all → (g : A → Value) (P : A → Type 0)
+    → ((a : A) → P a → f (g a) ≡ Some a) → (row : List A) → AllByRecursion P row → all (values_of (map g row)) ≡ Some row
+each_read f all reads g P each [] h = reads.none
+each_read {A} f all reads g P each (a ∷ row) h =
+    reads.more (g a) (values_of (map g row))
+    ∙ (λ j. option_and_then (λ (b : A). option_map (λ (bs : List A). b ∷ bs) (each_read f all reads g P each row h.1 j)) (each a h.0 j))
+
+-- And it is read of these terms only, where each is read of its own only. valid: what of it is tested behind the reading.
+pub from_each_valid : {A : Type 0} (f : Value → Option A) (all : Values → Option (List A)) → ReadsEach f all → (g : A → Value) (valid : A → Bool)
+    (P : A → Type 0) → ((v : Value) (a : A) → f v ≡ Some a → valid a ≡ true → (v ≡ g a) × P a)
+    → (vs : Values) (row : List A) → all vs ≡ Some row → list_all valid row ≡ true → (vs ≡ values_of (map g row)) × AllByRecursion P row
+from_each_valid {A} f all reads g valid P each no_values row e h =
+    let Q : List A → Type 0 = λ bs. (no_values ≡ values_of (map g bs)) × AllByRecursion P bs in
+    let none : Some [] ≡ Some row = sym reads.none ∙ e in
+    let same : [] ≡ row = cc in subst Q same (refl, tt)
+from_each_valid {A} f all reads g valid P each (value v vs) row e h =
+    let Q : List A → Type 0 = λ bs. (value v vs ≡ values_of (map g bs)) × AllByRecursion P bs in
+    let first = chained (λ (b : A). option_map (λ (bs : List A). b ∷ bs) (all vs)) (f v) row (sym (reads.more v vs) ∙ e) in
+    let more = mapped (λ (bs : List A). first.0 ∷ bs) (all vs) row first.2 in
+    let fit = both (valid first.0) (list_all valid more.0) (ap (list_all valid) more.2 ∙ h) in
+    let here = each v first.0 first.1 fit.0 in
+    let rest = from_each_valid f all reads g valid P each vs more.0 more.1 fit.1 in
+    subst Q more.2 ((λ j. value (here.0 j) (rest.0 j)), (here.1, rest.1))
+
+untested : {A : Type 0} (row : List A) → list_all (λ (a : A). true) row ≡ true
+untested [] = refl
+untested (a ∷ row) = untested row
+
+pub from_each : {A : Type 0} (f : Value → Option A) (all : Values → Option (List A)) → ReadsEach f all → (g : A → Value) (P : A → Type 0)
+    → ((v : Value) (a : A) → f v ≡ Some a → (v ≡ g a) × P a) → (vs : Values) (row : List A) → all vs ≡ Some row
+    → (vs ≡ values_of (map g row)) × AllByRecursion P row
+from_each {A} f all reads g P each vs row e =
+    from_each_valid f all reads g (λ (a : A). true) P (λ v a f h. each v a f) vs row e (untested row)
 
 -- what stands for one more item
 pub viewed : {A B : Type 0} (view : A → B) (old new : List A) (x : A) → new ≡ old ++ x ∷ [] → map view new ≡ map view old ++ view x ∷ []

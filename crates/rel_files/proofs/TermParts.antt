@@ -1,4 +1,4 @@
--- The terms that have their parts in these places, both ways: what is read of a term is what it was made of.
+-- Terms that are made of parts, and the parts that are read of them: each is what the other was made of.
 use Rattle.std.proofs.Common.{◌≡◌, ℕ, Bool, true, List, Some, None, codes, if◌then◌else◌, ap, subst, ◌∙◌}
 use Rattle.std.specs.List.{AllByRecursion}
 use Rattle.std.specs.Option.{option_map, option_and_then}

@@ -2,14 +2,13 @@
 use Rattle.std.specs.Prelude.{◌≡◌, ℕ, List}
 use Rattle.std.specs.List.{AllByRecursion}
 use Rattle.erl_term.specs.Value.{Value}
-use Rattle.erl_term.specs.OneTerm
 use Rattle.rel_files.specs.declared.fault.FileFault.{FileFault}
 use Rattle.rel_files.specs.Fault.{Fault, fault_of}
 use Rattle.rel_files.specs.Fault.Fault.{bad_term, bad_shape, duplicate, bad_version, no_memory}
 use Rattle.rel_files.specs.Name.{IsVersion, AreDistinct, IsFirstTwice}
 use Rattle.rel_files.specs.Release.{Release, Application}
 use Rattle.rel_files.specs.Form.{Form, IsRelTerm, app_names, form_of}
-use Rattle.rel_files.specs.OneTermFile.{HasFileFault}
+use Rattle.rel_files.specs.OneTermFile.{TermOfFileSays, HasFileFault}
 
 -- each version of the release is the text of one
 pub record HasVersions (r : Release) : Type 0 where
@@ -34,13 +33,9 @@ HasReleaseTermFault v at no_memory = ⊥
 abbrev pub IsTermFault : Value → ℕ → FileFault → Type 0
 IsTermFault v at f = HasReleaseTermFault v at (fault_of f)
 
--- The file has one term, and it is this.
-abbrev pub HasFileTerm : List ℕ → Value → Type 0
-HasFileTerm bytes v = OneTerm.HasTerm 64 bytes v
-
 -- The file says this of a release.
 abbrev pub SaysRelease : List ℕ → Release → Type 0
-SaysRelease bytes r = (v : Value) × HasFileTerm bytes v × IsReleaseTerm v r
+SaysRelease bytes r = TermOfFileSays IsReleaseTerm bytes r
 
 -- The fault of a file: it hasn't one term, or this has the fault.
 abbrev pub HasReleaseFault : List ℕ → Fault → Type 0

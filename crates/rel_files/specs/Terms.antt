@@ -23,7 +23,7 @@ numbers_term ns = list_of (map int ns)
 abbrev pub numbers_of : List ℕ → List ℤ
 numbers_of s = map pos s
 
--- a text, as the list of its characters
+-- a text, as the list of its bytes
 abbrev pub text_term : List ℕ → Value
 text_term s = numbers_term (numbers_of s)
 

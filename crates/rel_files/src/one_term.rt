@@ -3,7 +3,7 @@ ghost use Rattle.std.specs.Prelude.{◌≡◌, ◌≢◌, ◌∷◌, [], IfOk, I
 ghost use Rattle.erl_term.specs.Value.{value_of};
 ghost use Rattle.erl_term.specs.Grammar.{Reading, Reads};
 ghost use Rattle.erl_term.specs.Within.{IsWithin};
-ghost use Rattle.rel_files.specs.OneTermFile.{HasTermAt, IsCountFault};
+ghost use Rattle.rel_files.specs.OneTermFile.{HasTermAt, IsNoTermFault};
 
 use crate::FileFault;
 use erl_term::{Spanned, Term, read_terms};
@@ -22,7 +22,7 @@ pub fn read_one_term(alloc: Global, bytes: &[u8]) -> Result<FileTerm, FileFault>
     ensures only { (r : Reading) → Reads 64 bytes.now (r ∷ []) →
         MatchResult result (λ file. (file.at ≡ r.from) × (value_of file.term ≡ r.term))
         (λ f. f ≡ FileFault.NoMemory) }
-    ensures fault { IfErr result (λ f. f ≢ FileFault.NoMemory → IsCountFault bytes.now f) }
+    ensures fault { IfErr result (λ f. f ≢ FileFault.NoMemory → IsNoTermFault bytes.now f) }
 
     // The term has short atoms, and few brackets are open at once when it is printed.
     ensures within { IfOk result (λ file. IsWithin 65 (value_of file.term)) }

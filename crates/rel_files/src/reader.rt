@@ -3,7 +3,8 @@ ghost use Rattle.std.specs.Prelude.{◌≡◌, ◌≢◌, IfOk, IfErr, MatchResu
 ghost use Rattle.erl_term.specs.Value.{value_of};
 ghost use Rattle.erl_term.specs.Within.{IsWithin};
 ghost use Rattle.rel_files.specs.Release.{Release, release_of};
-ghost use Rattle.rel_files.specs.File.{HasFileTerm, IsReleaseTerm, IsTermFault, SaysRelease, IsRelFault};
+ghost use Rattle.rel_files.specs.File.{IsReleaseTerm, IsTermFault, SaysRelease, IsRelFault};
+ghost use Rattle.rel_files.specs.OneTermFile.{HasFileTerm};
 
 use crate::draft::Draft;
 use crate::duplicates::first_twice;

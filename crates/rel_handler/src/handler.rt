@@ -88,7 +88,7 @@ impl<D: Disk> Handler<D> {
         requires { IsSound D.seen D.may_leave self.old }
         ensures sound { IsSound D.seen D.may_leave self.new }
         ensures read { HasRead D.Disk self.old self.new }
-        ensures works { OnOk result (is_dead self.new ≡ false) }
+        ensures works { OnOk result ((is_dead self.old ≡ false) × (is_dead self.new ≡ false)) }
         ensures format { format_in self.new ≡ format_in self.old }
         ensures tells { IfOk result (λ start. (r : Release)
             × (permanent (list_in self.old) ≡ Some r) × (versions_of start ≡ started r)) }

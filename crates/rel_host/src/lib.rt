@@ -1,8 +1,8 @@
 //! What a node's program takes from its host: its options, files below a folder, and a disk over a file.
 //!
 //! [`FileDisk`] is a `rel_disk::Disk` over a file. Its contracts are those of every disk, and say each state exactly
-//! (clauses `done` and `failed`): a call reports a failure only where the memory had no room or the file failed, and once
-//! the file has failed, every write, cut and sync fails.
+//! (clauses `done` and `failed`): a call fails where the memory has no room, and once the disk counts its file as broken, every
+//! write, cut and sync fails. That it counts it so exactly where a call of the file failed is to be read in the code.
 //!
 //! [`RootFiles`] reads files below a folder. The clause `outside` says that a path that does not lead below it is Missing,
 //! and `is_below` says which paths those are. Without a folder, or with one of the empty name, each is (`no_folder`).

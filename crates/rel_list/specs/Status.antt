@@ -33,8 +33,8 @@ is_temporary Current = true
 is_temporary OneShot = true
 is_temporary s = false
 
--- a release with this status runs: it is current, or permanent in a list that has no current one; a one-shot does from the next
--- boot on
+-- A release with this status runs: it is current, or permanent in a list that has no current one. A one-shot is counted among
+-- these, though it runs from the next boot on: it can be neither installed nor removed.
 abbrev pub runs : Bool → Status → Bool
 runs has_current Current = true
 runs has_current OneShot = true

@@ -142,7 +142,7 @@ impl ReleaseList {
         change.change(&mut self.releases);
     }
 
-    // Whether a release with this status runs.
+    // Whether a release with this status runs, or is a one-shot.
     pub(crate) fn runs(&self, status: Status) -> bool
         ensures { result ≡ runs (has_current self.now) status }
     {

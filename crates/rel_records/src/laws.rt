@@ -24,12 +24,14 @@ pub fn records_write_one_shots()
     ensures images { ImagesWriteTheirOneShots }
 {}
 
-/// The record of an event makes of a list what the event makes of it, each as records tell it.
+/// The record of an event makes of a list what the event makes of it, each as records tell it: of a list whose versions are distinct
+/// and whose libraries are of files, where the event keeps the limits of a node and one release is permanent behind it.
 pub fn records_tell_events()
     ensures { RecordsTellEvents }
 {}
 
-/// A record of a release that comes in or leaves may stand behind a list only where it is that of an event.
+/// A record of a release that comes in or leaves may stand behind a list, whose libraries are of files, only where it is that of an
+/// event.
 pub fn records_are_of_events()
     ensures { RecordsAreOfEvents }
 {}

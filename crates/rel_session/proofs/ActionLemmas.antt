@@ -21,7 +21,7 @@ use Rattle.node_command.proofs.ReleaseLemmas.{free_so, told_library}
 use Rattle.rel_list.specs.Releases.{Releases, differs, first_different, status_of}
 use Rattle.rel_list.specs.Event.{Event}
 use Rattle.rel_list.specs.Event.Event.{made, unpacked}
-use Rattle.rel_session.specs.AnswerLaws.{HasLinePath, HasModuleVersionsAt, IsCompact, IsOfFiles, LeavesCompactStore}
+use Rattle.rel_session.specs.AnswerLaws.{HasLinePath, HasModuleVersionsAt, IsCompact, IsFromFiles, LeavesCompactStore}
 use Rattle.session_input.specs.Commands.{Command}
 use Rattle.session_input.specs.Commands.Command.{file, create, set_unpacked, check, install, permanent, remove, reboot_old, boot, start, releases, procs, modules, peek, call, flood, relup, quit, bad}
 use Rattle.rel_unpack.proofs.LineBrought.{IsLineBrought, good_brought}
@@ -163,8 +163,8 @@ some_action source each p bad = inr (_, refl)
 
 -- the release that an event brings is of files
 abbrev pub OfEvent : Event → Type 0
-OfEvent (made p) = IsOfFiles p
-OfEvent (unpacked p) = IsOfFiles p
+OfEvent (made p) = IsFromFiles p
+OfEvent (unpacked p) = IsFromFiles p
 OfEvent e = Unit {0}
 
 -- what is told of files, where they are refused, is within a line
@@ -175,7 +175,7 @@ TellsFilesLine (Some why) = HasLine (refusal_for why)
 -- An action's text ends where its last line does, and the release that it brings to a list is of files.
 abbrev pub IsGoodAction : Action → Type 0
 IsGoodAction (answers text) = IsWhole text
-IsGoodAction (makes_node b) = (own_refusal b ≡ None → IsOfFiles (bundle_brought b)) × TellsFilesLine (own_refusal b)
+IsGoodAction (makes_node b) = (own_refusal b ≡ None → IsFromFiles (bundle_brought b)) × TellsFilesLine (own_refusal b)
 IsGoodAction (changes_node c) =
     ((list next : Releases) → c.files list ≡ None → commanded c.event list ≡ Ok next → OfEvent c.event) × ((list : Releases) → TellsFilesLine (c.files list)) × ((list : Releases) → is_one_line (c.details list) ≡ true)
 IsGoodAction (installs vsn) = Unit {0}
@@ -215,7 +215,7 @@ difference_line es (l ∷ ls) o names good = go (differs es l) (difference_line 
     go false rest = rest
 
 -- what is brought without a refusal is of files
-of_files : (source : Source) (path : List ℕ) (b : Brought) → Brings source path (Ok b) → HasVersions b.found.release → b.refusal ≡ None → IsOfFiles (bundle_brought b)
+of_files : (source : Source) (path : List ℕ) (b : Brought) → Brings source path (Ok b) → HasVersions b.found.release → b.refusal ≡ None → IsFromFiles (bundle_brought b)
 of_files source path b brings versions free = (versions, of_applications b.found.release.apps b.libraries (brought_libraries source path b brings free).0)
 
 -- A list that takes a release in has no refusal for its files.

@@ -24,7 +24,7 @@ use Rattle.rel_session.specs.declared.booted_node.BootedNode.{BootedNode}
 use Rattle.rel_session.specs.declared.place.Place.{Place as PlaceInMemory}
 use Rattle.rel_session.specs.declared.place.Place.TheVariants as memory
 use Rattle.rel_session.specs.Device.{Device, HasFailed}
-use Rattle.rel_session.specs.InMemory.{IsAt, Replied, NothingDone, Answers, AnswersCommand, IsStarted}
+use Rattle.rel_session.specs.InMemory.{IsAt, Replied, NothingDone, Answers, AnswersCommand, IsNodeStarted}
 use Rattle.rel_session.specs.Node.{Place, just_booted, Reply, reply, refused, failed, done}
 use Rattle.rel_session.specs.Node.Place.{raw, closed, running, dead}
 use Rattle.node_answer.specs.Refusals.{NodeRefusal, refusal_of, refusal_for, refusal_line}
@@ -96,7 +96,7 @@ module _ {D : Type 0} (v : Device D) (laws : IsDevice v) (source : Source) (path
           no_store false e = e
 
       pub creates : (line : Result (String Global) AllocError) (result : Result (String Global) HandlerError) (place : PlaceInMemory D) → MatchResult line (λ text. result ≡ Ok text) (λ _. result ≡ Err handler_error.NoMemory)
-          → IsStarted h line place → AnswersCommand v source (create path) result (memory.Idle disk) place
+          → IsNodeStarted h line place → AnswersCommand v source (create path) result (memory.Idle disk) place
       creates line result place is told = answers_or_stops v laws Creates Stops line result (memory.Idle disk) place is
           (starts v laws Creates Stops (λ p b (does, comes, acts). (does, comes, without_its_node b acts refl)) h (memory.Idle disk) replies line place told)
 

@@ -41,7 +41,7 @@ use Rattle.node_upgrade.specs.Failure.{Failure}
 use Rattle.node_upgrade.specs.Upgrade.{script_failure}
 use Rattle.relup_exec.specs.Alone as script
 use Rattle.relup_script.specs.Search.{FoundForm}
-use Rattle.rel_session.specs.Installation.{Begins, Installs, IsInstallationReply, Leads, restarted_reply, upgrade_outcome}
+use Rattle.rel_session.specs.Installation.{RunsUnless, Installs, IsInstallationReply, RepliesTo, restarted_reply, upgrade_outcome}
 use Rattle.node_processes.specs.Scripts.{behind_run}
 use Rattle.script_progress.specs.Script.{Run}
 use Rattle.rel_handler.specs.Installing.{install_room, install_size, installation_event, needs_restart}
@@ -143,7 +143,7 @@ makes p found (rests ran events extent list since after) = told_reply _ _ _ (inl
 makes p found (runs events extent ps list after) = told_reply _ _ _ refl (runs events extent ps list after)
 makes p found (died ran events extent list since after) = told_reply _ _ _ refl (died ran events extent list since after)
 
-booted_there : (events : Events) (extent : Extent) (list : Releases) → list_after events ≡ Some list → Has (Transition.IsBooted events extent)
+booted_there : (events : Events) (extent : Extent) (list : Releases) → list_after events ≡ Some list → Has (Transition.AnswersBoot events extent)
 booted_there events extent list after =
     let then = list_after-push events booting list (booted list) after refl in
     fair_reply _ _ (list, after, refl) refl (runs (events ++ booting ∷ []) (booted_extent extent list) (fresh (releases_after (events ++ booting ∷ []))) (booted list) then) (λ r. absurd r)
@@ -155,14 +155,14 @@ boots_bytes laws x = go (laws.either x)
     go (inl (es, image, still)) =
         let (events, before) = events_of_image x es image still in
         let extent = extent_of x in
-        mapped (Transition.IsBooted events extent) (Transition.BootsBytes x) (λ a is. inl (events, es, extent, before, record { image_of = image; reaches = refl }, is)) (booted_there events extent es before)
+        mapped (Transition.AnswersBoot events extent) (Transition.BootsBytes x) (λ a is. inl (events, es, extent, before, record { image_of = image; reaches = refl }, is)) (booted_there events extent es before)
     go (inr (why, is)) = told_reply _ (boot_line why) (raw x) (inr (inl (why, is, refl))) (of_raw x)
 
 boots : BootLaws → (p : Place) → IsFair p → Has (Transition.Boots p)
 boots laws p (of_raw x) = boots_bytes laws x
-boots laws p (rests ran events extent list since after) = mapped (Transition.IsBooted events extent) (Transition.BootsStore (at_rest_since ran events extent)) (λ a is. inl (events, extent, (since, inl (refl, refl)), is)) (booted_there events extent list after)
-boots laws p (died ran events extent list since after) = mapped (Transition.IsBooted events extent) (Transition.BootsStore (at_rest_since ran events extent)) (λ a is. inl (events, extent, (since, inl (refl, refl)), is)) (booted_there events extent list after)
-boots laws p (runs events extent ps list after) = mapped (Transition.IsBooted events extent) (Transition.BootsStore (certain events extent)) (λ a is. inl (events, extent, (with_themselves events, inl (refl, refl)), is)) (booted_there events extent list after)
+boots laws p (rests ran events extent list since after) = mapped (Transition.AnswersBoot events extent) (Transition.BootsStore (at_rest_since ran events extent)) (λ a is. inl (events, extent, (since, inl (refl, refl)), is)) (booted_there events extent list after)
+boots laws p (died ran events extent list since after) = mapped (Transition.AnswersBoot events extent) (Transition.BootsStore (at_rest_since ran events extent)) (λ a is. inl (events, extent, (since, inl (refl, refl)), is)) (booted_there events extent list after)
+boots laws p (runs events extent ps list after) = mapped (Transition.AnswersBoot events extent) (Transition.BootsStore (certain events extent)) (λ a is. inl (events, extent, (with_themselves events, inl (refl, refl)), is)) (booted_there events extent list after)
 
 -- A boot of a list without a one-shot writes no record, so the store stays as short.
 booted_compact : (events : Events) (x : Extent) (list : Releases) → has_one_shot (releases_after events) ≡ false → list_after events ≡ Some list → x ≡ compacted x (releases_after events)
@@ -196,7 +196,7 @@ changed p c (died ran events extent list since after) = told_reply _ _ _ refl (d
 changed p c (runs events extent ps list after) = changes events extent ps list c (c.files (releases_after events)) after
 
 -- Behind an installation with a restart the node boots: it starts a one-shot, or the store is as short as it was.
-restart_compact : (events : Events) (x : Extent) → x ≡ compacted x (releases_after events) → (b : Reply) → Transition.IsBooted events x b → RunsOneShot b.after ⊎ IsCompact b.after
+restart_compact : (events : Events) (x : Extent) → x ≡ compacted x (releases_after events) → (b : Reply) → Transition.AnswersBoot events x b → RunsOneShot b.after ⊎ IsCompact b.after
 restart_compact events x compact b (list, after, is) = by_one_shot (has_one_shot (releases_after events)) refl
   where
     by_one_shot : (c : Bool) → has_one_shot (releases_after events) ≡ c → RunsOneShot b.after ⊎ IsCompact b.after
@@ -225,19 +225,19 @@ installs_there events extent ps list vsn after = by_found (installation vsn (rel
             fair_reply _ (restarted_reply vsn (releases_after events) f (behind_run r) booted.given) (booted.given, inl (events ++ e ∷ [], x, (with_themselves (events ++ e ∷ []), inl (refl, refl)), booted.is), refl) booted.works booted.fair
             (restart_compact (events ++ e ∷ []) x (stays_compact events extent e size) booted.given booted.is)
 
-    by_outcome : (f : FoundForm) → installation vsn (releases_after events) ≡ Ok f → (o : script.Outcome) → Has (Leads events extent ps vsn (releases_after events) f o)
+    by_outcome : (f : FoundForm) → installation vsn (releases_after events) ≡ Ok f → (o : script.Outcome) → Has (RepliesTo events extent ps vsn (releases_after events) f o)
     by_outcome f found (script.Outcome.refuses n c) = told_reply _ _ _ refl (runs events extent ps list after)
     by_outcome f found (script.Outcome.breaks n c) = told_reply _ _ _ refl (died events events extent list (with_themselves events) after)
     by_outcome f found (script.Outcome.ends r) =
         let size = install_size vsn (releases_after events) in
         let x = reach events extent (installation_event (needs_restart vsn (releases_after events)) vsn) size in
-        mapped _ (Leads events extent ps vsn (releases_after events) f (script.Outcome.ends r)) (λ a is. inl (x, inl refl, is)) (by_restart f r found size (needs_restart vsn (releases_after events)))
+        mapped _ (RepliesTo events extent ps vsn (releases_after events) f (script.Outcome.ends r)) (λ a is. inl (x, inl refl, is)) (by_restart f r found size (needs_restart vsn (releases_after events)))
 
-    by_room : (f : FoundForm) → installation vsn (releases_after events) ≡ Ok f → HasSpace extent (install_room vsn (releases_after events)) ⊎ (HasSpace extent (install_room vsn (releases_after events)) → ⊥) → Has (Begins events extent ps vsn (releases_after events) f None)
-    by_room f found (inl fits) = mapped _ (Begins events extent ps vsn (releases_after events) f None) (λ a is. inl (fits, is)) (by_outcome f found (upgrade_outcome vsn (releases_after events) f ps))
+    by_room : (f : FoundForm) → installation vsn (releases_after events) ≡ Ok f → HasSpace extent (install_room vsn (releases_after events)) ⊎ (HasSpace extent (install_room vsn (releases_after events)) → ⊥) → Has (RunsUnless events extent ps vsn (releases_after events) f None)
+    by_room f found (inl fits) = mapped _ (RunsUnless events extent ps vsn (releases_after events) f None) (λ a is. inl (fits, is)) (by_outcome f found (upgrade_outcome vsn (releases_after events) f ps))
     by_room f found (inr over_it) = told_reply _ _ _ (inr (over_it, refl)) (runs events extent ps list after)
 
-    by_failure : (f : FoundForm) → installation vsn (releases_after events) ≡ Ok f → (o : Option Failure) → Has (Begins events extent ps vsn (releases_after events) f o)
+    by_failure : (f : FoundForm) → installation vsn (releases_after events) ≡ Ok f → (o : Option Failure) → Has (RunsUnless events extent ps vsn (releases_after events) f o)
     by_failure f found (Some why) = told_reply _ _ _ refl (runs events extent ps list after)
     by_failure f found None = by_room f found (fits_or_not extent (install_room vsn (releases_after events)))
 

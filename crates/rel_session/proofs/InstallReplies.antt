@@ -43,7 +43,7 @@ use Rattle.rel_session.specs.Device.{Device, LeavesOnly, HasFailed}
 use Rattle.rel_session.specs.Booting.{Boots, BootsStore, store_behind}
 use Rattle.rel_session.specs.InMemory.{state_in, HasInstalled, IsAt, Replied, Answers, AnswersAction, NothingDone, TellsInstallation, TellsOrStops}
 use Rattle.node_answer.specs.Lines.{installed_line, installed_text}
-use Rattle.rel_session.specs.Installation.{Begins, Installs, IsInstallationReply, Leads, installed_reply, restarted_reply, upgrade_outcome}
+use Rattle.rel_session.specs.Installation.{RunsUnless, Installs, IsInstallationReply, RepliesTo, installed_reply, restarted_reply, upgrade_outcome}
 use Rattle.rel_session.specs.Node.{Place, Reply, reply, done, refused, failed, behind, releases_after, list_or_none, with_text}
 use Rattle.rel_session.specs.Node.Place.{raw, closed, running, dead}
 use Rattle.rel_session.specs.declared.place.Place.{Place as PlaceInMemory}
@@ -124,13 +124,13 @@ module _ {D : Type 0} (v : Device D) (laws : IsDevice v) (vsn : List ℕ) (n new
   comes_to : (u : UpgradeForm) → IsUpgrade vsn es u → (o : Outcome) → outcome (site_for u ps.modules) (run_on (site_for u ps.modules) ps) u.found.script ≡ o → upgrade_outcome vsn es u.found ps ≡ o
   comes_to u is o comes = subst (λ (w : UpgradeForm). outcome (site_for w ps.modules) (run_on (site_for w ps.modules) ps) u.found.script ≡ o) is.is comes
 
-  begins_so : (u : UpgradeForm) → IsUpgrade vsn es u → (events : Events) (extent : Extent) (a : Reply) → Begins events extent ps vsn es u.found None a → Installs events extent ps vsn es (installation vsn es) a
+  begins_so : (u : UpgradeForm) → IsUpgrade vsn es u → (events : Events) (extent : Extent) (a : Reply) → RunsUnless events extent ps vsn es u.found None a → Installs events extent ps vsn es (installation vsn es) a
   begins_so u is events extent a begins =
-      subst (λ o. Installs events extent ps vsn es o a) (sym is.found) (subst (λ o. Begins events extent ps vsn es u.found o a) (sym is.begins) begins)
+      subst (λ o. Installs events extent ps vsn es o a) (sym is.found) (subst (λ o. RunsUnless events extent ps vsn es u.found o a) (sym is.begins) begins)
 
-  leads_so : (u : UpgradeForm) → IsUpgrade vsn es u → (events : Events) (extent : Extent) (a : Reply) (o : Outcome) → HasSpace extent room → upgrade_outcome vsn es u.found ps ≡ o → Leads events extent ps vsn es u.found o a
+  leads_so : (u : UpgradeForm) → IsUpgrade vsn es u → (events : Events) (extent : Extent) (a : Reply) (o : Outcome) → HasSpace extent room → upgrade_outcome vsn es u.found ps ≡ o → RepliesTo events extent ps vsn es u.found o a
       → Installs events extent ps vsn es (installation vsn es) a
-  leads_so u is events extent a o fits comes leads = begins_so u is events extent a (inl (fits, subst (λ w. Leads events extent ps vsn es u.found w a) (sym comes) leads))
+  leads_so u is events extent a o fits comes leads = begins_so u is events extent a (inl (fits, subst (λ w. RepliesTo events extent ps vsn es u.found w a) (sym comes) leads))
 
   -- the release was installed
   abbrev line_of : Installed → List ℕ
@@ -337,7 +337,7 @@ module _ {D : Type 0} (v : Device D) (laws : IsDevice v) (vsn : List ℕ) (n new
     not_begun f (found, is, why) =
         same_replies (script_refused (failure_of f)) (λ events extent stop.
         subst (λ o. Installs events extent ps vsn es o (refused (script_refused (failure_of f)) (running events extent ps))) (sym is)
-        (subst (λ o. Begins events extent ps vsn es found o (refused (script_refused (failure_of f)) (running events extent ps))) (sym why) refl))
+        (subst (λ o. RunsUnless events extent ps vsn es found o (refused (script_refused (failure_of f)) (running events extent ps))) (sym why) refl))
 
     -- an instruction before the point fails
     turned_back : (f : ScriptFailure) (u : UpgradeForm) → MayBegin vsn n.handler u → RunRefused u (state_in n) (state_in new) (install_error.Refused f) → Replies (refusal_line (script_refused (failure_of f)))

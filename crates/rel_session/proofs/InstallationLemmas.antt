@@ -18,7 +18,7 @@ use Rattle.relup_exec.specs.Alone.Outcome.{ends, refuses, breaks}
 use Rattle.relup_script.specs.Search.{FoundForm}
 use Rattle.script_progress.specs.Script.{Run}
 use Rattle.rel_session.specs.Booting.{BootsStore}
-use Rattle.rel_session.specs.Installation.{Begins, Installs, IsInstallationReply, Leads, installed_reply, restarted, restarted_reply, upgrade_outcome}
+use Rattle.rel_session.specs.Installation.{RunsUnless, Installs, IsInstallationReply, RepliesTo, installed_reply, restarted, restarted_reply, upgrade_outcome}
 use Rattle.rel_handler.specs.Installing.{install_size, installation_event, needs_restart}
 use Rattle.rel_session.specs.Node.{Reply, refused, failed}
 use Rattle.rel_session.specs.Node.Place.{running, dead}
@@ -47,13 +47,13 @@ module _ (K : Reply → Type 0) (events : Events) (extent : Extent) (ps : Proces
   by_restart of f found a r comes x false is = so a _ is (of.done_so f r x found comes)
   by_restart of f found a r comes x true (b, boot, is) = so a _ is (of.restarted_so f r x b found comes boot)
 
-  by_outcome : OfEach → (f : FoundForm) → installation vsn list ≡ Ok f → (a : Reply) (o : Outcome) → upgrade_outcome vsn list f ps ≡ o → Leads events extent ps vsn list f o a → K a
+  by_outcome : OfEach → (f : FoundForm) → installation vsn list ≡ Ok f → (a : Reply) (o : Outcome) → upgrade_outcome vsn list f ps ≡ o → RepliesTo events extent ps vsn list f o a → K a
   by_outcome of f found a (refuses n c) comes is = so a _ is (of.not_run (failure n (fails c)))
   by_outcome of f found a (breaks n c) comes is = so a _ is (of.broken (failure n (fails c)))
   by_outcome of f found a (ends r) comes (inl (x, reach, is)) = by_restart of f found a r comes x (needs_restart vsn list) is
   by_outcome of f found a (ends r) comes (inr is) = so a _ is (of.doubted_so f (needs_restart vsn list) found)
 
-  by_failure : OfEach → (f : FoundForm) → installation vsn list ≡ Ok f → (a : Reply) (o : Option Failure) → Begins events extent ps vsn list f o a → K a
+  by_failure : OfEach → (f : FoundForm) → installation vsn list ≡ Ok f → (a : Reply) (o : Option Failure) → RunsUnless events extent ps vsn list f o a → K a
   by_failure of f found a (Some why) is = so a _ is (of.not_run why)
   by_failure of f found a None (inl (fits, is)) = by_outcome of f found a (upgrade_outcome vsn list f ps) refl is
   by_failure of f found a None (inr (over, is)) = so a _ is of.over_full

@@ -21,14 +21,14 @@ use Rattle.session_input.specs.Feed.Feed.{over, cut, next}
 use Rattle.session_input.specs.Input.{most_bytes}
 use Rattle.session_input.specs.Lines.{onto, lines_of}
 use Rattle.rel_session.specs.Node.Place.{raw, closed, running, dead}
-use Rattle.rel_session.specs.AnswerLaws.{HasNoDoubt, HasLinePath, HaveLinePaths, ReadsLinePaths, AreOfFiles, HasVersionsAt, HasModuleVersionsAt, KeepsVersions, KeepsModuleVersions}
+use Rattle.rel_session.specs.AnswerLaws.{HasNoDoubt, HasLinePath, HaveLinePaths, ReadsLinePaths, AreFromFiles, HasVersionsAt, HasModuleVersionsAt, KeepsVersions, RepliesKeepVersions}
 use Rattle.rel_session.specs.RunLaws.{MayBe}
 use Rattle.rel_session.specs.Node.{Place}
 use Rattle.rel_session.specs.Run.{Starts}
 use Rattle.rel_unpack.specs.Source.{Source}
 use Rattle.rel_session.proofs.DeviceLemmas.{IsDevice}
 use Rattle.rel_session.proofs.ProcessVersions.{keeps_versions_of_modules}
-use Rattle.rel_session.proofs.Versions.{of_image}
+use Rattle.rel_session.proofs.Versions.{each_good, of_image}
 
 abbrev AreFeedLines : Feed (List ℕ) → Type 0
 AreFeedLines (next l ls) = (is_one_line l ≡ true) × AreFeedLines ls
@@ -232,12 +232,12 @@ pub reads_line_paths : ReadsLinePaths
 reads_line_paths input = (commands_plain (lines_of (bytes_within most_bytes input)) (lines_plain (bytes_within most_bytes input))).0
 
 -- the list of events that an image stands for
-image_versions : (ran events : Events) (extent : Extent) (c : List ℕ) → IsStoredAs (at_rest_since ran events extent) c → (list : Releases) → list_after events ≡ Some list → AreOfFiles list
+image_versions : (ran events : Events) (extent : Extent) (c : List ℕ) → IsStoredAs (at_rest_since ran events extent) c → (list : Releases) → list_after events ≡ Some list → AreFromFiles list
 image_versions ran events extent c of list after =
     let versions = of_image c of.list of.image_of in
     let same : Some of.list ≡ Some list = sym of.after ∙ ap list_after (only of.has) ∙ after in
     let one : of.list ≡ list = cc in
-    subst AreOfFiles one versions
+    subst AreFromFiles one versions
   where
     only : MayHave (at_rest_since ran events extent) of.events (extent_of c) → of.events ≡ events
     only (since, inl has) = has.0
@@ -266,5 +266,9 @@ no_processes v (closed s) disk starts = tt
 no_processes v (running events extent ps) disk starts = absurd starts
 no_processes v (dead s) disk starts = tt
 
-pub keeps_module_versions : {D : Type 0} (v : Device D) (source : Source) → KeepsModuleVersions v source
-keeps_module_versions v source = record { first = no_processes v; kept = keeps_versions_of_modules source }
+pub replies_keep_versions : {D : Type 0} (v : Device D) (source : Source) → RepliesKeepVersions v source
+replies_keep_versions v source = record {
+  first = no_processes v;
+  modules = keeps_versions_of_modules source;
+  releases = λ p c a line all versions (does, comes, is). (each_good source p c does line all versions comes a is).1;
+}

@@ -50,7 +50,7 @@ use Rattle.relup_script.specs.Search.{FoundForm}
 use Rattle.node_upgrade.specs.Stale.{stale_modules}
 use Rattle.rel_list.specs.Releases.{libraries_at}
 use Rattle.node_answer.specs.Lines.{installed_line}
-use Rattle.rel_session.specs.Installation.{Begins, installed_reply, Installs, IsInstallationReply, Leads, restarted, restarted_reply, upgrade_outcome}
+use Rattle.rel_session.specs.Installation.{RunsUnless, installed_reply, Installs, IsInstallationReply, RepliesTo, restarted, restarted_reply, upgrade_outcome}
 use Rattle.rel_handler.specs.Installing.{install_size, installation_event, needs_restart}
 use Rattle.rel_session.proofs.ListLemmas.{current-booted, list_after-push, same_list}
 
@@ -174,7 +174,7 @@ module _ (a b : Reply) (both : Both a b) where
 module _ (a b : Reply) (both : Fine a b) where
   -- boots of the same list
   booted_same : (events others : Events) (extent : Extent) → ((l m : Releases) → list_after events ≡ Some l → list_after others ≡ Some m → (booted l ≡ booted m) × (booted_extent extent l ≡ booted_extent extent m))
-      → Transition.IsBooted events extent a → Transition.IsBooted others extent b → Same a b
+      → Transition.AnswersBoot events extent a → Transition.AnswersBoot others extent b → Same a b
   booted_same events others extent alike (list, after, is) (again, after_too, also) =
       let (one, far) = alike list again after after_too in
       let first = events ++ booting ∷ [] in
@@ -192,10 +192,10 @@ module _ (a b : Reply) (both : Fine a b) where
       alike : (l k : Releases) → list_after events ≡ Some l → list_after others ≡ Some k → (booted l ≡ booted k) × (booted_extent extent l ≡ booted_extent extent k)
       alike l k after after_too = let one : l ≡ k = let e : Some l ≡ Some k = sym after ∙ same ∙ after_too in cc in (ap booted one, ap (booted_extent extent) one)
 
-      only : (ran events : Events) (extent : Extent) (r : Reply) (es : Events) (n : Extent) → MayHave (at_rest_since ran events extent) es n → Transition.IsBooted es n r → Transition.IsBooted events extent r
+      only : (ran events : Events) (extent : Extent) (r : Reply) (es : Events) (n : Extent) → MayHave (at_rest_since ran events extent) es n → Transition.AnswersBoot es n r → Transition.AnswersBoot events extent r
       only ran events extent r es n has is =
           let (here, reaches) = has_only ran events es extent n has in
-          subst (λ l. Transition.IsBooted l extent r) here (subst (λ k. Transition.IsBooted es k r) reaches is)
+          subst (λ l. Transition.AnswersBoot l extent r) here (subst (λ k. Transition.AnswersBoot es k r) reaches is)
   boots_store ran began events others extent same (inl is) (inr also) = boot_failure b _ also both.1
   boots_store ran began events others extent same (inr is) other = boot_failure a _ is both.0
 
@@ -223,7 +223,7 @@ module _ (a b : Reply) (both : Fine a b) where
       let l_is : list ≡ l = let e : Some list ≡ Some l = sym after ∙ l_after in cc in
       let m_is : again ≡ m = let e : Some again ≡ Some m = sym after_too ∙ m_after in cc in
       (ap booted (sym l_is) ∙ one.booted ∙ ap booted m_is, ap (booted_extent extent) (sym l_is) ∙ one.extents extent ∙ ap (booted_extent extent) m_is))
-      is (subst (λ n. Transition.IsBooted others n b) there also)
+      is (subst (λ n. Transition.AnswersBoot others n b) there also)
   boots_bytes laws x (inl (events, list, extent, after, image, is)) (inr (inl (why, told, also))) = absurd (laws.never_both x list why image.image_of told)
   boots_bytes laws x (inl is) (inr (inr (torn, also))) = failure b _ also refl both.1
   boots_bytes laws x (inr (inl (why, told, is))) (inl (events, list, extent, after, image, also)) = absurd (laws.never_both x list why image.image_of told)
@@ -344,7 +344,7 @@ module _ (a b : Reply) (both : Both a b) where
 
   -- an installation
   leads : (events others : Events) (extent : Extent) (ps qs : Processes) (vsn : List ℕ) (l : Releases) (f : FoundForm) (o : script.Outcome) → list_after events ≡ list_after others → ps ≡ qs
-      → Leads events extent ps vsn l f o a → Leads others extent qs vsn l f o b → Same a b
+      → RepliesTo events extent ps vsn l f o a → RepliesTo others extent qs vsn l f o b → Same a b
   leads events others extent ps qs vsn l f (script.Outcome.refuses n c) same one is also = as_these a b _ _ is also (refl, refl, same_lists events others extent ps qs same one)
   leads events others extent ps qs vsn l f (script.Outcome.breaks n c) same one is also = as_these a b _ _ is also (refl, refl, same_dead events others events others extent same)
   leads events others extent ps qs vsn l f (script.Outcome.ends r) same one (inl (x, reach, is)) (inl (y, reach_too, also)) =
@@ -353,10 +353,10 @@ module _ (a b : Reply) (both : Both a b) where
   leads events others extent ps qs vsn l f (script.Outcome.ends r) same one (inr is) other = failure a _ is refl both.0
 
   begins : (events others : Events) (extent : Extent) (ps qs : Processes) (vsn : List ℕ) (l : Releases) (f : FoundForm) (o : Option Failure) → list_after events ≡ list_after others → ps ≡ qs
-      → Begins events extent ps vsn l f o a → Begins others extent qs vsn l f o b → Same a b
+      → RunsUnless events extent ps vsn l f o a → RunsUnless others extent qs vsn l f o b → Same a b
   begins events others extent ps qs vsn l f (Some why) same one is also = as_these a b _ _ is also (refl, refl, same_lists events others extent ps qs same one)
   begins events others extent ps qs vsn l f None same one (inl (fits, is)) (inl (fits_too, also)) =
-      leads events others extent ps qs vsn l f (upgrade_outcome vsn l f ps) same one is (subst (λ o. Leads others extent qs vsn l f o b) (ap (upgrade_outcome vsn l f) (sym one)) also)
+      leads events others extent ps qs vsn l f (upgrade_outcome vsn l f ps) same one is (subst (λ o. RepliesTo others extent qs vsn l f o b) (ap (upgrade_outcome vsn l f) (sym one)) also)
   begins events others extent ps qs vsn l f None same one (inl (fits, is)) (inr (over_it, also)) = absurd (over_it fits)
   begins events others extent ps qs vsn l f None same one (inr (over_it, is)) (inl (fits, also)) = absurd (over_it fits)
   begins events others extent ps qs vsn l f None same one (inr (over_it, is)) (inr (over_too, also)) = as_these a b _ _ is also (refl, refl, same_lists events others extent ps qs same one)

@@ -22,7 +22,7 @@ use Rattle.node_processes.specs.Fresh.{fresh}
 use Rattle.node_processes.specs.Processes.{Processes}
 use Rattle.session_input.specs.Commands.{Command}
 use Rattle.session_input.specs.Commands.Command.{file, create, set_unpacked, check, install, permanent, remove, reboot_old, boot, start, releases, procs, modules, peek, call, flood, relup, quit, bad}
-use Rattle.rel_session.specs.AnswerLaws.{AreOfFiles, HasVersionsAt, HasModuleVersionsAt}
+use Rattle.rel_session.specs.AnswerLaws.{AreFromFiles, HasVersionsAt, HasModuleVersionsAt}
 use Rattle.rel_session.specs.Installation.{restarted}
 use Rattle.rel_session.specs.Node.{Place, Reply, releases_after, list_or_none}
 use Rattle.rel_session.specs.Node.Place.{raw, closed, running, dead}
@@ -42,7 +42,7 @@ KeepsVersions a = HasModuleVersionsAt a.after
 versions_as : (a b : Reply) → a ≡ b → KeepsVersions b → KeepsVersions a
 versions_as a b is of = subst KeepsVersions (sym is) of
 
-libraries_of : (es : Releases) → AreOfFiles es → AreWithLibraries es
+libraries_of : (es : Releases) → AreFromFiles es → AreWithLibraries es
 libraries_of [] all = tt
 libraries_of (e ∷ es) all = (all.0.1, libraries_of es all.1)
 
@@ -50,7 +50,7 @@ libraries_of (e ∷ es) all = (all.0.1, libraries_of es all.1)
 booted_versions : (events : Events) (list : Releases) → list_after events ≡ Some list → AreWithLibraries list → HaveModuleVersions (fresh (releases_after events))
 booted_versions events list after have = subst (λ o. HaveModuleVersions (fresh (list_or_none o))) (sym after) (fresh_versions list have)
 
-boots_to : (events : Events) (extent : Extent) → OfList events → (a : Reply) → Transition.IsBooted events extent a → KeepsVersions a
+boots_to : (events : Events) (extent : Extent) → OfList events → (a : Reply) → Transition.AnswersBoot events extent a → KeepsVersions a
 boots_to events extent all a (list, after, is) =
     let grown = list_after-push events booting list (booted list) after refl in
     versions_as a _ is (booted_versions (events ++ booting ∷ []) (booted list) grown (libraries_of (booted list) (list_versions events booting tt all (booted list) grown)))
@@ -63,7 +63,7 @@ boots_store s all a (inr (inr (events, extent, has, is))) = versions_as a _ is t
 boots : (p : Place) → HasVersionsAt p → (a : Reply) → Transition.Boots p a → KeepsVersions a
 boots (raw x) all a (inl (events, list, extent, after, image, is)) =
     let of = of_image x list image.image_of in
-    boots_to events extent (λ l e. let same : list ≡ l = cc in subst AreOfFiles same of) a is
+    boots_to events extent (λ l e. let same : list ≡ l = cc in subst AreFromFiles same of) a is
 boots (raw x) all a (inr (inl (why, refusal, is))) = versions_as a _ is tt
 boots (raw x) all a (inr (inr (torn, is))) = versions_as a _ is tt
 boots (closed s) all a is = boots_store s all a is

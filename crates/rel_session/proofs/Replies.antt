@@ -31,7 +31,7 @@ use Rattle.session_input.specs.Commands.{Command}
 use Rattle.session_input.specs.Commands.Command.{file, create, set_unpacked, check, install, permanent, remove, reboot_old, boot, start, releases, procs, modules, peek, call, flood, relup, quit, bad}
 use Rattle.rel_session.specs.Device.{Device, LeavesOnly, HasFailed}
 use Rattle.rel_unpack.specs.Source.{Source}
-use Rattle.rel_session.specs.InMemory.{disk_at, IsAt, Replied, Leads, NothingDone, Answers, TellsReply, TellsOrStops, AnswersOrStops, IsStarted, NeedsNode}
+use Rattle.rel_session.specs.InMemory.{disk_at, IsAt, Replied, Leads, NothingDone, Answers, TellsReply, TellsOrStops, AnswersOrStops, IsNodeStarted, NeedsNode}
 use Rattle.rel_session.specs.Node.{Place, just_booted, at_rest, list_or_none, CommandOutcome, Reply, reply, refused, failed, nothing, done, failed_with}
 use Rattle.rel_session.specs.Node.Place.{raw, closed, running, dead}
 use Rattle.node_answer.specs.Refusals.{refusal_of, refusal_line}
@@ -196,7 +196,7 @@ module _ {D : Type 0} (v : Device D) (laws : IsDevice v) where
     abbrev Tells : Place → Reply → Type 0
     Tells p a = P p a × (a.answer ≡ Transition.ok_line (Transition.version_of (running_release (list_in h))))
 
-    pub starts : ((p : Place) → IsAt v old p → HasBooted p (Tells p) old h) → (line : Result (String Global) AllocError) (place : PlaceInMemory D) → IsStarted h line place → TellsOrStops v P Q line old place
+    pub starts : ((p : Place) → IsAt v old p → HasBooted p (Tells p) old h) → (line : Result (String Global) AllocError) (place : PlaceInMemory D) → IsNodeStarted h line place → TellsOrStops v P Q line old place
     starts booted_there (Ok text) (memory.Idle disk) never_so = absurd never_so
     starts booted_there (Ok text) (memory.Made n) (is, has, told) = λ p at.
         let b = booted_there p at in
@@ -231,7 +231,7 @@ module _ {D : Type 0} (v : Device D) (laws : IsDevice v) where
 
     -- with these events
     boots_with : (p : Place) (events : Events) (extent : Extent) (list : Releases) → list_after events ≡ Some list → list_in h ≡ booted list → extent_in h ≡ booted_extent extent list → Moments v p (done (booting ∷ [])) disk (disk_in h)
-        → (P : Reply → Type 0) → ((a : Reply) → Transition.IsBooted events extent a → P a) → HasBooted p (λ a. P a × (a.answer ≡ version_line)) old h
+        → (P : Reply → Type 0) → ((a : Reply) → Transition.AnswersBoot events extent a → P a) → HasBooted p (λ a. P a × (a.answer ≡ version_line)) old h
     boots_with p events extent list after is ends moments P right =
         let then : list_after (events ++ booting ∷ []) ≡ Some (list_in h) = list_after-push events booting list (booted list) after refl ∙ ap (λ l. Some l) (sym is) in
         let place = booted_at h (events ++ booting ∷ []) (booted_extent extent list) alive then ends images started in
@@ -271,7 +271,7 @@ module _ {D : Type 0} (v : Device D) (laws : IsDevice v) where
     boots_at (running events extent ps) here = boots_store (running events extent ps) (certain events extent) here (λ m. m)
     boots_at (dead s) here = boots_store (dead s) s here (λ m. m)
 
-    pub boots : (line : Result (String Global) AllocError) (place : PlaceInMemory D) → IsStarted h line place → TellsOrStops v Transition.Boots (λ p a. Transition.StopsWithin p boots_node a) line old place
+    pub boots : (line : Result (String Global) AllocError) (place : PlaceInMemory D) → IsNodeStarted h line place → TellsOrStops v Transition.Boots (λ p a. Transition.StopsWithin p boots_node a) line old place
     boots = starts Transition.Boots (λ p a. Transition.StopsWithin p boots_node a) (λ p b is. without_its_node b is refl) h old (λ p at. boots_at p (subst (λ d. Holds v p d) (sym taken) (held old p at)))
 
   -- the disk was read alone

@@ -100,7 +100,7 @@ makes (closed s) found a (inr is) = failed_as s _ _ (closed s) a (inl refl) (wit
 makes (running events extent ps) found a is = still_as (running events extent ps) _ a is
 makes (dead s) found a is = still_as (dead s) _ a is
 
-booted : (p : Place) (events : Events) (extent : Extent) (a : Reply) → Finds p events → BeginWith (ran_at p) events → Transition.IsBooted events extent a → KeepsEvents p a
+booted : (p : Place) (events : Events) (extent : Extent) (a : Reply) → Finds p events → BeginWith (ran_at p) events → Transition.AnswersBoot events extent a → KeepsEvents p a
 booted p events extent a finds ran (list, after, is) = keeps_as p a _ is (keeps_known p _ events finds refl tt (with_one_more (ran_at p) events booting ran))
 
 -- the events that a store may have

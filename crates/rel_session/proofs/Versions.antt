@@ -38,7 +38,7 @@ use Rattle.rel_session.specs.Node.{Place, Reply, refused, failed, releases_after
 use Rattle.rel_session.specs.Node.Place.{raw, closed, running, dead}
 use Rattle.node_answer.specs.Refusals.{refusal_of, refusal_for, refusal_line}
 use Rattle.node_answer.specs.Refusals.NodeRefusal.{device, bad_status, script_refused, must_reboot, dead as no_node}
-use Rattle.rel_session.specs.AnswerLaws.{HasLinePath, IsOfFiles, AreOfFiles, HasVersionsAt, HasModuleVersionsAt}
+use Rattle.rel_session.specs.AnswerLaws.{HasLinePath, IsFromFiles, AreFromFiles, HasVersionsAt, HasModuleVersionsAt}
 use Rattle.rel_session.specs.Transition
 use Rattle.rel_session.specs.Transition.Action.{answers, makes_node, changes_node, installs, reboots_node, boots_node, tells_start, calls}
 use Rattle.rel_session.proofs.ActionLemmas.{OfEvent, TellsFilesLine, IsGoodAction, good_action}
@@ -56,38 +56,38 @@ use Rattle.rel_session.proofs.InstallLines.{InstallLines, restart_first}
 use Rattle.rel_session.proofs.InstallLines.InstallLines.{one_line, two_lines, doubt_line}
 use Rattle.rel_session.proofs.InstallationLemmas.{each_reply}
 
-more_versions : (es : Releases) (e : Entry) → AreOfFiles es → IsOfFiles (bundle_in e) → AreOfFiles (es ++ e ∷ [])
+more_versions : (es : Releases) (e : Entry) → AreFromFiles es → IsFromFiles (bundle_in e) → AreFromFiles (es ++ e ∷ [])
 more_versions [] e all one = (one, tt)
 more_versions (f ∷ es) e all one = (all.0, more_versions es e all.1 one)
 
-restated_versions : (f : List ℕ → Status → Status) (es : Releases) → AreOfFiles es → AreOfFiles (with_statuses f es)
+restated_versions : (f : List ℕ → Status → Status) (es : Releases) → AreFromFiles es → AreFromFiles (with_statuses f es)
 restated_versions f [] all = tt
 restated_versions f (e ∷ es) all = (all.0, restated_versions f es all.1)
 
-booted_versions : (es : Releases) → AreOfFiles es → AreOfFiles (booted es)
+booted_versions : (es : Releases) → AreFromFiles es → AreFromFiles (booted es)
 booted_versions es all = restated_versions (λ vsn s. booted_status s) es all
 
-fewer_versions : (v : List ℕ) (es : Releases) → AreOfFiles es → AreOfFiles (without v es)
+fewer_versions : (v : List ℕ) (es : Releases) → AreFromFiles es → AreFromFiles (without v es)
 fewer_versions v [] all = tt
 fewer_versions v (e ∷ es) all = go (bytes_eq v e.release.vsn) (fewer_versions v es all.1)
   where
-    go : (b : Bool) → AreOfFiles (without v es) → AreOfFiles (if b then es else e ∷ without v es)
+    go : (b : Bool) → AreFromFiles (without v es) → AreFromFiles (if b then es else e ∷ without v es)
     go true rest = all.1
     go false rest = (all.0, rest)
 
 -- the list that an event makes, where it is allowed
-where_allowed : (b : Bool) (next end : Releases) → AreOfFiles next → (if b then Some next else None) ≡ Some end → AreOfFiles end
-where_allowed true next end all is = let same : next ≡ end = cc in subst AreOfFiles same all
+where_allowed : (b : Bool) (next end : Releases) → AreFromFiles next → (if b then Some next else None) ≡ Some end → AreFromFiles end
+where_allowed true next end all is = let same : next ≡ end = cc in subst AreFromFiles same all
 where_allowed false next end all is = absurd cc
 
-own_versions : (e : Event) (es end : Releases) → OfEvent e → AreOfFiles es → own_step e es ≡ Some end → AreOfFiles end
-own_versions (made p) [] end of all is = let same : entry p Permanent ∷ [] ≡ end = cc in subst AreOfFiles same (of, tt)
+own_versions : (e : Event) (es end : Releases) → OfEvent e → AreFromFiles es → own_step e es ≡ Some end → AreFromFiles end
+own_versions (made p) [] end of all is = let same : entry p Permanent ∷ [] ≡ end = cc in subst AreFromFiles same (of, tt)
 own_versions (made p) (f ∷ es) end of all is = absurd cc
 own_versions (unpacked p) es end of all is = go (is_barred p es) is
   where
-    go : (b : Bool) → (if b then None else Some (es ++ entry p Unpacked ∷ [])) ≡ Some end → AreOfFiles end
+    go : (b : Bool) → (if b then None else Some (es ++ entry p Unpacked ∷ [])) ≡ Some end → AreFromFiles end
     go true is = absurd cc
-    go false is = let same : es ++ entry p Unpacked ∷ [] ≡ end = cc in subst AreOfFiles same (more_versions es (entry p Unpacked) all of)
+    go false is = let same : es ++ entry p Unpacked ∷ [] ≡ end = cc in subst AreFromFiles same (more_versions es (entry p Unpacked) all of)
 own_versions (installed v) es end of all is =
     where_allowed (may_be_installed (has_current es) (status_of v es)) (list_installed v es) end (restated_versions _ es all) is
 own_versions (restart_installed v) es end of all is =
@@ -97,19 +97,19 @@ own_versions (made_permanent v) es end of all is =
 own_versions (removed v) es end of all is = where_allowed (may_be_removed (status_of v es)) (without v es) end (fewer_versions v es all) is
 own_versions (reboot_old v) es end of all is =
     where_allowed (may_be_rebooted (status_of v es)) (list_made_permanent v es) end (restated_versions _ es all) is
-own_versions booting es end of all is = let same : booted es ≡ end = cc in subst AreOfFiles same (booted_versions es all)
+own_versions booting es end of all is = let same : booted es ≡ end = cc in subst AreFromFiles same (booted_versions es all)
 
-step_versions : (e : Event) (es end : Releases) → OfEvent e → AreOfFiles es → step e es ≡ Some end → AreOfFiles end
+step_versions : (e : Event) (es end : Releases) → OfEvent e → AreFromFiles es → step e es ≡ Some end → AreFromFiles end
 step_versions e es end of all is = own_versions e es end of all (own_of_step e es end is).1
 
 -- one event more
 abbrev pub OfList : Events → Type 0
-OfList events = (list : Releases) → list_after events ≡ Some list → AreOfFiles list
+OfList events = (list : Releases) → list_after events ≡ Some list → AreFromFiles list
 
 pub list_versions : (events : Events) (e : Event) → OfEvent e → OfList events → OfList (events ++ e ∷ [])
 list_versions events e of all list is = go (list_after events) refl (sym (list_after-more events e) ∙ is)
   where
-    go : (o : Option Releases) → list_after events ≡ o → option_and_then (step e) o ≡ Some list → AreOfFiles list
+    go : (o : Option Releases) → list_after events ≡ o → option_and_then (step e) o ≡ Some list → AreFromFiles list
     go None after is = absurd cc
     go (Some es) after is = step_versions e es list of (all es after) is
 
@@ -118,7 +118,7 @@ pub stored_versions : (s : Stored) → HasVersionsAt (closed s) → (events : Ev
 stored_versions s all events extent has list is = all events list (may_have s events extent has) is
 
 -- the version of the release that runs
-found_version : (t : Entry → Bool) (es : Releases) → AreOfFiles es → is_one_line (Transition.version_of (option_map (λ (e : Entry). e.release) (find t es))) ≡ true
+found_version : (t : Entry → Bool) (es : Releases) → AreFromFiles es → is_one_line (Transition.version_of (option_map (λ (e : Entry). e.release) (find t es))) ≡ true
 found_version t [] all = refl
 found_version t (e ∷ es) all = go (t e) (found_version t es all.1)
   where
@@ -127,7 +127,7 @@ found_version t (e ∷ es) all = go (t e) (found_version t es all.1)
     go true rest = version_line e.release.vsn all.0.0.own
     go false rest = rest
 
-running_version : (es : Releases) → AreOfFiles es → is_one_line (Transition.version_of (running_release es)) ≡ true
+running_version : (es : Releases) → AreFromFiles es → is_one_line (Transition.version_of (running_release es)) ≡ true
 running_version es all = go (current es) (permanent es) (found_version (λ e. is_current e.status) es all) (found_version (λ e. is_permanent e.status) es all)
   where
     go : (a b : Option Release) → is_one_line (Transition.version_of a) ≡ true → is_one_line (Transition.version_of b) ≡ true → is_one_line (Transition.version_of (option_or a b)) ≡ true
@@ -183,9 +183,9 @@ changes events extent ps c list None o plain of told line all a is =
     commits events extent ps c.event (c.size list) o _ plain (λ next x a taken is. good_as a _ is (done_whole (c.details list) line, list_versions events c.event (of next refl taken) all))
     (λ next taken. of next refl taken) all a is
 
-makes_with : (x : List ℕ) (p : Bundle) (size : ℕ) (why : Option Refusal) → (why ≡ None → IsOfFiles p) → TellsFilesLine why → (a : Reply) → Transition.MakesWith x p size why a → IsGood a
+makes_with : (x : List ℕ) (p : Bundle) (size : ℕ) (why : Option Refusal) → (why ≡ None → IsFromFiles p) → TellsFilesLine why → (a : Reply) → Transition.MakesWith x p size why a → IsGood a
 makes_with x p size (Some why) of told a is = good_as a _ is (refusal_whole (refusal_for why) told, tt)
-makes_with x p size None of told a (inl (fits, is)) = good_as a _ is (ok_whole p.release.vsn (version_line p.release.vsn (of refl).0.own), list_versions (made p ∷ []) booting tt (list_versions [] (made p) (of refl) (λ l e. let same : [] ≡ l = cc in subst AreOfFiles same tt)))
+makes_with x p size None of told a (inl (fits, is)) = good_as a _ is (ok_whole p.release.vsn (version_line p.release.vsn (of refl).0.own), list_versions (made p ∷ []) booting tt (list_versions [] (made p) (of refl) (λ l e. let same : [] ≡ l = cc in subst AreFromFiles same tt)))
 makes_with x p size None of told a (inr (over_it, is)) = good_as a _ is ((λ behind. refl), tt)
 
 makes_on : (x : List ℕ) (b : Brought) (there : Bool) → IsGoodAction (makes_node b) → (a : Reply) → Transition.MakesOn x b there a → IsGood a
@@ -204,7 +204,7 @@ makes (closed s) found good all a (inr is) = good_as a _ is ((λ behind. refl), 
 makes (running events extent ps) found good all a is = good_as a _ is ((λ behind. refl), all)
 makes (dead s) found good all a is = good_as a _ is ((λ behind. refl), all)
 
-boots_to : (events : Events) (extent : Extent) → OfList events → (a : Reply) → Transition.IsBooted events extent a → IsGood a
+boots_to : (events : Events) (extent : Extent) → OfList events → (a : Reply) → Transition.AnswersBoot events extent a → IsGood a
 boots_to events extent all a (list, after, is) =
     let behind = list_versions events booting tt all in
     let grown = list_after-push events booting list (booted list) after refl in
@@ -232,29 +232,29 @@ reboots events extent ps vsn list o plain all =
     good_as a _ is (boots_store (Transition.rebooted events x vsn) (certain_versions (events ++ e ∷ []) x (list_versions events e tt all)) b boot)) (λ next taken. tt) all
 
 -- the list of an image
-pub of_image : (image : List ℕ) (es : Releases) → IsImageOf image es → AreOfFiles es
+pub of_image : (image : List ℕ) (es : Releases) → IsImageOf image es → AreFromFiles es
 of_image image es of = both es (have_versions (format_of image) of.bodies es of.list) (startable-of_recorded es (make_startable (format_of image) of.bodies (recorded es) of.list.makes))
   where
-    both : (es : Releases) → HaveVersions es → AreStartable es → AreOfFiles es
+    both : (es : Releases) → HaveVersions es → AreStartable es → AreFromFiles es
     both [] versions start = tt
     both (e ∷ es) versions start = ((versions.0, of_applications e.release.apps e.libraries start.0.complete.libraries), both es versions.1 start.1)
 
 boots : (p : Place) → HasVersionsAt p → (a : Reply) → Transition.Boots p a → IsGood a
 boots (raw x) all a (inl (events, list, extent, after, image, is)) =
     let versions = of_image x list image.image_of in
-    boots_to events extent (λ l e. let same : list ≡ l = cc in subst AreOfFiles same versions) a is
+    boots_to events extent (λ l e. let same : list ≡ l = cc in subst AreFromFiles same versions) a is
 boots (raw x) all a (inr (inl (why, refusal, is))) = good_as a _ is (boot_line_whole why, tt)
 boots (raw x) all a (inr (inr (torn, is))) = good_as a _ is ((λ behind. refl), tt)
 boots (closed s) all a is = boots_store s all a is
 boots (running events extent ps) all a is = boots_store (certain events extent) (certain_versions events extent all) a is
 boots (dead s) all a is = boots_store s all a is
 
-versions_of : (es : Releases) → AreOfFiles es → HaveVersions es
+versions_of : (es : Releases) → AreFromFiles es → HaveVersions es
 versions_of [] all = tt
 versions_of (e ∷ es) all = (all.0.0, versions_of es all.1)
 
 -- the versions of the permanent release
-start_plain : (es : Releases) → AreOfFiles es → is_one_line (Transition.start_versions (permanent es)) ≡ true
+start_plain : (es : Releases) → AreFromFiles es → is_one_line (Transition.start_versions (permanent es)) ≡ true
 start_plain es all = go (permanent es) refl
   where
     go : (o : Option Release) → permanent es ≡ o → is_one_line (Transition.start_versions o) ≡ true
@@ -264,10 +264,10 @@ start_plain es all = go (permanent es) refl
         append_line r.erts (codes " " ++ r.vsn) (version_line r.erts of.erts) (append_line (codes " ") r.vsn refl (version_line r.vsn of.own))
 
 -- each list of these events has versions
-pub listed_versions : (events : Events) → OfList events → AreOfFiles (releases_after events)
+pub listed_versions : (events : Events) → OfList events → AreFromFiles (releases_after events)
 listed_versions events all = go (list_after events) all
   where
-    go : (o : Option Releases) → ((l : Releases) → o ≡ Some l → AreOfFiles l) → AreOfFiles (list_or_none o)
+    go : (o : Option Releases) → ((l : Releases) → o ≡ Some l → AreFromFiles l) → AreFromFiles (list_or_none o)
     go None each = tt
     go (Some l) each = each l refl
 

@@ -156,20 +156,20 @@ HaveLinePaths (next c rest) = HasLinePath c × HaveLinePaths rest
 HaveLinePaths commands = Unit {0}
 
 -- a release that has the versions of a file, and libraries that are what files say
-abbrev pub IsOfFiles : Bundle → Type 0
-IsOfFiles p = HasVersions p.release × AllByRecursion IsLibrary p.libraries
+abbrev pub IsFromFiles : Bundle → Type 0
+IsFromFiles p = HasVersions p.release × AllByRecursion IsLibrary p.libraries
 
-abbrev pub AreOfFiles : Releases → Type 0
-AreOfFiles list = AllByRecursion (λ (e : Entry). IsOfFiles (bundle_in e)) list
+abbrev pub AreFromFiles : Releases → Type 0
+AreFromFiles list = AllByRecursion (λ (e : Entry). IsFromFiles (bundle_in e)) list
 
 -- each release of each list that the store there may have is such a one
 abbrev pub HasVersionsAt : Place → Type 0
 HasVersionsAt (raw bytes) = Unit {0}
 HasVersionsAt (closed s) =
-    (events : Events) (list : Releases) → MayBe s events → list_after events ≡ Some list → AreOfFiles list
-HasVersionsAt (running events extent ps) = (list : Releases) → list_after events ≡ Some list → AreOfFiles list
+    (events : Events) (list : Releases) → MayBe s events → list_after events ≡ Some list → AreFromFiles list
+HasVersionsAt (running events extent ps) = (list : Releases) → list_after events ≡ Some list → AreFromFiles list
 HasVersionsAt (dead s) =
-    (events : Events) (list : Releases) → MayBe s events → list_after events ≡ Some list → AreOfFiles list
+    (events : Events) (list : Releases) → MayBe s events → list_after events ≡ Some list → AreFromFiles list
 
 -- the module of each process there has a version
 abbrev pub HasModuleVersionsAt : Place → Type 0
@@ -207,8 +207,10 @@ ReadsLinePaths = (input : List ℕ) → HaveLinePaths (commands_in input)
 abbrev pub KeepsVersions : {D : Type 0} → Device D → Type 0
 KeepsVersions {D} v = (p : Place) (disk : D) → IsCertain p → Holds v p disk → HasVersionsAt p
 
--- Where a session begins there are no processes, and each reply keeps the versions of those that there are.
-pub record KeepsModuleVersions {D : Type 0} (v : Device D) (source : Source) : Type 0 where
+-- Where a session begins there are no processes, and each reply keeps the versions of the modules and of the releases.
+pub record RepliesKeepVersions {D : Type 0} (v : Device D) (source : Source) : Type 0 where
   pub first : (p : Place) (disk : D) → Starts v p disk → HasModuleVersionsAt p
-  pub kept : (p : Place) (c : Command) (a : Reply)
+  pub modules : (p : Place) (c : Command) (a : Reply)
       → HasVersionsAt p → HasModuleVersionsAt p → Transition source p c a → HasModuleVersionsAt a.after
+  pub releases : (p : Place) (c : Command) (a : Reply)
+      → HasLinePath c → HasVersionsAt p → HasModuleVersionsAt p → Transition source p c a → HasVersionsAt a.after

@@ -22,8 +22,8 @@ boot_line boot_error.NoMemory = codes "error boot 4 NoMemory\n"
 boot_line (boot_error.BadRecord i) = codes "error boot 5 BadRecord\n"
 
 -- A boot of a store with these events is done, and a one-shot taken away. The answer names the version of the release that runs.
-abbrev pub IsBooted : Events → Extent → Reply → Type 0
-IsBooted events extent a =
+abbrev pub AnswersBoot : Events → Extent → Reply → Type 0
+AnswersBoot events extent a =
     (list : Releases) × (list_after events ≡ Some list)
     × (a ≡ reply (ok_line (version_of (running_release (booted list)))) (done (booting ∷ []))
     (just_booted (events ++ booting ∷ []) (booted_extent extent list)))
@@ -36,7 +36,7 @@ boot_failed p = reply (boot_line boot_error.Device) (failed_with (Some booting))
 abbrev pub BootsBytes : List ℕ → Reply → Type 0
 BootsBytes bytes a =
     ((events : Events) × (list : Releases) × (extent : Extent) × (list_after events ≡ Some list) × IsImageAt bytes list extent
-    × IsBooted events extent a)
+    × AnswersBoot events extent a)
     ⊎ (((why : BootError) × IsBootRefusal bytes why × (a ≡ reply (boot_line why) nothing (raw bytes)))
     ⊎ ((torn : List ℕ) × (a ≡ boot_failed (raw torn))))
 
@@ -49,7 +49,7 @@ FailsOnStore s a =
 -- A boot of a store: it has the acknowledged events, with the one in doubt or without.
 abbrev pub BootsStore : Stored → Reply → Type 0
 BootsStore s a =
-    ((events : Events) × (extent : Extent) × MayHave s events extent × IsBooted events extent a) ⊎ FailsOnStore s a
+    ((events : Events) × (extent : Extent) × MayHave s events extent × AnswersBoot events extent a) ⊎ FailsOnStore s a
 
 -- So a boot replies, wherever the disk stands.
 abbrev pub Boots : Place → Reply → Type 0

@@ -145,12 +145,12 @@ AnswersAsked v says result old new = AnswersTold v (λ list ps. says ps) result 
 
 -- The handler of a node that has just booted is at this place, with its processes, and this line tells the version that runs;
 -- or memory was refused, and its disk alone is left.
-abbrev pub IsStarted : {D : Type 0} → NodeStore D → Result (String Global) AllocError → PlaceInMemory D → Type 0
-IsStarted h (Ok text) (memory.Made node) =
+abbrev pub IsNodeStarted : {D : Type 0} → NodeStore D → Result (String Global) AllocError → PlaceInMemory D → Type 0
+IsNodeStarted h (Ok text) (memory.Made node) =
     (node.handler ≡ h) × (processes_in node.processes ≡ fresh (list_in h))
     × (string_bytes text ≡ ok_line (version_of (running_release (list_in h))))
-IsStarted h (Err e) (memory.Idle disk) = disk ≡ disk_in h
-IsStarted h line place = ⊥
+IsNodeStarted h (Err e) (memory.Idle disk) = disk ≡ disk_in h
+IsNodeStarted h line place = ⊥
 
 -- what a handler sees of the processes of a node
 abbrev pub state_in : {D : Type 0} → BootedNode D → NodeState

@@ -54,10 +54,10 @@ IsInstallationReply true events extent vsn list f ps a =
 
 -- A script that fails before its point of no return changes nothing. One that fails behind it leaves the node dead, without an
 -- event. Behind one that was carried out the event is committed, or the device fails.
-abbrev pub Leads : Events → Extent → Processes → List ℕ → Releases → FoundForm → script.Outcome → Reply → Type 0
-Leads events extent ps vsn list f (refuses n c) a = a ≡ refused (script_refused (failure n (fails c))) (running events extent ps)
-Leads events extent ps vsn list f (breaks n c) a = a ≡ refused (must_reboot (failure n (fails c))) (dead (certain events extent))
-Leads events extent ps vsn list f (ends r) a =
+abbrev pub RepliesTo : Events → Extent → Processes → List ℕ → Releases → FoundForm → script.Outcome → Reply → Type 0
+RepliesTo events extent ps vsn list f (refuses n c) a = a ≡ refused (script_refused (failure n (fails c))) (running events extent ps)
+RepliesTo events extent ps vsn list f (breaks n c) a = a ≡ refused (must_reboot (failure n (fails c))) (dead (certain events extent))
+RepliesTo events extent ps vsn list f (ends r) a =
     let e = install_event vsn list in
     ((x : Extent) × MayReach (extent_behind extent (install_size vsn list)) (releases_after (events ++ e ∷ [])) x
     × IsInstallationReply (needs_restart vsn list) events x vsn list f (behind_run r) a)
@@ -65,13 +65,13 @@ Leads events extent ps vsn list f (ends r) a =
 
 -- A script that isn't run is refused; one that may begin does, where the record of its event fits, and with a restart that of
 -- the next boot behind it.
-abbrev pub Begins : Events → Extent → Processes → List ℕ → Releases → FoundForm → Option Failure → Reply → Type 0
-Begins events extent ps vsn list f (Some why) a = a ≡ refused (script_refused why) (running events extent ps)
-Begins events extent ps vsn list f None a =
-    (HasSpace extent (install_room vsn list) × Leads events extent ps vsn list f (upgrade_outcome vsn list f ps) a)
+abbrev pub RunsUnless : Events → Extent → Processes → List ℕ → Releases → FoundForm → Option Failure → Reply → Type 0
+RunsUnless events extent ps vsn list f (Some why) a = a ≡ refused (script_refused why) (running events extent ps)
+RunsUnless events extent ps vsn list f None a =
+    (HasSpace extent (install_room vsn list) × RepliesTo events extent ps vsn list f (upgrade_outcome vsn list f ps) a)
     ⊎ ((HasSpace extent (install_room vsn list) → ⊥) × (a ≡ refused full (running events extent ps)))
 
 -- The list or the relups refuse the installation, or there is a script for it.
 abbrev pub Installs : Events → Extent → Processes → List ℕ → Releases → Result FoundForm HandlerError → Reply → Type 0
 Installs events extent ps vsn list (Err why) a = a ≡ refused (refusal_of why) (running events extent ps)
-Installs events extent ps vsn list (Ok f) a = Begins events extent ps vsn list f (script_failure vsn list f) a
+Installs events extent ps vsn list (Ok f) a = RunsUnless events extent ps vsn list f (script_failure vsn list f) a

@@ -29,7 +29,7 @@ use Rattle.node_processes.specs.Answers.{processes_line, modules_line, peek_line
 use Rattle.node_processes.specs.Calls.{Calls, calls_line, left_by}
 use Rattle.node_processes.specs.Calls.Calls.{once, often}
 use Rattle.node_processes.specs.Processes.{Processes}
-pub use Rattle.rel_session.specs.Booting.{IsBooted, boot_failed, BootsBytes, FailsOnStore, BootsStore, Boots}
+pub use Rattle.rel_session.specs.Booting.{AnswersBoot, boot_failed, BootsBytes, FailsOnStore, BootsStore, Boots}
 use Rattle.rel_session.specs.Booting.{store_behind}
 use Rattle.rel_session.specs.Node.{Place, releases_after, just_booted, at_rest, Reply, reply, refused, failed, nothing, done, behind}
 use Rattle.rel_session.specs.Node.Place.{raw, closed, running, dead}
@@ -87,15 +87,15 @@ unpacked_change b = record {
   details = λ list. codes " " ++ b.found.release.vsn;
 }
 
--- what brings no release has no files
-abbrev pub no_files : Releases → Option FilesRefusal
-no_files list = None
+-- what brings no release is refused for no files
+abbrev pub no_refusal : Releases → Option FilesRefusal
+no_refusal list = None
 
 -- a release becomes the permanent one, or leaves
 abbrev pub permanence : List ℕ → Change
 permanence vsn = record {
   event = made_permanent vsn;
-  files = no_files;
+  files = no_refusal;
   size = change_size (made_permanent vsn);
   details = λ list. [];
 }
@@ -103,7 +103,7 @@ permanence vsn = record {
 abbrev pub removal : List ℕ → Change
 removal vsn = record {
   event = removed vsn;
-  files = no_files;
+  files = no_refusal;
   size = change_size (removed vsn);
   details = λ list. [];
 }

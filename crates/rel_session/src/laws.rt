@@ -1,5 +1,5 @@
 //! Laws of sessions. Each function does nothing: its contract is the law, and the laws that it calls are what it rests on.
-ghost use Rattle.rel_session.specs.AnswerLaws.{FailsOnlyWithTheDevice, TellsDoubt, HaveOneAnswer, HaveOneText, EachHasAnAnswer, TellsOneRun, ReadsLinePaths, KeepsVersions, KeepsModuleVersions};
+ghost use Rattle.rel_session.specs.AnswerLaws.{FailsOnlyWithTheDevice, TellsDoubt, HaveOneAnswer, HaveOneText, EachHasAnAnswer, TellsOneRun, ReadsLinePaths, KeepsVersions, RepliesKeepVersions};
 ghost use Rattle.rel_session.specs.LawsBelow.{BootLaws};
 ghost use Rattle.rel_session.specs.RunLaws.{EachKeeps, IsOfAccepted, LosesNothing, BeginsWhereOneEnded, BeginsBehindACrash, LosesNothingEver, BeginsWithAMaking};
 
@@ -65,8 +65,9 @@ pub fn an_empty_disk_begins_with_a_making<D: Disk, F: Files>()
 pub fn a_text_tells_one_run<D: Disk, F: Files>()
     ensures one { (files : F) → TellsOneRun (F.gives files) }
 
-    // The paths of an input's commands, the versions of a store and those of processes are as it asks.
+    // The paths of an input's commands are as it asks, and so are the versions of a store with nothing in doubt, and those behind
+    // each reply.
     ensures paths { ReadsLinePaths }
     ensures versions { KeepsVersions D.Disk }
-    ensures processes { (files : F) → KeepsModuleVersions D.Disk (F.gives files) }
+    ensures replies { (files : F) → RepliesKeepVersions D.Disk (F.gives files) }
 {}

@@ -7,7 +7,7 @@ ghost use Rattle.rel_unpack.specs.Unpacking.{Brought};
 ghost use Rattle.session_input.specs.Commands.Command.{create};
 ghost use Rattle.node_processes.specs.Fresh.{fresh};
 ghost use Rattle.node_processes.specs.InMemory.{AreSound, processes_in};
-ghost use Rattle.rel_session.specs.InMemory.{IsSoundPlace, IsStarted};
+ghost use Rattle.rel_session.specs.InMemory.{IsSoundPlace, IsNodeStarted};
 ghost use Rattle.rel_session.specs.Node.{Place as SomePlace};
 ghost use Rattle.node_answer.specs.Lines.{ok_line};
 ghost use Rattle.rel_session.specs.Booting.{boot_line};
@@ -116,7 +116,7 @@ fn started<D: Disk, R: Wait>(
     requires sound { IsSound D.seen D.may_leave handler }
     requires works { is_dead handler ≡ false }
     ensures sound { IsSoundPlace D.seen D.may_leave result.0 }
-    ensures started { IsStarted handler result.1 result.0 }
+    ensures started { IsNodeStarted handler result.1 result.0 }
 {
     match begun(rt, alloc, &handler) {
         Ok((line, processes)) => {

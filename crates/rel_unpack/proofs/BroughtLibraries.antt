@@ -6,10 +6,8 @@ use Rattle.std.specs.Option.{option_map, option_or}
 use Rattle.std.specs.Str.{chars}
 use Rattle.std.proofs.lemmas.Slice.Eq.{bytes_eq-Decides}
 use Rattle.erl_term.specs.Printing.{is_string, characters_of}
-use Rattle.erl_term.specs.Value.{Value, values_of}
+use Rattle.erl_term.specs.Value.{values_of}
 use Rattle.erl_term.specs.Within.{HaveShortNames, IsShortName, IsWithin, brackets, most_brackets}
-use Rattle.erl_term.proofs.Limits.{keeps_limits}
-use Rattle.rel_files.specs.OneTermFile.{HasTermAt}
 use Rattle.rel_files.specs.Release.{Application}
 use Rattle.rel_files.proofs.Options.{mapped}
 use Rattle.app_file.specs.File.{Specification, IsAppTerm, with_term}
@@ -26,16 +24,13 @@ use Rattle.rel_unpack.specs.Refusal.Refusal.{vsn_mismatch}
 use Rattle.rel_unpack.specs.Release.{ReleaseAt}
 use Rattle.rel_unpack.specs.Source.{Source}
 use Rattle.rel_unpack.specs.Unpacking.{Brought, BroughtAt, UnpackedLibraries, brought_with, refusal_for}
+use Rattle.rel_unpack.proofs.BroughtRelup.{term_within}
 use Rattle.rel_unpack.proofs.LineOutcomes.{OrNone}
 
 -- what was taken passed its test
 taken : {X : Type 0} (b : Bool) (x y : X) (why : Refusal) → Ok x ≡ (if b then Ok y else Err why) → (x ≡ y) × (b ≡ true)
 taken true x y why is = let same : Ok x ≡ Ok y = is in (cc, refl)
 taken false x y why is = let never : Ok x ≡ Err why = is in absurd cc
-
--- the term of a file
-term_within : (bytes : List ℕ) (at : ℕ) (v : Value) → HasTermAt bytes at v → IsWithin 65 v
-term_within bytes at v (r, reads, is, from) = subst (IsWithin 65) is (keeps_limits 64 bytes (r ∷ []) reads).0
 
 -- What the `.app` file of an application says: it is of its own term, of this application, and its term keeps within limits.
 record IsAppOf (a : Application) (s : Specification) : Type 0 where
@@ -44,14 +39,14 @@ record IsAppOf (a : Application) (s : Specification) : Type 0 where
   pub within : IsWithin 65 s.whole
 
 read_application : (source : Source) (a : Application) (s : Specification) → AppAt source a (Ok s) → IsAppOf a s
-read_application source a s (t, (bytes, reads, (at, v, has, says)), is) =
+read_application source a s (t, (bytes, reads, (v, has, says)), is) =
     let (same, named) = taken (is_named a t) s t (vsn_mismatch (app_path a)) is in
     let (c, found, made) = mapped (with_term v) (contents_in v) t says.shape in
     let whole : v ≡ t.whole = ap (λ (u : Specification). u.whole) made in
     subst (IsAppOf a) (sym same) (record {
       says = subst (λ w. IsAppTerm w t) whole says;
       named = named;
-      within = subst (IsWithin 65) whole (term_within bytes at v has);
+      within = subst (IsWithin 65) whole (term_within bytes v has);
     })
 
 -- What the `.mod` file of a module says.
@@ -61,12 +56,12 @@ record IsTableOf (m : List ℕ) (t : TableTerm) : Type 0 where
   pub within : IsWithin 65 t.term
 
 read_table : (source : Source) (a : Application) (m : List ℕ) (t : TableTerm) → TableAt source a m (Ok t) → IsTableOf m t
-read_table source a m t (u, (bytes, reads, (at, has, says)), is) =
+read_table source a m t (u, (bytes, reads, (has, says)), is) =
     let (same, own) = taken (is_of m u) t u (vsn_mismatch (mod_path a m)) is in
     subst (IsTableOf m) (sym same) (record {
       says = says;
       own = (bytes_eq-Decides (name_of u.table) m).0 own;
-      within = term_within bytes at u.term has;
+      within = term_within bytes u.term has;
     })
 
 -- a table of such a term

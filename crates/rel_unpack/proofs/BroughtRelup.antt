@@ -5,7 +5,7 @@ use Rattle.erl_term.specs.Within.{IsWithin}
 use Rattle.erl_term.proofs.Limits.{keeps_limits}
 use Rattle.rel_check.specs.Relup.{relup_mismatch}
 use Rattle.rel_check.specs.declared.relup.RelupMismatch.{RelupMismatch}
-use Rattle.rel_files.specs.File.{HasFileTerm}
+use Rattle.rel_files.specs.OneTermFile.{HasFileTerm}
 use Rattle.relup_file.specs.Form.{IsRelupTerm}
 use Rattle.erl_term.specs.Value.{Value}
 use Rattle.rel_unpack.specs.Refusal.{Refusal}
@@ -19,7 +19,7 @@ pub record IsRelupOf (vsn : List ℕ) (f : RelupFound) : Type 0 where
   pub allowed : relup_mismatch vsn f.relup ≡ None
   pub within : IsWithin 65 f.term
 
-term_within : (bytes : List ℕ) (v : Value) → HasFileTerm bytes v → IsWithin 65 v
+pub term_within : (bytes : List ℕ) (v : Value) → HasFileTerm bytes v → IsWithin 65 v
 term_within bytes v (r, reads, is) = subst (IsWithin 65) is (keeps_limits 64 bytes (r ∷ []) reads).0
 
 of_file : (source : Source) (path vsn : List ℕ) (f : RelupFound) → RelupIn source path vsn (Ok f) → IsRelupOf vsn f

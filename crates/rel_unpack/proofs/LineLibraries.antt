@@ -90,7 +90,7 @@ module _ (source : Source) (a : Application) (lines : IsLineApplication a) where
   good_table m name =
       let line = mod_path_line a m lines (name_line m name) in
       good_then (FileSays mod_form source (mod_path a m)) _ (IsSaid mod_form source (mod_path a m) line) HasLineTable (good_file mod_form source (mod_path a m) line)
-      (λ t said. good_outcome HasLineTable _ (tested HasLineTable t (vsn_mismatch (mod_path a m)) line (is_of m t) (λ same. table_line t.term t.table said.1.2.shape)))
+      (λ t said. good_outcome HasLineTable _ (tested HasLineTable t (vsn_mismatch (mod_path a m)) line (is_of m t) (λ same. table_line t.term t.table said.1.1.shape)))
 
   good_module : (m : List ℕ) → IsName m → AreGood (ModuleAt source a m) (OrNone HasLineTable)
   good_module m name = good_where_there source (mod_path a m) (TableAt source a m) HasLineTable (good_table m name)
@@ -100,7 +100,7 @@ module _ (source : Source) (a : Application) (lines : IsLineApplication a) where
       let line = app_path_line a lines in
       good_then (FileSays app_form source (app_path a)) _ (IsSaid app_form source (app_path a) line) IsRead (good_file app_form source (app_path a) line)
       (λ s said. good_outcome IsRead _ (tested IsRead s (vsn_mismatch (app_path a)) line (is_named a s)
-      (λ same. record { lines = specification_line a s lines same; names = application_names said.1.1 s said.1.3.shape })))
+      (λ same. record { lines = specification_line a s lines same; names = application_names said.1.0 s said.1.2.shape })))
 
   good_library : AreGood (LibraryAt source a) IsLineLibrary
   good_library =

@@ -2,11 +2,10 @@
 use Rattle.std.proofs.Common.{◌≡◌, ◌≢◌, ◌⊎◌, inl, inr, ℕ, Bool, true, false, List, [], ◌∷◌, Option, Some, None, Result, Ok, Err, refl, sym, ap, ◌∙◌, subst}
 use Rattle.std.specs.Prelude.{if◌then◌else◌}
 use Rattle.std.specs.Option.{option_map, option_or}
-use Rattle.erl_term.proofs.Exact.{one_reading}
-use Rattle.erl_term.specs.Grammar.{Reading}
 use Rattle.file_source.specs.declared.files.FilesError.{FilesError}
 use Rattle.file_source.specs.declared.files.FilesError.TheVariants as read
 use Rattle.rel_files.proofs.OneFault.{one_fault, never_says_and_fails, says_one}
+use Rattle.rel_files.proofs.OneTermFile.{one_value as one_file_value}
 use Rattle.rel_files.proofs.KindFiles as kind
 use Rattle.rel_files.specs.Fault.{Fault}
 use Rattle.rel_files.specs.Release.{Application}
@@ -215,11 +214,8 @@ some_relup_fault P from misshapen has = absurd has
 says_one_release : SaysOne rel_form
 says_one_release = record {
   one_value = λ bs f g says also.
-      let ((r, reads, is), of) = says in
-      let ((s, reads_too, is_too), of_too) = also in
-      let readings : r ∷ [] ≡ s ∷ [] = one_reading 64 bs (r ∷ []) (s ∷ []) reads reads_too in
-      let terms : f.term ≡ g.term = sym is ∙ (let same : r ≡ s = cc in ap (λ (x : Reading). x.term) same) ∙ is_too in
-      let releases : f.release ≡ g.release = says_one bs f.release g.release (f.term, says.0, of) (g.term, also.0, of_too) in
+      let terms : f.term ≡ g.term = one_file_value bs f.term g.term says.0 also.0 in
+      let releases : f.release ≡ g.release = says_one bs f.release g.release (f.term, says.0, says.1) (g.term, also.0, also.1) in
       λ k. record { release = releases k; term = terms k };
   one_trouble = λ bs. faults_one _ (one_fault bs);
   never_both = λ bs f t says has. some_fault _ (λ e is. never_says_and_fails bs f.release e (f.term, says.0, says.1) is) t has;
@@ -235,25 +231,17 @@ says_one_application = record {
 says_one_table : SaysOne mod_form
 says_one_table = record {
   one_value = λ bs t u says also.
-      let (at, has, is) = says in
-      let (at_too, has_too, is_too) = also in
-      let (r, reads, term, from) = has in
-      let (q, reads_too, term_too, from_too) = has_too in
-      let readings : r ∷ [] ≡ q ∷ [] = one_reading 64 bs (r ∷ []) (q ∷ []) reads reads_too in
-      let terms : t.term ≡ u.term = sym term ∙ (let same : r ≡ q = cc in ap (λ (x : Reading). x.term) same) ∙ term_too in
-      let tables : t.table ≡ u.table = kind.says_one mod_files bs t.table u.table (at, t.term, has, is) (at_too, u.term, has_too, is_too) in
+      let terms : t.term ≡ u.term = one_file_value bs t.term u.term says.0 also.0 in
+      let tables : t.table ≡ u.table = kind.says_one mod_files bs t.table u.table (t.term, says.0, says.1) (u.term, also.0, also.1) in
       λ k. record { term = terms k; table = tables k };
   one_trouble = λ bs. faults_one _ (kind.one_fault mod_files bs);
-  never_both = λ bs s t says has. some_fault _ (λ e is. kind.never_says_and_fails mod_files bs s.table e (says.0, s.term, says.1, says.2) is) t has;
+  never_both = λ bs s t says has. some_fault _ (λ e is. kind.never_says_and_fails mod_files bs s.table e (s.term, says.0, says.1) is) t has;
 }
 
 says_one_relup : SaysOne relup_form
 says_one_relup = record {
   one_value = λ bs f g says also.
-      let (r, reads, is) = says.0 in
-      let (s, reads_too, is_too) = also.0 in
-      let readings : r ∷ [] ≡ s ∷ [] = one_reading 64 bs (r ∷ []) (s ∷ []) reads reads_too in
-      let terms : f.term ≡ g.term = sym is ∙ (let same : r ≡ s = cc in ap (λ (x : Reading). x.term) same) ∙ is_too in
+      let terms : f.term ≡ g.term = one_file_value bs f.term g.term says.0 also.0 in
       let relups : f.relup ≡ g.relup = relup.says_one bs f.relup g.relup (f.term, says.0, says.1) (g.term, also.0, also.1) in
       λ k. record { relup = relups k; term = terms k };
   one_trouble = λ bs. relup_faults_one (IsRelupFault bs) (relup.one_fault bs);

@@ -106,7 +106,7 @@ says_some_table : SaysSome mod_form
 says_some_table bs = go (kind.says_or_fault mod_files bs)
   where
     go : ((t : Table) × Says mod_files bs t) ⊎ ((f : Fault) × HasFault mod_files bs f) → ((t : TableTerm) × mod_form.says bs t) ⊎ ((t : Trouble) × mod_form.fails bs t)
-    go (inl (t, (at, v, has, is))) = inl (record { term = v; table = t }, (at, has, is))
+    go (inl (t, (v, has, is))) = inl (record { term = v; table = t }, (has, is))
     go (inr (f, has)) = inr (faulty f, has)
 
 says_some_relup : SaysSome relup_form

@@ -1,7 +1,8 @@
 -- The release of a `.rel` file; docs/RULES.md tells the limits.
 use Rattle.std.specs.Prelude.{◌≡◌, ℕ, List, if◌then◌else◌, Ok, Err}
 use Rattle.erl_term.specs.Value.{Value, value_of}
-use Rattle.rel_files.specs.File.{HasFileTerm, IsReleaseTerm, HasReleaseFault}
+use Rattle.rel_files.specs.File.{IsReleaseTerm, HasReleaseFault}
+use Rattle.rel_files.specs.OneTermFile.{HasFileTerm}
 use Rattle.rel_files.specs.Release.{Release, release_of}
 use Rattle.rel_files.specs.declared.reader.RelFile.{RelFile}
 use Rattle.rel_check.specs.Limits.{is_small}

@@ -5,7 +5,7 @@ use Rattle.erl_term.specs.Value.{Value, value_of}
 use Rattle.rel_check.specs.Relup.{relup_mismatch}
 use Rattle.rel_check.specs.declared.relup.RelupMismatch.{RelupMismatch}
 use Rattle.rel_check.specs.declared.relup.RelupMismatch.TheVariants.{TooMany, OtherVersion}
-use Rattle.rel_files.specs.File.{HasFileTerm}
+use Rattle.rel_files.specs.OneTermFile.{HasFileTerm}
 use Rattle.relup_file.specs.File.{IsRelupFault}
 use Rattle.relup_file.specs.Form.{IsRelupTerm}
 use Rattle.relup_file.specs.Relup.{RelupForm, relup_of}

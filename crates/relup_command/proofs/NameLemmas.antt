@@ -90,7 +90,7 @@ gives_specification : (source : Source) (a : Application) → IsNamed a → Give
 gives_specification source a named =
     gives_then (FileSays app_form source (app_path a)) (λ s r. r ≡ (if is_named a s then Ok s else Err (vsn_mismatch (app_path a)))) _ IsNamedSpecification
     (gives_said app_form source (app_path a))
-    (λ s (bytes, (at, v, here, says)). gives_tested IsNamedSpecification s (vsn_mismatch (app_path a)) (is_named a s) (λ is. (
+    (λ s (bytes, (v, here, says)). gives_tested IsNamedSpecification s (vsn_mismatch (app_path a)) (is_named a s) (λ is. (
       subst IsName (sym ((bytes_eq-Decides s.name a.name).0 (and_parts (bytes_eq s.name a.name) (bytes_eq s.vsn a.vsn) is).0)) named.0,
       says.versions,
       (application_names v s says.shape).modules,
@@ -120,7 +120,7 @@ gives_releases source paths =
 -- The appup of an application is well formed, if it has one.
 gives_appup : (source : Source) (a : RelupAppForm) → Gives (AppupAt source a) (λ p. IfSome p IsWellFormedAppup)
 gives_appup source a None missing = tt
-gives_appup source a (Some p) (bytes, reads, (at, v, here, says)) =
+gives_appup source a (Some p) (bytes, reads, (v, here, says)) =
     let term = (says_its_term v p).0 says in
     (entries_all term.ups p.ups term.each_up, entries_all term.downs p.downs term.each_down)
 

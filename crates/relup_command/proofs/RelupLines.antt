@@ -71,7 +71,7 @@ entries_all (v ∷ vs) [] all = tt
 
 said_appup : (source : Source) (path : List ℕ) (line : is_one_line path ≡ true) (o : Option AppupForm) → IsSaidOrNone appup_form source path line o → MayHaveLines o
 said_appup source path line None said = tt
-said_appup source path line (Some p) (bytes, (at, v, here, says)) =
+said_appup source path line (Some p) (bytes, (v, here, says)) =
     let term = (says_its_term v p).0 says in
     (entries_all term.ups p.ups term.each_up, entries_all term.downs p.downs term.each_down)
 

@@ -10,7 +10,7 @@ use Rattle.proc_table.specs.Agrees.{slots}
 use Rattle.proc_table.specs.Views.{seen}
 use Rattle.relup_instruction.specs.declared.instruction.Direction.{Direction}
 use Rattle.relup_instruction.specs.Instruction.{ChangeForm, Instruction}
-use Rattle.relup_instruction.specs.Instruction.Instruction.{apply, code_change, remove}
+use Rattle.relup_instruction.specs.Instruction.Instruction.{apply, code_change, point_of_no_return, remove}
 use Rattle.relup_script.specs.Script.{is_error, is_point}
 use Rattle.started_members.specs.declared.looks.Stay.{Stay}
 use Rattle.started_members.specs.declared.looks.Stay.TheVariants.{Up, UpOrTemporary}
@@ -31,8 +31,9 @@ use Rattle.script_progress.specs.Script.{Run, Site, changed_once, child_stays_at
 use Rattle.script_progress.specs.Fault.{Cause, app_call_fault, change_fault, child_call_fault, error_cause, fault, is_stuck, restart_call_fault, super_fault_or}
 use Rattle.script_progress.specs.Fault.Cause.{in_use, no_change, no_memory}
 use Rattle.script_progress.specs.Steps.{IsFault, IsSeen, HasNoFaultAt}
-use Rattle.relup_exec.specs.Outcome.{IsInstructionAt, RanAll, Start, began_at, run_behind, run_through, still_early}
-use Rattle.relup_exec.specs.Alone.{HasOneOutcome, fails_at, outcome, outcome_from, step_alone, unless_fault, values_alone}
+use Rattle.relup_exec.specs.Outcome.{ArmedForm, IsArmed, IsInstructionAt, RanAll, Start, began_at, run_behind, run_through, still_early}
+use Rattle.relup_exec.specs.Alone.{HasOneOutcome, Outcome, fails_at, outcome, outcome_from, step_alone, unless_fault, values_alone}
+use Rattle.relup_exec.specs.Alone.Outcome.{refuses}
 use Rattle.relup_exec.proofs.RunLemmas.{step_values, still_before, through_values}
 
 -- the same is left in each slot
@@ -151,10 +152,36 @@ failed_alone s start script number c told front i now v none other at ran fails 
     (sym (fault_alone start.first s r v i none values is.1) ∙ is.0)
     ∙ ap (λ n. fails_at (still_early true front) n c) (omega (arith, at.counted))))
 
+-- behind the point no instruction is refused
+never_refused : (s : Site) (n : ℕ) (is : List Instruction) (r : Run) (m : ℕ) (c : Cause) → outcome_from s false n is r ≡ refuses m c → ⊥
+never_refused s n [] r m c e = absurd cc
+never_refused s n (i ∷ is) r m c e = go (fault s (values_alone r) r i) e (never_refused s (n + 1) is (step_alone s false i r) m c)
+  where
+    later : Outcome
+    later = outcome_from s false (n + 1) is (step_alone s false i r)
+
+    go : (o : Option Cause) → unless_fault o false (n + 1) later ≡ refuses m c → (later ≡ refuses m c → ⊥) → ⊥
+    go None same never = never same
+    go (Some d) same never = absurd cc
+
+-- nor is a script that has come to its point
+armed_alone : (s : Site) (start : Start) (script : List Instruction) (a : ArmedForm) (v : View) → start.first.lent ≡ [] → IsArmed s start script a v
+    → (m : ℕ) (c : Cause) → outcome s (began_at s start) script ≡ refuses m c → ⊥
+armed_alone s start script a v none armed m c e =
+    let front = armed.point.front in
+    let rest = point_of_no_return ∷ armed.point.rest in
+    let r = run_behind s start [] front in
+    let there : outcome s (began_at s start) script ≡ outcome_from s true (0 + length front) rest r =
+    ap (outcome s (began_at s start)) armed.point.is
+    ∙ (ran_alone s start.first start.first v true [] front rest 0 (began_at s start) none refl armed.ran
+    ∙ ap (λ early. outcome_from s early (0 + length front) rest r) (still_before front armed.point.early)) in
+    never_refused s (0 + length front + 1) armed.point.rest (step_alone s true point_of_no_return r) m c (sym there ∙ e)
+
 pub has_one_outcome : HasOneOutcome
 has_one_outcome = record {
   finished = λ s start script loaded apps v none done.
       ap (outcome s (began_at s start)) (sym (append-nil script)) ∙ ran_alone s start.first start.first v true done.told script [] 0 (began_at s start) none refl done.ran;
+  armed = armed_alone;
   refused = λ s start script number c v none other is.
       failed_alone s start script number c [] is.front is.instruction v v none other is.at is.ran is.fails ∙ ap (λ e. fails_at e number c) (still_before is.front is.early);
   broken = λ s start script number c v none other is.

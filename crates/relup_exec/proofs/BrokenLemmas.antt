@@ -1,5 +1,5 @@
 -- What a script leaves that fails behind its point of no return, where the handler carries it out alone: one thing.
-use Rattle.std.proofs.Common.{◌≡◌, ◌≢◌, ℕ, zero, suc, ◌+◌, ◌<◌, nat_lt, Bool, true, false, true≢false, ◌&&◌, not, if◌then◌else◌, List, [], ◌∷◌, ◌++◌, length, Option, Some, None, refl, sym, ap, subst, ◌∙◌, arith}
+use Rattle.std.proofs.Common.{◌≡◌, ◌≢◌, ℕ, zero, suc, ◌<◌, nat_lt, Bool, true, false, true≢false, ◌&&◌, not, if◌then◌else◌, List, [], ◌∷◌, ◌++◌, length, Option, Some, None, refl, sym, ap, subst, ◌∙◌, arith}
 use Rattle.std.proofs.lemmas.Bool.{ltb-true, ltb-false}
 use Rattle.worker_table.specs.Table.{OldVersion, WorkerTable}
 use Rattle.proc_table.specs.declared.view.View.{View}
@@ -22,7 +22,7 @@ use Rattle.script_progress.specs.Fault.{Cause, fault, is_stuck, load_fault, tabl
 use Rattle.script_progress.specs.Fault.Cause.{no_memory}
 use Rattle.script_progress.specs.Script.{Run, Site, call_within, change_within, changed_once, changed_within, child_within, courses_within, load_within, mode_of, old_version, run_after, stays_at, users_in, worker_in}
 use Rattle.script_progress.specs.Steps.{HasNoFaultAt, IsFault}
-use Rattle.script_progress.specs.Stops.{CallStops, StopsAt, StopsIn, UnlessMemory, child_count, child_goes, is_first_stuck, is_stuck_at, may_begin}
+use Rattle.script_progress.specs.Stops.{CallStops, StopsAt, StopsIn, UnlessMemory, child_count, child_goes, is_first_stuck, is_stuck_at}
 use Rattle.script_progress.proofs.CallLemmas.{left_true, right_true}
 use Rattle.relup_script.specs.Script.{is_point}
 use Rattle.relup_exec.specs.Alone.{LeavesOneHistory, values_alone}

@@ -20,7 +20,7 @@ use Rattle.script_progress.specs.Calls.{AppCall, ChildCall, app_call, child_call
 use Rattle.script_progress.specs.Calls.AppCall.{starts, stops, idle}
 use Rattle.script_progress.specs.Calls.ChildCall.{terminates, deletes, restarts, nothing}
 use Rattle.script_progress.specs.Script.{Run, Site, call_after, called_after, changed, changed_once, child_after, mode_of, restarted_at, run_after, scene_of, started_from, tables_among, target_library, with_scene}
-use Rattle.relup_exec.specs.Outcome.{RanAll, run_through, still_early}
+use Rattle.relup_exec.specs.Outcome.{RanAll, RanAllLate, run_through, still_early}
 use Rattle.script_progress.specs.Steps.{HasNoFault, IsEarly, IsLate}
 use Rattle.script_steps.proofs.RowLemmas.{all_middle}
 
@@ -92,6 +92,27 @@ pub behind_point : (front rest : List Instruction) (e : Bool) → still_early e 
 behind_point [] rest true = still_behind rest
 behind_point [] rest false = still_behind rest
 behind_point (i ∷ front) rest e = behind_point front rest (e && not (is_point i))
+
+-- Nothing stands behind the point yet.
+pub late_at_first : (s : Site) (first since now : View) (front : List Instruction) (r : Run) → AllByRecursion IsEarly front → AreLonger since now
+    → RanAllLate s first since now true [] (front ++ point_of_no_return ∷ []) r
+late_at_first s first since now [] r early longer = (refl, longer)
+late_at_first s first since now (i ∷ front) r early longer =
+    let next = run_after s true false i r in
+    subst (λ (b : Bool). RanAllLate s first since now (not b) [] (front ++ point_of_no_return ∷ []) next) (sym (not_the_point i early.0)) (late_at_first s first since now front next early.1 longer)
+
+-- one instruction more behind it
+pub late_push : (s : Site) (first since mid now : View) (e : Bool) (told : List Bool) (is : List Instruction) (b : Bool) (i : Instruction) (r : Run) → still_early e is ≡ false
+    → RanAllLate s first since mid e told is r → HasNoFault s first mid now (run_through s e told is r) b i → RanAllLate s first since now e (told ++ b ∷ []) (is ++ i ∷ []) r
+late_push s first since mid now false told is b i r late ran one = ran_push_late s first since mid now false told is b i r late ran one
+late_push s first since mid now true told [] b i r late ran one = absurd ran
+late_push s first since mid now true told (k ∷ is) b i r late ran one = late_push s first since mid now (not (is_point k)) told is b i (run_after s true false k r) late ran one
+
+-- what was so is so when more is seen
+pub late_later : (s : Site) (first since v w : View) (e : Bool) (told : List Bool) (is : List Instruction) (r : Run) → AreLonger v w → RanAllLate s first since v e told is r → RanAllLate s first since w e told is r
+late_later s first since v w false told is r longer ran = ran_later s first since v w false told is r longer ran
+late_later s first since v w true told [] r longer ran = absurd ran
+late_later s first since v w true told (i ∷ is) r longer ran = late_later s first since v w (not (is_point i)) told is (run_after s true false i r) longer ran
 
 early_or_point : (before after front : List Instruction) (i : Instruction) (rest : List Instruction) → AllByRecursion IsEarly before → AllByRecursion IsEarly front
     → before ++ (point_of_no_return ∷ after) ≡ front ++ (i ∷ rest) → IsEarly i ⊎ (i ≡ point_of_no_return)

@@ -13,7 +13,7 @@ use Rattle.held_processes.specs.Operations.{Values}
 use Rattle.script_progress.specs.Script.{Site, Run, run_after, stays_at}
 use Rattle.script_progress.specs.Fault.{Cause, fault}
 use Rattle.script_progress.specs.Fault.Cause.{no_memory}
-use Rattle.relup_exec.specs.Outcome.{Start, IsBroken, IsFinished, IsRefused, began_at, run_behind}
+use Rattle.relup_exec.specs.Outcome.{Start, ArmedForm, IsArmed, IsBroken, IsFinished, IsRefused, began_at, run_behind}
 
 -- what the blocks of the courses leave of what stood in the slots
 abbrev pub values_alone : Run → Values
@@ -47,10 +47,13 @@ outcome_from s early n (i ∷ is) r =
 abbrev pub outcome : Site → Run → List Instruction → Outcome
 outcome s r script = outcome_from s true 0 script r
 
--- Each outcome of a script that the handler carries out alone is this one, memory aside.
+-- Each outcome of a script that the handler carries out alone is this one, memory aside; and one that has come to its point isn't
+-- refused before it.
 pub record HasOneOutcome : Type 0 where
   pub finished : (s : Site) (start : Start) (script : List Instruction) (loaded : NamedModules) (apps : List App) (v : View)
       → start.first.lent ≡ [] → (f : IsFinished s start script loaded apps v) → outcome s (began_at s start) script ≡ ends (run_behind s start f.told script)
+  pub armed : (s : Site) (start : Start) (script : List Instruction) (a : ArmedForm) (v : View) → start.first.lent ≡ [] → IsArmed s start script a v
+      → (number : ℕ) (c : Cause) → outcome s (began_at s start) script ≡ refuses number c → ⊥
   pub refused : (s : Site) (start : Start) (script : List Instruction) (number : ℕ) (c : Cause) (v : View)
       → start.first.lent ≡ [] → c ≢ no_memory → IsRefused s start script number c v → outcome s (began_at s start) script ≡ refuses number c
   pub broken : (s : Site) (start : Start) (script : List Instruction) (number : ℕ) (c : Cause) (v : View)

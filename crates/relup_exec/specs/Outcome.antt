@@ -58,6 +58,16 @@ RanAll s first since now false (b ∷ told) (i ∷ is) r =
 abbrev pub Ran : Site → Start → View → List Bool → List Instruction → Type 0
 Ran s start now told is = RanAll s start.first start.first now true told is (began_at s start)
 
+-- The point of no return is one of these instructions, and none of those behind it failed: each by the histories that the handler had
+-- seen at a moment of its own, one behind another, between these two. So none of them is judged by an earlier view.
+abbrev pub RanAllLate : Site → View → View → View → Bool → List Bool → List Instruction → Run → Type 0
+RanAllLate s first since now false told is r = RanAll s first since now false told is r
+RanAllLate s first since now true told [] r = ⊥
+RanAllLate s first since now true told (i ∷ is) r = RanAllLate s first since now (not (is_point i)) told is (run_after s true false i r)
+
+abbrev pub RanLate : Site → Start → View → View → List Bool → List Instruction → Type 0
+RanLate s start since now told is = RanAllLate s start.first since now true told is (began_at s start)
+
 -- A script that has come to its point of no return. place: how many instructions stand before the point. next and apps: what is
 -- loaded, and what is started, once the script has ended well. told, room: nothing is told yet, and of how many instructions can be.
 pub record ArmedForm : Type 0 where
@@ -135,3 +145,13 @@ pub record IsBroken (s : Site) (start : Start) (script : List Instruction) (numb
   pub stops : StopsAt start.first s then_view (run_behind s start told front) instruction c modules slot
   pub left : AreLeft start.first (on_all finish (courses_within s false instruction modules slot (run_behind s start told front))) v
   pub longer : AreLonger then_view v
+
+-- The whole script was carried out, and what stands behind its point is judged by no view from before this one.
+pub record IsFinishedFrom (s : Site) (start : Start) (script : List Instruction) (since : View) (loaded : NamedModules) (apps : List App) (v : View) : Type 0 where
+  pub finished : IsFinished s start script loaded apps v
+  pub late : RanLate s start since v finished.told script
+
+-- An instruction behind the point is the first that fails, and neither it nor those between are judged by a view from before this one.
+pub record IsBrokenFrom (s : Site) (start : Start) (script : List Instruction) (since : View) (number : ℕ) (c : Cause) (v : View) : Type 0 where
+  pub broken : IsBroken s start script number c v
+  pub late : RanLate s start since broken.then_view broken.told broken.front

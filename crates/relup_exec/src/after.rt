@@ -4,7 +4,7 @@ ghost use Rattle.held_processes.specs.Course.{on_all};
 ghost use Rattle.held_processes.specs.Course.Operation.{finish, pass_point};
 ghost use Rattle.held_processes.specs.Following.{AllFollow, AreLeft, AreLonger, Followed};
 ghost use Rattle.script_progress.specs.InMemory.{cause_of, site_of};
-ghost use Rattle.relup_exec.specs.Outcome.{IsArmed, IsBroken, IsFinished, Start};
+ghost use Rattle.relup_exec.specs.Outcome.{IsArmed, IsBrokenFrom, IsFinishedFrom, Start};
 ghost use Rattle.relup_exec.specs.InMemory.{armed_of};
 ghost use Rattle.relup_instruction.specs.Instruction.{script_of};
 ghost use Rattle.loaded_modules.specs.Loaded.{listed_in};
@@ -29,8 +29,8 @@ pub struct Failed {
 
 impl Armed {
     /// Carries out the script from its point of no return on, and answers what is loaded then. The tree is that of what is
-    /// started then. Where an instruction fails, the tree stays, and what was held is let go with the changes made so far. It
-    /// waits for processes that clients have.
+    /// started then. Where an instruction fails, the tree stays, and what was held is let go with the changes made so far. No
+    /// instruction is judged by a view from before this call. It waits for processes that clients have.
     pub fn run_after<R: Wait>(
         self,
         rt: &R,
@@ -45,10 +45,10 @@ impl Armed {
         requires armed { IsArmed (site_of site.now) start (script_of script.now)
             (armed_of self) seat.old.view }
         ensures table { seat.new.table ≡ seat.old.table }
-        ensures finished { IfOk result (λ loaded. IsFinished (site_of site.now) start
-            (script_of script.now) (listed_in loaded) tree.new seat.new.view) }
-        ensures broken { IfErr result (λ e. IsBroken (site_of site.now) start
-            (script_of script.now) e.instr (cause_of e.cause) seat.new.view) }
+        ensures finished { IfOk result (λ loaded. IsFinishedFrom (site_of site.now) start
+            (script_of script.now) seat.old.view (listed_in loaded) tree.new seat.new.view) }
+        ensures broken { IfErr result (λ e. IsBrokenFrom (site_of site.now) start
+            (script_of script.now) seat.old.view e.instr (cause_of e.cause) seat.new.view) }
         ensures kept { OnErr result (tree.new ≡ tree.old) }
     {
         let Armed {

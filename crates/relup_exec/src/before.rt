@@ -7,12 +7,13 @@ ghost use Rattle.relup_exec.specs.Outcome.{IsArmed, IsPointAt, IsRefused, Start}
 ghost use Rattle.relup_exec.specs.InMemory.{armed_of};
 ghost use Rattle.relup_exec.specs.Stepwise.{HasBegun, RunsAll, start_at};
 ghost use Rattle.script_progress.specs.Steps.{IsEarly, progress_of};
-ghost use Rattle.relup_instruction.specs.Instruction.{instruction_of, script_of};
-ghost use Rattle.relup_script.specs.Script.{IsRunnable, is_point};
+ghost use Rattle.relup_instruction.specs.Instruction.{script_of};
+ghost use Rattle.relup_script.specs.Script.{IsRunnable};
 
 use crate::armed::Armed;
 use proc_table::HandlerSeat;
 use relup_instruction::Instr;
+use relup_script::is_point;
 use script_steps::{Cause, Failure, Progress, Site, carry_out_early};
 use std::alloc::Global;
 use std::sync::Wait;
@@ -83,12 +84,6 @@ fn point_in(script: &[Instr]) -> usize
         }
     }
     unreachable!()
-}
-
-fn is_point(instr: &Instr) -> bool
-    ensures { result ≡ is_point (instruction_of instr.now) }
-{
-    matches!(instr, Instr::PointOfNoReturn)
 }
 
 // Carries out these instructions, one after another.

@@ -2,7 +2,7 @@
 ghost use Rattle.relup_exec.specs.Alone.{HasOneOutcome, LeavesOneHistory};
 
 /// A script that the handler carries out while no pass is lent has one outcome, memory aside, and it is `outcome`: all is done,
-/// or the same instruction is the first that fails, with the same cause.
+/// or the same instruction is the first that fails, with the same cause. One that has come to its point isn't refused before it.
 pub fn a_script_alone_has_one_outcome()
     ensures { HasOneOutcome }
 {}

@@ -11,15 +11,14 @@ use Rattle.rel_files.specs.declared.fault.FileFault.{FileFault}
 use Rattle.rel_files.specs.declared.fault.FileFault.TheVariants as file
 use Rattle.rel_files.specs.Fault.{Fault}
 use Rattle.rel_files.specs.Fault.Fault.{bad_term, bad_shape, duplicate, bad_version}
-use Rattle.rel_files.specs.File.{HasFileTerm}
-use Rattle.rel_files.specs.OneTermFile.{HasNoTerm, IsCountFault}
+use Rattle.rel_files.specs.OneTermFile.{HasFileTerm, HasNoTerm, IsNoTermFault}
 use Rattle.relup_file.specs.declared.fault.RelupFault.{RelupFault}
 use Rattle.relup_file.specs.declared.fault.RelupFault.TheVariants.{BadTerm, BadShape, NoMemory}
 use Rattle.relup_file.specs.Fault.{relup_fault_of_file}
 use Rattle.relup_file.specs.Relup.{RelupForm}
 use Rattle.relup_file.specs.Form.{IsRelupTerm}
 use Rattle.relup_file.specs.Parts.{relup_in}
-use Rattle.relup_file.specs.File.{SaysRelup, HasTermFault, IsTermFault, HaveFault, IsRelupFault}
+use Rattle.relup_file.specs.File.{SaysRelup, HasTermFault, IsTermFault, HaveShapeFault, IsRelupFault}
 use Rattle.relup_file.proofs.RelupLemmas.{relup_in-term, from_relup, from_fault, relup_in-fault}
 
 -- a fault of the terms is the file's
@@ -37,7 +36,7 @@ of_count bytes f row (inr (r ∷ [], reads, is)) = absurd is
 of_count bytes f row (inr (r ∷ s ∷ rs, reads, is)) = (r ∷ s ∷ rs, reads, refl)
 
 -- the fault of a file that hasn't one term
-pub tells_terms : (bytes : List ℕ) (f : FileFault) → (f ≢ file.NoMemory → IsCountFault bytes f) → relup_fault_of_file f ≢ NoMemory → IsRelupFault bytes (relup_fault_of_file f)
+pub tells_terms : (bytes : List ℕ) (f : FileFault) → (f ≢ file.NoMemory → IsNoTermFault bytes f) → relup_fault_of_file f ≢ NoMemory → IsRelupFault bytes (relup_fault_of_file f)
 tells_terms bytes (file.BadTerm e) h other = of_no_row bytes e (h (λ same. absurd cc))
 tells_terms bytes (file.BadShape at) h other = of_count bytes (bad_shape at) (λ e is. absurd cc) (h (λ same. absurd cc))
 tells_terms bytes (file.Duplicate name) h other = of_count bytes (duplicate (string_bytes name)) (λ e is. absurd cc) (h (λ same. absurd cc))
@@ -84,13 +83,13 @@ says_one bytes r s (v, (p, reads, is), says) also =
 pub never_both : (bytes : List ℕ) (r : RelupForm) (f : RelupFault) → SaysRelup bytes r → IsRelupFault bytes f → ⊥
 never_both bytes r (BadTerm e) (v, (p, reads, is), says) h = reads_or_fails 64 bytes (p ∷ []) e reads h
 never_both bytes r (BadShape n) (v, (p, reads, is), says) (rs, also, h) =
-    let here : HaveFault (p ∷ []) n = subst (λ ts. HaveFault ts n) (one_reading 64 bytes rs (p ∷ []) also reads) h in
+    let here : HaveShapeFault (p ∷ []) n = subst (λ ts. HaveShapeFault ts n) (one_reading 64 bytes rs (p ∷ []) also reads) h in
     let bad : relup_in p.term ≡ Err n = relup_in-fault p.term n here in
     let good : relup_in p.term ≡ Ok r = ap relup_in is ∙ relup_in-term v r says in
     absurd cc
 never_both bytes r NoMemory says h = h
 
-one_place : (rs : List Reading) (n m : ℕ) → HaveFault rs n → HaveFault rs m → n ≡ m
+one_place : (rs : List Reading) (n m : ℕ) → HaveShapeFault rs n → HaveShapeFault rs m → n ≡ m
 one_place [] n m d e = d ∙ sym e
 one_place (r ∷ []) n m d e = let same : Err n ≡ Err m = sym (relup_in-fault r.term n d) ∙ relup_in-fault r.term m e in cc
 one_place (r ∷ s ∷ rs) n m d e = d ∙ sym e
@@ -102,7 +101,7 @@ one_fault bytes (BadTerm d) (BadShape n) p (rs, reads, h) = absurd (reads_or_fai
 one_fault bytes (BadTerm d) NoMemory p q = absurd q
 one_fault bytes (BadShape n) (BadTerm e) (rs, reads, h) q = absurd (reads_or_fails 64 bytes rs e reads q)
 one_fault bytes (BadShape n) (BadShape m) (rs, reads, h) (ss, also, k) =
-    ap BadShape (one_place ss n m (subst (λ ts. HaveFault ts n) (one_reading 64 bytes rs ss reads also) h) k)
+    ap BadShape (one_place ss n m (subst (λ ts. HaveShapeFault ts n) (one_reading 64 bytes rs ss reads also) h) k)
 one_fault bytes (BadShape n) NoMemory p q = absurd q
 one_fault bytes NoMemory g p q = absurd p
 

@@ -3,7 +3,7 @@ use Rattle.std.specs.Prelude.{◌≡◌, ◌⊎◌, ℕ, ◌+◌, List, [], ◌�
 use Rattle.erl_term.specs.Value.{Value}
 use Rattle.erl_term.specs.Grammar.{Reads, Reading}
 use Rattle.erl_term.specs.Faults.{IsFault}
-use Rattle.rel_files.specs.File.{HasFileTerm}
+use Rattle.rel_files.specs.OneTermFile.{TermOfFileSays}
 use Rattle.relup_file.specs.declared.fault.RelupFault.{RelupFault}
 use Rattle.relup_file.specs.declared.fault.RelupFault.TheVariants.{BadTerm, BadShape, NoMemory}
 use Rattle.relup_file.specs.Relup.{EntryForm, RelupForm}
@@ -11,9 +11,9 @@ use Rattle.relup_file.specs.Form.{IsEntryTerm, AreEntryTerms, IsOuter, IsRelupTe
 
 -- The file says this relup.
 abbrev pub SaysRelup : List ℕ → RelupForm → Type 0
-SaysRelup bytes r = (v : Value) × HasFileTerm bytes v × IsRelupTerm v r
+SaysRelup bytes r = TermOfFileSays IsRelupTerm bytes r
 
--- The term is no version and two lists.
+-- The term is not `{Vsn, Ups, Downs}`, a version and two lists.
 abbrev pub HasNoOuter : Value → Type 0
 HasNoOuter v = (vsn : List ℕ) (ups downs : List Value) → IsOuter v vsn ups downs → ⊥
 
@@ -41,12 +41,12 @@ IsTermFault v (BadShape n) = HasTermFault v n
 IsTermFault v f = ⊥
 
 -- the fault of the terms of a file: there is to be one
-abbrev pub HaveFault : List Reading → ℕ → Type 0
-HaveFault (r ∷ []) n = HasTermFault r.term n
-HaveFault rs n = n ≡ 0
+abbrev pub HaveShapeFault : List Reading → ℕ → Type 0
+HaveShapeFault (r ∷ []) n = HasTermFault r.term n
+HaveShapeFault rs n = n ≡ 0
 
 -- The fault of a file. Out of memory is none.
 abbrev pub IsRelupFault : List ℕ → RelupFault → Type 0
 IsRelupFault bytes (BadTerm e) = IsFault 64 bytes e
-IsRelupFault bytes (BadShape n) = (rs : List Reading) × Reads 64 bytes rs × HaveFault rs n
+IsRelupFault bytes (BadShape n) = (rs : List Reading) × Reads 64 bytes rs × HaveShapeFault rs n
 IsRelupFault bytes NoMemory = ⊥

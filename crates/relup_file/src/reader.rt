@@ -4,7 +4,7 @@ ghost use Rattle.erl_term.specs.Value.{value_of};
 ghost use Rattle.erl_term.specs.Within.{IsWithin};
 ghost use Rattle.relup_file.specs.Relup.{RelupForm, relup_of};
 ghost use Rattle.relup_file.specs.Form.{IsRelupTerm, IsRelup};
-ghost use Rattle.rel_files.specs.File.{HasFileTerm};
+ghost use Rattle.rel_files.specs.OneTermFile.{HasFileTerm};
 ghost use Rattle.relup_file.specs.File.{SaysRelup, IsTermFault, IsRelupFault};
 
 use crate::entries::relup_in;

@@ -14,7 +14,8 @@ use Rattle.relup_instruction.specs.Instruction.Instruction.{load_object_code, po
 use Rattle.relup_instruction.specs.Form.{one, command, instruction_term, IsInstruction, SpellsScript}
 use Rattle.relup_instruction.specs.Parts.{all_in, one_in, fetch_in, suspensions_in, purging_in, conversion_in, call_in, bare_in, over_modules, single_in, tagged_in, instruction_in, script_in}
 use Rattle.rel_files.proofs.TermParts.{names_in-atoms, from_names_in}
-use Rattle.relup_instruction.proofs.Pieces.{all_in-terms, from_all, from_one}
+use Rattle.relup_instruction.proofs.Pieces.{from_one}
+use Rattle.relup_instruction.proofs.Rows.{all_in-terms, from_all}
 use Rattle.relup_instruction.proofs.PayloadLemmas.{fetch_in-term, from_fetch, suspensions_in-term, from_suspensions, purging_in-term, from_purging, conversion_in-term, from_conversion, call_in-term, from_call}
 
 pub instruction_in-term : (i : Instruction) → IsInstruction i → instruction_in (instruction_term i) ≡ Some i

@@ -17,7 +17,8 @@ use Rattle.relup_instruction.specs.Instruction.{FetchForm, SuspensionForm, Purgi
 use Rattle.relup_instruction.specs.Form.{one, purge_word, timeout_term, limited_term, fetch_term, suspension_term, purging_term, change_term, mode_members, conversion_members, call_term, IsFetch, IsSuspension, IsChange}
 use Rattle.relup_instruction.specs.Parts.{all_in, one_in, purge_mode_in, mode_in, timeout_in, fetch_in, limited_in, suspension_in, suspensions_in, purging_in, change_in, changes_in, with_changes, with_mode, conversion_in, call_in}
 use Rattle.rel_files.proofs.TermParts.{from_list, from_pair, from_triple, from_word, name_in-atom, from_name, names_in-atoms, from_names_in, version_in-text, from_version}
-use Rattle.relup_instruction.proofs.Pieces.{all_in-terms, from_all, from_one, purge_mode_of-word, from_purge_mode, direction_of-word, from_mode, timeout_in-term, from_timeout}
+use Rattle.relup_instruction.proofs.Pieces.{from_one, purge_mode_of-word, from_purge_mode, direction_of-word, from_mode, timeout_in-term, from_timeout}
+use Rattle.relup_instruction.proofs.Rows.{all_in-terms, from_all}
 
 abbrev fetched : List ℕ → List ℕ → List (List ℕ) → FetchForm
 fetched app vsn modules = record { app = app; vsn = vsn; modules = modules }

@@ -1,13 +1,11 @@
 -- Pieces of instructions, both ways: what is read of the term of a piece is that piece, and only of its term.
-use Rattle.std.proofs.Common.{◌≡◌, ℕ, Bool, List, [], ◌∷◌, map, Option, Some, None, codes, length, if◌then◌else◌, refl, ap, subst, ◌∙◌}
-use Rattle.std.specs.List.{AllByRecursion}
-use Rattle.std.specs.Option.{option_map, option_and_then}
+use Rattle.std.proofs.Common.{◌≡◌, ℕ, Bool, List, [], ◌∷◌, Some, None, codes, length, if◌then◌else◌, refl, ap, subst, ◌∙◌}
 use Rattle.erl_term.specs.declared.term.Term.{Term}
-use Rattle.erl_term.specs.Value.{Value, Values, values_of, members_of}
+use Rattle.erl_term.specs.Value.{Value, Values, members_of}
 use Rattle.erl_term.specs.Value.Value.{int, atom}
 use Rattle.erl_term.specs.Value.Values.{no_values, value}
 use Rattle.rel_files.specs.Parts.{word_in}
-use Rattle.rel_files.proofs.Options.{mapped, chained, passed, choose}
+use Rattle.rel_files.proofs.Options.{chained, passed, choose}
 use Rattle.rel_files.proofs.TermParts.{from_word}
 use Rattle.relup_instruction.specs.declared.instruction.Direction.{Direction}
 use Rattle.relup_instruction.specs.declared.instruction.Direction.TheVariants.{Up, Down}
@@ -16,28 +14,7 @@ use Rattle.relup_instruction.specs.declared.instruction.Timeout.TheVariants.{Def
 use Rattle.relup_instruction.specs.declared.instruction.PurgeMode.{PurgeMode}
 use Rattle.relup_instruction.specs.declared.instruction.PurgeMode.TheVariants.{Soft, Brutal}
 use Rattle.relup_instruction.specs.Form.{one, purge_word, direction_word, timeout_term, is_natural, IsTimeout}
-use Rattle.relup_instruction.specs.Parts.{all_in, one_in, purge_mode_of, purge_mode_in, direction_of, mode_in, timeout_in}
-
--- terms one after another
-pub all_in-terms : {A : Type 0} (f : Value → Option A) (g : A → Value) (P : A → Type 0) → ((a : A) → P a → f (g a) ≡ Some a)
-    → (as' : List A) → AllByRecursion P as' → all_in f (values_of (map g as')) ≡ Some as'
-all_in-terms f g P each [] h = refl
-all_in-terms {A} f g P each (a ∷ as') h =
-    ap (option_and_then (λ (b : A). option_map (λ (bs : List A). b ∷ bs) (all_in f (values_of (map g as'))))) (each a h.0)
-    ∙ ap (option_map (λ (bs : List A). a ∷ bs)) (all_in-terms f g P each as' h.1)
-
-pub from_all : {A : Type 0} (f : Value → Option A) (g : A → Value) (P : A → Type 0) → ((v : Value) (a : A) → f v ≡ Some a → (v ≡ g a) × P a)
-    → (vs : Values) (as' : List A) → all_in f vs ≡ Some as' → (vs ≡ values_of (map g as')) × AllByRecursion P as'
-from_all {A} f g P each no_values as' e =
-    let Q : List A → Type 0 = λ bs. (no_values ≡ values_of (map g bs)) × AllByRecursion P bs in
-    let same : [] ≡ as' = cc in subst Q same (refl, tt)
-from_all {A} f g P each (value v vs) as' e =
-    let Q : List A → Type 0 = λ bs. (value v vs ≡ values_of (map g bs)) × AllByRecursion P bs in
-    let first = chained (λ (b : A). option_map (λ (bs : List A). b ∷ bs) (all_in f vs)) (f v) as' e in
-    let more = mapped (λ (bs : List A). first.0 ∷ bs) (all_in f vs) as' first.2 in
-    let here = each v first.0 first.1 in
-    let rest = from_all f g P each vs more.0 more.1 in
-    subst Q more.2 ((λ j. value (here.0 j) (rest.0 j)), (here.1, rest.1))
+use Rattle.relup_instruction.specs.Parts.{one_in, purge_mode_of, purge_mode_in, direction_of, mode_in, timeout_in}
 
 -- another number of terms than one
 pub not_one : (ts : List Term) → (length ts ≡ 1 → ⊥) → None ≡ one_in (members_of ts)

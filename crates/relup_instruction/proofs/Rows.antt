@@ -1,8 +1,9 @@
 -- Terms one after another, of each of which something is read.
 use Rattle.std.proofs.Common.{◌≡◌, ℕ, ◌+◌, ◌<◌, ◌≤◌, ◌++◌, List, [], ◌∷◌, length, map, drop, get_or, Option, Some, None, refl}
+use Rattle.std.specs.List.{AllByRecursion}
 use Rattle.std.specs.Option.{option_map}
 use Rattle.erl_term.specs.declared.term.Term.{Term}
-use Rattle.erl_term.specs.Value.{Value, value_of, members_of}
+use Rattle.erl_term.specs.Value.{Value, Values, value_of, values_of, members_of}
 use Rattle.rel_files.proofs.Rows as each
 use Rattle.relup_instruction.specs.Parts.{all_in}
 
@@ -28,3 +29,12 @@ pub row_all : {A B : Type 0} (f : Value → Option B) (view : A → B) (items : 
     → option_map (λ rest. map view read ++ rest) (all_in f (members_of (drop i items))) ≡ all_in f (members_of items)
     → Some (map view read) ≡ all_in f (members_of items)
 row_all f view items i read past so_far = each.row_all f (all_in f) (reads_each f) items i (map view read) past so_far
+
+-- what is read of the terms of a row is that row, and it is read of these only
+pub all_in-terms : {A : Type 0} (f : Value → Option A) (g : A → Value) (P : A → Type 0) → ((a : A) → P a → f (g a) ≡ Some a)
+    → (row : List A) → AllByRecursion P row → all_in f (values_of (map g row)) ≡ Some row
+all_in-terms f g P reads row h = each.each_read f (all_in f) (reads_each f) g P reads row h
+
+pub from_all : {A : Type 0} (f : Value → Option A) (g : A → Value) (P : A → Type 0) → ((v : Value) (a : A) → f v ≡ Some a → (v ≡ g a) × P a)
+    → (vs : Values) (row : List A) → all_in f vs ≡ Some row → (vs ≡ values_of (map g row)) × AllByRecursion P row
+from_all f g P reads vs row e = each.from_each f (all_in f) (reads_each f) g P reads vs row e

@@ -1,3 +1,4 @@
 pub mod Fault
 pub mod Script
 pub mod Search
+pub mod Laws

@@ -5,14 +5,18 @@
 //! it is run, a restart at its end alone, and else tells its fault (`runnable`, `fault`). [`restarts`] tells whether it asks
 //! for a restart. [`find_script`] gives the script between two releases by its rule. None of them takes memory.
 //!
+//! The functions of `laws` say that what `script_fault` finds is the fault of a script, and that it finds none exactly in a script
+//! that can be run.
+//!
 //! Trusted: the toolchain alone.
 #![tactic(auto)]
 
 mod calls;
 mod fault;
+pub mod laws;
 mod script;
 mod search;
 
 pub use fault::ScriptFault;
-pub use script::{check, restarts};
+pub use script::{check, is_point, restarts};
 pub use search::{Found, NoMatchingRelup, find_script};

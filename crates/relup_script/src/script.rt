@@ -98,7 +98,8 @@ fn fault_at(side: Side, is_last: bool, number: usize, instr: &Instr) -> Option<S
     }
 }
 
-fn is_point(instr: &Instr) -> bool
+/// Whether it is the point of no return.
+pub fn is_point(instr: &Instr) -> bool
     ensures { result ≡ is_point (instruction_of instr.now) }
 {
     matches!(instr, Instr::PointOfNoReturn)

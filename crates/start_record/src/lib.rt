@@ -9,8 +9,7 @@
 //! records stay, and so do all bytes but those of the slot that is written (`any_moment`, `bytes`, `others`). Each refusal
 //! comes exactly where its clause says (`long`, `reopened`, `refused`).
 //!
-//! Only tested: that memory is there for a start that is read, and the texts of the refusals. Trusted, beside what the
-//! store trusts: `arrayvec`.
+//! Only tested: that memory is there for a start that is read. Trusted, beside what the store trusts: `arrayvec`.
 #![tactic(auto)]
 
 mod error;

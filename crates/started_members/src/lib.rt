@@ -10,7 +10,10 @@
 //! [`terminate`] ends a child of a supervisor with those below it, and [`delete`] takes it away, unless it is up (specs/Places).
 //! [`changed_members`] gives the supervisors of a module other children (specs/Changes). What begins, ends or looks at a process
 //! waits for its slot, and takes no memory.
-//! The functions of `laws` say where the processes of a new table stand, and what stands there once they began.
+//!
+//! The functions of `laws` say where the processes of a new table stand, and what stands there once they began; and that a change
+//! of children loses no process, and none stands twice.
+//!
 //! Only tested: that members begin, are copied and change where memory is there. Trusted: the toolchain alone.
 #![tactic(auto)]
 

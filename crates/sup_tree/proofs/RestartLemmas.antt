@@ -1,59 +1,64 @@
 -- A child that begins again, or why it doesn't.
-use Rattle.std.proofs.Common.{◌≡◌, ℕ, Bool, true, false, List, Option, Some, None, Result, Ok, Err, slice_index_or, refl, sym, subst}
+use Rattle.std.proofs.Common.{◌≡◌, ◌∙◌, ℕ, Bool, true, false, List, Option, Some, None, Result, Ok, Err, slice_index_or, refl, ap, subst, subst₂}
+use Rattle.std.specs.Prelude.{Vec}
+use Rattle.std.specs.Option.{option_map_or}
+use Rattle.std.specs.Result.{result_map_both}
+use Rattle.std.specs.declared.alloc.Global.{Global}
 use Rattle.proc_table.specs.declared.view.View.{View}
 use Rattle.mod_table.specs.Tables.{Tables}
+use Rattle.app_members.specs.declared.error.MembersError.{MembersError}
+use Rattle.app_members.specs.declared.error.MembersError.TheVariants as members
+use Rattle.app_members.specs.InMemory.{FaultIs}
+use Rattle.app_members.specs.Walk.{StartFault}
 use Rattle.sup_tree.specs.declared.error.RestartError.{RestartError}
 use Rattle.sup_tree.specs.declared.error.RestartError.TheVariants.{NoSuper, NoTable, Unsupported, NoSlot, NoMemory}
+use Rattle.started_members.specs.declared.begins.Preparation.{Preparation}
 use Rattle.started_members.specs.declared.looks.Stay.TheVariants.{UpOrTemporary}
 use Rattle.started_members.specs.declared.member.Member.{Member}
-use Rattle.started_members.specs.Places.{AreAt, IsRange, Place, in_place}
+use Rattle.started_members.specs.Places.{AreAt, IsRange, Place, in_place, replaced}
 use Rattle.sup_tree.specs.Children.{apps_with, child_place, has_one_supervisor}
 use Rattle.started_members.specs.Looks.{StateLookedAt}
-use Rattle.sup_tree.specs.Restarts.{HasNoSlot, HasRestarted, RestartFaultIs, Restarts, RestartsChild, RestartsUnless, super_app}
+use Rattle.sup_tree.specs.Restarts.{BeginsAgain, Prepares, RestartFaultIs, Restarts, RestartsChild, RestartsUnless, app_at, restart_cause, super_app}
 use Rattle.started_members.specs.Begins.{restart_fault, restart_members, members_at}
+use Rattle.started_members.specs.Ends.{MemberEnded}
 use Rattle.sup_tree.specs.Tree.{App}
-use Rattle.started_members.specs.Members.{pids_of}
-use Rattle.started_members.proofs.PlaceLemmas.{first_is, range_there}
+use Rattle.started_members.specs.Members.{pids_of, process_in}
+use Rattle.started_members.proofs.PlaceLemmas.{first_is}
 
--- a child that doesn't stay, by a look at what stands for it
-pub record IsLookedAt (o : Option Place) (p : Place) (v look : View) : Type 0 where
-  pub is : o ≡ Some p
-  pub looked : StateLookedAt UpOrTemporary p.child.state false v look
+-- of a child that was prepared as it stands there, or why it wasn't
+pub child_prepared : (tables : Tables) (app name : List ℕ) (p : Place) (ms : List Member) (start end : ℕ) (m : Member) (r : Result (Vec Preparation Global) RestartError) → IsRange ms p start end → m ≡ slice_index_or ms start m → name ≡ app
+    → Prepares tables name m r → Prepares tables app p.child r
+child_prepared tables app name p ms start end m r at is named = subst₂ (λ (n : List ℕ) (c : Member). Prepares tables n c r) named (first_is p ms start end m at is)
 
-pub looked_at : (o : Option Place) (ms : List Member) (start end : ℕ) (m : Member) (v look : View) → AreAt o ms (Some (start, end)) → m ≡ slice_index_or ms start m
-    → StateLookedAt UpOrTemporary m.state false v look → (p : Place) × IsLookedAt o p v look × IsRange ms p start end
-looked_at o ms start end m v look at is looked =
-    let child = range_there o ms start end at in
-    let p = child.0 in (
-      p,
-      record { is = child.1; looked = subst (λ (n : Member). StateLookedAt UpOrTemporary n.state false v look) (first_is p ms start end m child.2 is) looked },
-      child.2,
-    )
+-- what stood for a child was given up, where its member was read once there was room for more
+pub child_ended : (p : Place) (ms ns : List Member) (start end : ℕ) (m : Member) (v w : View) → IsRange ms p start end → ns ≡ ms → m ≡ slice_index_or ns start m → MemberEnded (process_in m) v w → MemberEnded (process_in p.child) v w
+child_ended p ms ns start end m v w at same is = subst (λ (c : Member). MemberEnded (process_in c) v w) (first_is p ms start end m at (is ∙ ap (λ (l : List Member). slice_index_or l start m) same))
 
 -- nothing was done
-pub not_begun : {A : Type 0} (tables : Tables) (app : List ℕ) (o : Option Place) (p : Place) (change : List Member → A) (old new : A) (v look : View) (e : RestartError) → IsLookedAt o p v look
-    → RestartFaultIs e (restart_fault tables p.child) → new ≡ old → Restarts tables app o change old v (Err e) new look
-not_begun {A} tables app o p change old new v look e at fault same =
-    subst (λ (q : Option Place). Restarts tables app q change old v (Err e) new look) (sym at.is) (record { stays = false; look = look; looked = at.looked; outcome = by e fault })
+pub not_begun : {A : Type 0} (tables : Tables) (app : List ℕ) (p : Place) (change : List Member → A) (old : A) (v : View) (e : RestartError) → RestartFaultIs e (restart_fault tables p.child)
+    → BeginsAgain {A = A} {X = Unit {0}} tables app p change old v (Err e) old v
+not_begun tables app p change old v NoSuper fault = absurd fault
+not_begun tables app p change old v NoTable fault = ((fault, refl), refl)
+not_begun tables app p change old v Unsupported fault = ((fault, refl), refl)
+not_begun tables app p change old v NoSlot fault = absurd fault
+not_begun tables app p change old v NoMemory fault = ((tt, refl), refl)
+
+-- where the child is there, and doesn't stay by a look at what stands for it, what is said of its place is said of the application
+pub begun_again : (tables : Tables) (app : App) (o : Option Place) (start end : ℕ) (m : Member) (v look : View) (r : Result Unit RestartError) (new : App) (w : View)
+    → AreAt o app.members (Some (start, end)) → m ≡ slice_index_or app.members start m → StateLookedAt UpOrTemporary m.state false v look
+    → ((p : Place) → IsRange app.members p start end → BeginsAgain tables app.name p (app_at p app) app look r new w)
+    → Restarts tables app.name o (λ (ms : List Member). record app { members = option_map_or (replaced (in_place ms)) o app.members }) app v (result_map_both (λ x. false) (λ e. e) r) new w
+begun_again tables app None start end m v look r new w at is looked begun = absurd at
+begun_again tables app (Some p) start end m v look r new w at is looked begun = record {
+  stays = false;
+  look = look;
+  looked = subst (λ (c : Member). StateLookedAt UpOrTemporary c.state false v look) (first_is p app.members start end m at is) looked;
+  outcome = by r (begun p at);
+}
   where
-    by : (e : RestartError) → RestartFaultIs e (restart_fault tables p.child) → RestartsUnless {A = A} false tables app (Some p) change old look (Err e) new look
-    by NoSuper fault = absurd fault
-    by NoTable fault = ((fault, refl), same)
-    by Unsupported fault = ((fault, refl), same)
-    by NoSlot fault = absurd fault
-    by NoMemory fault = ((tt, refl), same)
-
--- there were too few slots
-pub no_slot_left : {A : Type 0} (tables : Tables) (app : List ℕ) (o : Option Place) (p : Place) (change : List Member → A) (old new : A) (v look w : View) → IsLookedAt o p v look
-    → HasNoSlot tables p look w → new ≡ old → Restarts tables app o change old v (Err NoSlot) new w
-no_slot_left tables app o p change old new v look w at few same =
-    subst (λ (q : Option Place). Restarts tables app q change old v (Err NoSlot) new w) (sym at.is) (record { stays = false; look = look; looked = at.looked; outcome = (few, same) })
-
--- it began
-pub has_begun : {A : Type 0} (tables : Tables) (app : List ℕ) (o : Option Place) (p : Place) (change : List Member → A) (old new : A) (v look w : View) → IsLookedAt o p v look
-    → HasRestarted tables app p change look new w → Restarts tables app o change old v (Ok false) new w
-has_begun tables app o p change old new v look w at begun =
-    subst (λ (q : Option Place). Restarts tables app q change old v (Ok false) new w) (sym at.is) (record { stays = false; look = look; looked = at.looked; outcome = begun })
+    by : (r : Result Unit RestartError) → BeginsAgain tables app.name p (app_at p app) app look r new w → RestartsUnless false tables app.name (Some p) (app_at p app) app look (result_map_both (λ x. false) (λ e. e) r) new w
+    by (Ok x) here = here
+    by (Err e) here = here
 
 -- what is said of an application is said of the tree, where that changes with it
 pub lifted : {A B : Type 0} (tables : Tables) (app : List ℕ) (o : Option Place) (change : List Member → A) (change' : List Member → B) (old new : A) (old' new' : B) (v : View) (r : Result Bool RestartError) (w : View)
@@ -83,3 +88,9 @@ with_one name id tables apps v (Err NoSuper) apps' w one is = absurd (by is.stay
     by true o (answer, here, seen) = cc answer
     by false None here = here
     by false (Some p) here = here.0.0
+
+-- why a child has no members is why it doesn't begin again
+pub fault_told : (e : MembersError) (f : Option StartFault) → FaultIs e f → RestartFaultIs (restart_cause e) f
+fault_told (members.NoTable m) f is = (m.now, is)
+fault_told members.Unsupported f is = is
+fault_told members.NoMemory f is = tt

@@ -17,7 +17,7 @@ use Rattle.started_members.specs.declared.looks.Stay.TheVariants.{UpOrTemporary}
 use Rattle.started_members.specs.declared.member.Member.{Member}
 use Rattle.started_members.specs.declared.member.StartedProcess.{StartedProcess}
 use Rattle.started_members.specs.Preparations.{preparation_of}
-use Rattle.started_members.specs.Places.{ChildLookedAt, Place, child_in, in_place}
+use Rattle.started_members.specs.Places.{ChildLookedAt, Place, child_in, in_place, replaced}
 use Rattle.sup_tree.specs.Children.{app_with, apps_with, child_place, has_one_supervisor}
 use Rattle.started_members.specs.Begins.{BeganInOrder, members_at, restart_fault, restart_members}
 use Rattle.started_members.specs.Ends.{MemberEnded}
@@ -70,12 +70,21 @@ abbrev pub IsWhyNotRestarted : RestartError → Tables → Place → View → Vi
 IsWhyNotRestarted NoSlot tables p v w = HasNoSlot tables p v w
 IsWhyNotRestarted e tables p v w = RestartFaultIs e (restart_fault tables p.child) × (w ≡ v)
 
+-- A child that doesn't stay began again, or why it didn't: then what is made of the members is as it was.
+abbrev pub BeginsAgain : {A X : Type 0} → Tables → List ℕ → Place → (List Member → A) → A → View → Result X RestartError → A → View → Type 0
+BeginsAgain tables app p change old v (Ok x) new w = HasRestarted tables app p change v new w
+BeginsAgain tables app p change old v (Err e) new w = IsWhyNotRestarted e tables p v w × (new ≡ old)
+
+-- the application where these stand in place of the child there and of those below it
+abbrev pub app_at : Place → App → List Member → App
+app_at p app ms = record app { members = replaced (in_place ms) p }
+
 -- Nothing was done where the child stays; else it began again, or why it didn't.
 abbrev pub RestartsUnless : {A : Type 0} → Bool → Tables → List ℕ → Option Place → (List Member → A) → A → View → Result Bool RestartError → A → View → Type 0
 RestartsUnless true tables app o change old v r new w = (r ≡ Ok true) × (new ≡ old) × (w ≡ v)
-RestartsUnless false tables app (Some p) change old v (Ok false) new w = HasRestarted tables app p change v new w
-RestartsUnless false tables app (Some p) change old v (Err e) new w = IsWhyNotRestarted e tables p v w × (new ≡ old)
-RestartsUnless false tables app o change old v r new w = ⊥
+RestartsUnless false tables app (Some p) change old v (Ok true) new w = ⊥
+RestartsUnless false tables app (Some p) change old v r new w = BeginsAgain tables app p change old v r new w
+RestartsUnless false tables app None change old v r new w = ⊥
 
 -- The child stays, by a look at what stands for it, or it begins again.
 pub record Restarts {A : Type 0} (tables : Tables) (app : List ℕ) (o : Option Place) (change : List Member → A) (old : A) (v : View) (r : Result Bool RestartError) (new : A) (w : View) : Type 0 where

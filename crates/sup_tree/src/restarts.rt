@@ -1,7 +1,8 @@
 //! Children of started supervisors that begin again.
 ghost use Rattle.std.specs.Prelude.{◌≡◌};
 ghost use Rattle.loaded_modules.specs.Loaded.{modules_in, tables_of};
-ghost use Rattle.sup_tree.specs.Restarts.{Prepares, RestartsChild, RestartsIn};
+ghost use Rattle.started_members.specs.Places.{IsRange, Place};
+ghost use Rattle.sup_tree.specs.Restarts.{BeginsAgain, Prepares, RestartsChild, RestartsIn, app_at};
 ghost use Rattle.sup_tree.specs.Tree.{app_of};
 
 use crate::children::place_of_only_super;
@@ -75,6 +76,30 @@ fn restart<R: Wait>(
     if member_stays(rt, table, seat, &app.members[start], Stay::UpOrTemporary) {
         return Ok(true);
     }
+    begin_again(rt, alloc, table, seat, loaded, app, start, end)?;
+    Ok(false)
+}
+
+// A child that doesn't stay begins again, with all below it: what stood for it is given up, and its members are put in its place.
+// It stands with those below it from start on, up to end.
+fn begin_again<R: Wait>(
+    rt: &R,
+    alloc: Global,
+    table: &ProcTable,
+    seat: &mut HandlerSeat,
+    loaded: &Loaded,
+    app: &mut StartedApp,
+    start: usize,
+    end: usize,
+) -> Result<(), RestartError>
+    requires table { seat.old.table ≡ table.now }
+    requires range { (p : Place) × IsRange (app_of app.old).members p start end }
+    ensures table { seat.new.table ≡ seat.old.table }
+    ensures begun { (p : Place) → IsRange (app_of app.old).members p start end
+        → BeginsAgain (tables_of (modules_in loaded.now)) (app_of app.old).name p
+        (app_at p (app_of app.old)) (app_of app.old) seat.old.view
+        result (app_of app.new) seat.new.view }
+{
     let prepared = prepare_child(alloc, loaded, app.name.as_str(), &app.members[start])?;
     let mut begun = Vec::with_capacity(alloc, prepared.len())?;
     app.members.reserve(prepared.len())?;
@@ -85,7 +110,7 @@ fn restart<R: Wait>(
     begin_all(rt, table, seat, prepared, &mut begun);
     take_out(&mut app.members, start, end);
     put_in(&mut app.members, start, begun);
-    Ok(false)
+    Ok(())
 }
 
 // All memory that the child needs, and those below it.

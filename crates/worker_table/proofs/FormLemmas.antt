@@ -11,7 +11,7 @@ use Rattle.rel_files.specs.Parts.{list_in, two, pair_in, three, four, is_word}
 use Rattle.rel_files.specs.Sketch.{are_numbers, text_in, name_in, version_or_empty}
 use Rattle.rel_files.specs.Terms.{list_of, pair_term, text_term, numbers_of}
 use Rattle.rel_files.proofs.Options.{mapped, chained, passed, both, both_true, choose}
-use Rattle.rel_files.proofs.Rows.{ReadsEach}
+use Rattle.rel_files.proofs.Rows.{ReadsEach, each_read, from_each, from_each_valid}
 use Rattle.rel_files.proofs.TermParts.{from_list, from_pair, from_is_word, name_in-atom, from_name}
 use Rattle.rel_files.proofs.Texts.{numbers, are_numbers-numbers, text_in-numbers, from_text}
 use Rattle.worker_table.specs.Table.{OldVersion, Row, WorkerTable}
@@ -36,30 +36,6 @@ pub from_four : (vs : Values) (m : Value × Value × Value × Value) → four vs
 from_four (value v (value w (value x (value y no_values)))) m e =
     let same : (v, w, x, y) ≡ m = cc in ap (λ (n : Value × Value × Value × Value). value n.0 (value n.1 (value n.2 (value n.3 no_values)))) same
 from_four vs m e = absurd cc
-
--- terms one after another
-pub read_all : {A : Type 0} (f : Value → Option A) (all : Values → Option (List A)) → ReadsEach f all → (g : A → Value) (P : A → Type 0)
-    → ((a : A) → P a → f (g a) ≡ Some a) → (as' : List A) → AllByRecursion P as' → all (values_of (map g as')) ≡ Some as'
-read_all f all reads g P each [] h = reads.none
-read_all {A} f all reads g P each (a ∷ as') h =
-    reads.more (g a) (values_of (map g as'))
-    ∙ (λ j. option_and_then (λ (b : A). option_map (λ (bs : List A). b ∷ bs) (read_all f all reads g P each as' h.1 j)) (each a h.0 j))
-
-pub from_all : {A : Type 0} (f : Value → Option A) (all : Values → Option (List A)) → ReadsEach f all → (g : A → Value) (valid : A → Bool) (P : A → Type 0)
-    → ((v : Value) (a : A) → f v ≡ Some a → valid a ≡ true → (v ≡ g a) × P a)
-    → (vs : Values) (as' : List A) → all vs ≡ Some as' → list_all valid as' ≡ true → (vs ≡ values_of (map g as')) × AllByRecursion P as'
-from_all {A} f all reads g valid P each no_values as' e h =
-    let Q : List A → Type 0 = λ bs. (no_values ≡ values_of (map g bs)) × AllByRecursion P bs in
-    let none : Some [] ≡ Some as' = sym reads.none ∙ e in
-    let same : [] ≡ as' = cc in subst Q same (refl, tt)
-from_all {A} f all reads g valid P each (value v vs) as' e h =
-    let Q : List A → Type 0 = λ bs. (value v vs ≡ values_of (map g bs)) × AllByRecursion P bs in
-    let first = chained (λ (b : A). option_map (λ (bs : List A). b ∷ bs) (all vs)) (f v) as' (sym (reads.more v vs) ∙ e) in
-    let more = mapped (λ (bs : List A). first.0 ∷ bs) (all vs) as' first.2 in
-    let fit = both (valid first.0) (list_all valid more.0) (ap (list_all valid) more.2 ∙ h) in
-    let here = each v first.0 first.1 fit.0 in
-    let rest = from_all f all reads g valid P each vs more.0 more.1 fit.1 in
-    subst Q more.2 ((λ j. value (here.0 j) (rest.0 j)), (here.1, rest.1))
 
 -- numbers
 pub number_in-term : (n : ℕ) → IsNumber n → number_in (number_term n) ≡ Some n
@@ -145,13 +121,8 @@ from_move v p e =
 moves_each : ReadsEach move_in moves_in
 moves_each = record { none = refl; more = λ v vs. refl }
 
-all_true : {A : Type 0} (xs : List A) → list_all (λ (x : A). true) xs ≡ true
-all_true [] = refl
-all_true (x ∷ xs) = all_true xs
-
 from_moves : (vs : Values) (ps : List (ℕ × ℕ)) → moves_in vs ≡ Some ps → (vs ≡ values_of (map move_term ps)) × AllByRecursion IsMove ps
-from_moves vs ps e =
-    from_all move_in moves_in moves_each move_term (λ (p : ℕ × ℕ). true) IsMove (λ v p f h. from_move v p f) vs ps e (all_true ps)
+from_moves vs ps e = from_each move_in moves_in moves_each move_term IsMove from_move vs ps e
 
 -- rows
 abbrev of_four : Option ℕ → Option ℕ → Option ℕ → Option ℕ → Option Row
@@ -172,7 +143,7 @@ row_in-term (on s i n r) h = λ j. of_four (number_in-term s h.0 j) (number_in-t
 row_in-term (add i k) h = λ j. of_two (number_in-term i h.0 j) (number_in-term k h.1 j)
 row_in-term (stop s i r) h = λ j. of_three (number_in-term s h.0 j) (number_in-term i h.1 j) (number_in-term r h.2 j)
 row_in-term (change o e ps) h =
-    λ j. of_change (old_in-term o h.0 j) e (read_all move_in moves_in moves_each move_term IsMove move_in-term ps h.1 j)
+    λ j. of_change (old_in-term o h.0 j) e (each_read move_in moves_in moves_each move_term IsMove move_in-term ps h.1 j)
 
 -- The term is this row's.
 abbrev Spells : Value → Row → Type 0
@@ -271,11 +242,11 @@ rows_each : ReadsEach row_in rows_in
 rows_each = record { none = refl; more = λ v vs. refl }
 
 rows_in-terms : (rows : List Row) → AllByRecursion IsRow rows → rows_in (values_of (map row_term rows)) ≡ Some rows
-rows_in-terms rows h = read_all row_in rows_in rows_each row_term IsRow row_in-term rows h
+rows_in-terms rows h = each_read row_in rows_in rows_each row_term IsRow row_in-term rows h
 
 from_rows : (vs : Values) (rows : List Row) → rows_in vs ≡ Some rows → list_all row_has_version rows ≡ true
     → (vs ≡ values_of (map row_term rows)) × AllByRecursion IsRow rows
-from_rows vs rows e h = from_all row_in rows_in rows_each row_term row_has_version IsRow from_row vs rows e h
+from_rows vs rows e h = from_each_valid row_in rows_in rows_each row_term row_has_version IsRow from_row vs rows e h
 
 old_is_one : (o : OldVersion) → IsOld o → is_old o ≡ true
 old_is_one (up s) h = h

@@ -1,10 +1,11 @@
 //! Tables of workers, which stand for their code: what a worker does at a call and at a change of code.
 //!
-//! [`Worker::step`] and [`Worker::change`] are those of the first row that fits (specs/Decide), and take no memory. A step finds
-//! its row in two sorted indexes (specs/Indexed; `row_index`): [`Worker::step_counted`] compares 26 keys at most where there are
-//! 4,096 rows or fewer (`cost`), and never more than 128 (`bound`).
-//! [`Worker::read`] takes a table from what follows the first word of its term, exactly where there is one (specs/Headed,
-//! specs/Rows). Contracts see a `Worker` as its table alone (specs/Table). [`Worker::copy`] gives an equal one.
+//! [`Worker::step`] and [`Worker::change`] are those of the first row that fits (specs/Decide), and take no memory. A step
+//! finds its row in two sorted indexes (specs/Indexed; `row_index`): [`Worker::step_counted`] compares 26 keys at most where
+//! there are 4,096 rows or fewer (`cost`), and never more than 128 (`bound`). [`Worker::read`] takes a table from what follows
+//! the first word of its term, exactly where that has the shape of one (specs/Headed, specs/Rows); whether its versions are
+//! versions [`Worker::has_versions`] tells. Contracts see a `Worker` as its table alone (specs/Table). [`Worker::copy`] gives
+//! an equal one.
 //!
 //! `parts` has what the terms of all tables begin with. [`is_same`] says whether two terms are equal; the function of `laws` says
 //! that two are taken as the same exactly where they are.

@@ -3,9 +3,10 @@ use Rattle.erl_term.specs.Value.{value_of}
 use Rattle.rel_files.specs.declared.fault.FileFault.{FileFault}
 use Rattle.rel_files.specs.declared.fault.FileFault.TheVariants.{NoMemory}
 use Rattle.app_file.specs.declared.app.App.{App}
-use Rattle.app_file.specs.File.{Specification}
+use Rattle.app_file.specs.File.{IsAppTerm, Specification}
 use Rattle.app_file.specs.InMemory.{specification_of}
-use Rattle.app_file.proofs.Readings.{of_its_term, of_a_file, fault_of_a_file}
+use Rattle.rel_files.proofs.OneTermFile.{of_its_term}
+use Rattle.app_file.proofs.Readings.{of_a_file, fault_of_a_file}
 use Rattle.app_file.proofs.reader.read_app.Goals as goal
 
 -- an error that is passed on
@@ -16,7 +17,7 @@ only_memory (Err g) f a is e = is.1 ∙ e
 
 pub returns-in_err-file-clause-only : goal.returns-in_err-file-clause-only
 returns-in_err-file-clause-only c = λ a says.
-    only_memory c.from_residual.result c.in_err-file.field-0.0 a c.from_residual.ensures (c.in_err-file.ensures.only says.2.0 says.2.1)
+    only_memory c.from_residual.result c.in_err-file.field-0.0 a c.from_residual.ensures (c.in_err-file.ensures.only says.1.0 says.1.1)
 
 pub returns-clause-says : goal.returns-clause-says
 returns-clause-says c =
@@ -24,8 +25,8 @@ returns-clause-says c =
 
 pub returns-clause-only : goal.returns-clause-only
 returns-clause-only c = λ a says.
-    let read = c.in_ok-file.ensures.only says.2.0 says.2.1 in
-    c.app_of_term.ensures.only a (of_its_term c.args.bytes.now a (value_of c.in_ok-file.file.term) says read.1)
+    let read = c.in_ok-file.ensures.only says.1.0 says.1.1 in
+    c.app_of_term.ensures.only a (of_its_term IsAppTerm c.args.bytes.now a (value_of c.in_ok-file.file.term) says read.1)
 
 pub returns-clause-fault : goal.returns-clause-fault
 returns-clause-fault c =

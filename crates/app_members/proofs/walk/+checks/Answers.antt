@@ -7,7 +7,8 @@ use Rattle.mod_table.specs.Tables.{first_of}
 use Rattle.app_members.specs.InMemory.{FaultIs, Reports}
 use Rattle.loaded_modules.specs.Loaded.{modules_in, tables_of}
 use Rattle.app_members.specs.Walk.{child_fault, children_fault, fault_from}
-use Rattle.app_members.proofs.WalkLemmas.{none_left, deepest, fault_below, no_fault_here, fault_passed, table_there, known_sound, sound_noted, passed_on}
+use Rattle.mod_table.proofs.ChildTables.{of_kind_is_found}
+use Rattle.app_members.proofs.WalkLemmas.{none_left, deepest, fault_below, no_fault_here, fault_passed, known_sound, sound_noted, passed_on}
 use Rattle.app_members.proofs.walk.+checks.Goals as goal
 
 pub check_child-returns-then-was_sound-clause-fault : goal.check_child-returns-then-was_sound-clause-fault
@@ -17,7 +18,7 @@ check_child-returns-then-was_sound-clause-fault t c =
     let child = child_of c.args.child.now in
     let s = c.in-Super.supervisor in
     let at = sym c.child_table.ensures ∙ (ap (option_map (λ t. t.now)) c.in-Some.is ∙ ap Some c.in-Super.is) in
-    let there = ap tables c.as_str-name.ensures.value ∙ table_there child.kind (tables child.start) (Super s) at in
+    let there = ap tables c.as_str-name.ensures.value ∙ of_kind_is_found child.kind (tables child.start) (Super s) at in
     ap (child_fault (children_fault depth tables) child) at
     ∙ (known_sound tables c.args.sound.now c.as_str-name.result.now depth s c.requires there (sym c.was_sound.ensures ∙ c.if-was_sound.true))
 
@@ -28,7 +29,7 @@ check_child-returns-clause-sound t c =
     let child = child_of c.args.child.now in
     let s = c.in-Super.supervisor in
     let at = sym c.child_table.ensures ∙ (ap (option_map (λ t. t.now)) c.in-Some.is ∙ ap Some c.in-Super.is) in
-    let there = ap tables c.as_str-name.ensures.value ∙ table_there child.kind (tables child.start) (Super s) at in
+    let there = ap tables c.as_str-name.ensures.value ∙ of_kind_is_found child.kind (tables child.start) (Super s) at in
     let none = ap (children_fault depth tables) (sym c.children.ensures) ∙ c.in_ok-check_children.ensures.fault in
     sound_noted tables c.check_children.new.sound c.note.new.noted c.as_str-name.result.now depth s there none c.in_ok-note.ensures c.in_ok-check_children.ensures.sound
 

@@ -4,8 +4,9 @@ use Rattle.rel_files.specs.declared.fault.FileFault.{FileFault}
 use Rattle.rel_files.specs.declared.fault.FileFault.TheVariants.{NoMemory}
 use Rattle.mod_table.specs.declared.reader.ModFile.{ModFile}
 use Rattle.mod_table.specs.declared.table.Table.{Table}
-use Rattle.mod_table.specs.File.{IsModFault}
-use Rattle.mod_table.proofs.Readings.{of_its_term}
+use Rattle.mod_table.specs.File.{IsTableTerm, IsModFault}
+use Rattle.rel_files.proofs.OneTermFile.{of_its_term}
+use Rattle.mod_table.proofs.Readings.{}
 use Rattle.mod_table.proofs.reader.read_mod_file.Goals as goal
 
 -- an error that is passed on
@@ -21,13 +22,13 @@ tells (Err g) f bytes is fault = let P : FileFault → Type 0 = λ h. h ≢ NoMe
 
 pub returns-in_err-file-clause-only : goal.returns-in_err-file-clause-only
 returns-in_err-file-clause-only c = λ t says.
-    only_memory c.from_residual.result c.in_err-file.field-0.0 t c.from_residual.ensures (c.in_err-file.ensures.only says.2.0 says.2.1)
+    only_memory c.from_residual.result c.in_err-file.field-0.0 t c.from_residual.ensures (c.in_err-file.ensures.only says.1.0 says.1.1)
 
 pub returns-in_err-table-clause-only : goal.returns-in_err-table-clause-only
 returns-in_err-table-clause-only c = λ t says.
-    let read = c.in_ok-file.ensures.only says.2.0 says.2.1 in
+    let read = c.in_ok-file.ensures.only says.1.0 says.1.1 in
     only_memory c.from_residual-in_err-table.result c.in_err-table.field-0.0 t c.from_residual-in_err-table.ensures
-    (c.in_err-table.ensures.only t (of_its_term c.args.bytes.now t (value_of c.in_ok-file.file.term) says read.1))
+    (c.in_err-table.ensures.only t (of_its_term IsTableTerm c.args.bytes.now t (value_of c.in_ok-file.file.term) says read.1))
 
 pub returns-in_err-table-clause-fault : goal.returns-in_err-table-clause-fault
 returns-in_err-table-clause-fault c =
@@ -36,5 +37,5 @@ returns-in_err-table-clause-fault c =
 
 pub returns-clause-only : goal.returns-clause-only
 returns-clause-only c = λ t says.
-    let read = c.in_ok-file.ensures.only says.2.0 says.2.1 in
-    c.in_ok-table.ensures.only t (of_its_term c.args.bytes.now t (value_of c.in_ok-file.file.term) says read.1)
+    let read = c.in_ok-file.ensures.only says.1.0 says.1.1 in
+    c.in_ok-table.ensures.only t (of_its_term IsTableTerm c.args.bytes.now t (value_of c.in_ok-file.file.term) says read.1)

@@ -1,7 +1,7 @@
-use Rattle.std.proofs.Common.{List, inr, subst}
+use Rattle.std.proofs.Common.{List, subst}
 use Rattle.proc_workers.specs.declared.note.Answer.{Answer}
 use Rattle.proc_workers.specs.Counted.{AreCounted}
-use Rattle.proc_workers.proofs.FloodLemmas.{is_flooded, taken_back}
+use Rattle.proc_workers.proofs.FloodLemmas.{is_broken_off, is_flooded}
 use Rattle.proc_workers.proofs.floods.flood.Goals as goal
 
 pub returns-in-Some-clause-flooded : goal.returns-in-Some-clause-flooded
@@ -12,5 +12,4 @@ returns-in-Some-clause-flooded g c =
 
 pub returns-clause-refused : goal.returns-clause-refused
 returns-clause-refused g c =
-    let back = taken_back c.args.pid _ _ _ _ _ c.scoped-pass.result.1.items c.requires.alone c.new_pass-pass.ensures.made c.scoped-pass.ensures.1.1 c.take_back.ensures.joined in
-    inr (c.scoped-pass.result.1.items, back.seen_is, back.rest)
+    is_broken_off c.args.pid _ _ _ _ _ c.scoped-pass.result.1.items c.requires.alone c.new_pass-pass.ensures.made c.scoped-pass.ensures.1.1 c.take_back.ensures.joined

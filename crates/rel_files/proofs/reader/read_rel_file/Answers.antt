@@ -5,7 +5,7 @@ use Rattle.rel_files.specs.declared.fault.FileFault.TheVariants.{NoMemory}
 use Rattle.rel_files.specs.declared.reader.RelFile.{RelFile}
 use Rattle.rel_files.specs.Release.{Release, release_of}
 use Rattle.rel_files.specs.File.{IsReleaseTerm, IsRelFault}
-use Rattle.rel_files.proofs.Files.{has_term}
+use Rattle.rel_files.proofs.OneTermFile.{has_term, of_its_term}
 use Rattle.rel_files.proofs.reader.read_rel_file.Goals as goal
 
 -- an error that is passed on
@@ -31,7 +31,7 @@ returns-in_err-file-clause-fault c =
 pub returns-in_err-release-clause-only : goal.returns-in_err-release-clause-only
 returns-in_err-release-clause-only c = λ r says.
     let read = c.in_ok-file.ensures.only says.1.0 says.1.1 in
-    let is : IsReleaseTerm (value_of c.in_ok-file.file.term) r = subst (λ v. IsReleaseTerm v r) (sym says.1.2 ∙ sym read.1) says.2 in
+    let is = of_its_term IsReleaseTerm c.args.bytes.now r (value_of c.in_ok-file.file.term) says read.1 in
     only_memory c.from_residual-in_err-release.result c.in_err-release.field-0.0 r c.from_residual-in_err-release.ensures (c.in_err-release.ensures.only r is)
 
 pub returns-in_err-release-clause-fault : goal.returns-in_err-release-clause-fault
@@ -47,4 +47,4 @@ returns-clause-says c =
 pub returns-clause-only : goal.returns-clause-only
 returns-clause-only c = λ r says.
     let read = c.in_ok-file.ensures.only says.1.0 says.1.1 in
-    c.in_ok-release.ensures.only r (subst (λ v. IsReleaseTerm v r) (sym says.1.2 ∙ sym read.1) says.2)
+    c.in_ok-release.ensures.only r (of_its_term IsReleaseTerm c.args.bytes.now r (value_of c.in_ok-file.file.term) says read.1)

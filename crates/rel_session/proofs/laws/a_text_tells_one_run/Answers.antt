@@ -1,4 +1,4 @@
-use Rattle.rel_session.proofs.LinePaths.{reads_line_paths, keeps_versions, keeps_module_versions}
+use Rattle.rel_session.proofs.LinePaths.{reads_line_paths, keeps_versions, replies_keep_versions}
 use Rattle.rel_session.proofs.OneRun.{tells_one_run}
 use Rattle.rel_session.proofs.DeviceLemmas.{IsDevice}
 use Rattle.rel_session.proofs.laws.a_text_tells_one_run.Goals as goal
@@ -14,5 +14,5 @@ returns-clause-versions g c =
     let laws : IsDevice g.D.Disk = record { reads_an_image = g.met.D.Disk.reads_an_image; counts_now = g.met.D.Disk.counts_now; only_now = g.met.D.Disk.only_now } in
     keeps_versions g.D.Disk laws
 
-pub returns-clause-processes : goal.returns-clause-processes
-returns-clause-processes g c = λ files. keeps_module_versions g.D.Disk (g.F.Files.gives files)
+pub returns-clause-replies : goal.returns-clause-replies
+returns-clause-replies g c = λ files. replies_keep_versions g.D.Disk (g.F.Files.gives files)

@@ -25,5 +25,5 @@ pub returns-clause-told : goal.returns-clause-told
 returns-clause-told g c =
     let laws : IsDevice g.D.Disk = record { reads_an_image = g.met.D.Disk.reads_an_image; counts_now = g.met.D.Disk.counts_now; only_now = g.met.D.Disk.only_now } in
     let (r, listed, of) = c.in_ok-start.ensures.tells in
-    told g.D.Disk laws c.args.node.now (record c.args.node.now { handler = c.start.new.self }) c.requires.works refl c.in_ok-start.ensures.read c.in_ok-start.ensures.works (r, listed) c.start_line.result c.answer_of.result c.answer_of.ensures.same
+    told g.D.Disk laws c.args.node.now (record c.args.node.now { handler = c.start.new.self }) c.requires.works refl c.in_ok-start.ensures.read c.in_ok-start.ensures.works.1 (r, listed) c.start_line.result c.answer_of.result c.answer_of.ensures.same
     (subst (λ v. IfOk c.start_line.result (λ text. string_bytes text ≡ ok_line (v.erts ++ (codes " " ++ v.vsn)))) of c.start_line.ensures)

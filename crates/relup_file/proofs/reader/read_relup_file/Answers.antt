@@ -1,6 +1,6 @@
 use Rattle.std.proofs.Common.{◌≢◌, ap, ◌∙◌}
 use Rattle.erl_term.specs.Value.{value_of}
-use Rattle.rel_files.proofs.Files.{has_term}
+use Rattle.rel_files.proofs.OneTermFile.{has_term}
 use Rattle.relup_file.specs.declared.fault.RelupFault.TheVariants.{NoMemory}
 use Rattle.relup_file.specs.Fault.{relup_fault_of_file}
 use Rattle.relup_file.specs.File.{IsRelupFault}

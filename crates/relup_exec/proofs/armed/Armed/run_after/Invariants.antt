@@ -2,7 +2,7 @@ use Rattle.std.proofs.Common.{◌≡◌, ◌<◌, ◌≤◌, false, true, [], le
 use Rattle.std.specs.Prelude.{vec_capacity}
 use Rattle.relup_instruction.specs.Instruction.{instruction_of, script_of}
 use Rattle.script_progress.specs.InMemory.{site_of}
-use Rattle.relup_exec.specs.Outcome.{Ran, past_behind, run_behind, still_early}
+use Rattle.relup_exec.specs.Outcome.{Ran, RanLate, past_behind, run_behind, still_early}
 use Rattle.script_progress.specs.Script.{courses_within}
 use Rattle.script_progress.specs.Steps.{HasDone, progress_of}
 use Rattle.relup_exec.proofs.armed.Armed.run_after.Given as goal
@@ -33,3 +33,4 @@ invariant-loop-i g l =
     × (length (script_of l.script) ≤ vec_capacity l.told)
     × Ran (site_of l.site) g.start l.seat.view l.told.items so_far
     × HasDone (past_behind (site_of l.site) g.start l.told.items so_far) (progress_of l.progress) l.progress.tree l.seat.view
+    × RanLate (site_of l.site) g.start l.fn.seat.view l.seat.view l.told.items so_far
