@@ -1,1 +1,3 @@
+pub mod PairLemmas
 pub mod Readings
+pub mod FormLemmas

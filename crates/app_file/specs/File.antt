@@ -1,4 +1,4 @@
--- What a `.app` file says, or which fault it has (OTP: app(4)); docs/RULES.md tells the format.
+-- What a `.app` file says, or which fault it has (OTP: app(4)); docs/RULES.md gives the format.
 use Rattle.std.specs.Prelude.{ℕ, Bool, List, length, nat_le, Option}
 use Rattle.std.specs.Option.{option_map}
 use Rattle.erl_term.specs.Value.{Value}

@@ -1,8 +1,10 @@
 -- Laws of files, whatever reads them.
 use Rattle.std.specs.Prelude.{◌≡◌, ◌⊎◌, ℕ, List}
+use Rattle.erl_term.specs.Value.{Value}
 use Rattle.rel_files.specs.Fault.{Fault}
 use Rattle.rel_files.specs.Kind.{Says, HasFault}
-use Rattle.app_file.specs.File.{Specification, app_files}
+use Rattle.app_file.specs.File.{Specification, app_files, IsAppTerm}
+use Rattle.app_file.specs.Form.{IsAppForm}
 
 -- No file says two applications.
 abbrev pub SaysOneApp : Type 0
@@ -19,3 +21,8 @@ NeverBoth = (bytes : List ℕ) (t : Specification) (f : Fault) → Says app_file
 -- Each file says an application or has a fault.
 abbrev pub SaysOrFails : Type 0
 SaysOrFails = (bytes : List ℕ) → ((t : Specification) × Says app_files bytes t) ⊎ ((f : Fault) × HasFault app_files bytes f)
+
+-- A term says an application exactly where it has the form of that application.
+pub record ApplicationsAreRead : Type 0 where
+  pub only : (v : Value) (a : Specification) → IsAppTerm v a → IsAppForm v a
+  pub each : (v : Value) (a : Specification) → IsAppForm v a → IsAppTerm v a

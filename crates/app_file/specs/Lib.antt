@@ -1,4 +1,5 @@
 pub mod Parts
 pub mod File
+pub mod Form
 pub mod InMemory
 pub mod Laws

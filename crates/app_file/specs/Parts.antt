@@ -1,4 +1,4 @@
--- What the term of an application's file says; docs/RULES.md tells the format.
+-- What the term of an application's file says; docs/RULES.md gives the format.
 use Rattle.std.specs.Prelude.{ℕ, Bool, true, false, List, [], ◌∷◌, Option, None, Some, codes, if◌then◌else◌}
 use Rattle.std.specs.List.{find}
 use Rattle.std.specs.Option.{option_map, option_and_then}

@@ -1,5 +1,5 @@
-//! Laws of the files themselves, whatever reads them. Each function does nothing: its contract is the law.
-ghost use Rattle.app_file.specs.Laws.{SaysOneApp, HasOneFault, NeverBoth, SaysOrFails};
+//! Laws of the files and their terms, whatever reads them. Each function does nothing: its contract is the law.
+ghost use Rattle.app_file.specs.Laws.{SaysOneApp, HasOneFault, NeverBoth, SaysOrFails, ApplicationsAreRead};
 
 /// No file says two applications.
 pub fn no_file_says_two_applications()
@@ -19,4 +19,9 @@ pub fn no_file_says_an_application_and_has_a_fault()
 /// Each file says an application or has a fault.
 pub fn each_file_says_an_application_or_has_a_fault()
     ensures { SaysOrFails }
+{}
+
+/// A term says an application exactly where it has the form of that application.
+pub fn a_term_says_an_application_exactly_where_it_has_its_form()
+    ensures { ApplicationsAreRead }
 {}

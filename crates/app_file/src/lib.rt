@@ -4,7 +4,8 @@
 //! a refusal is the file's fault, the first in the order of `FileFault`'s cases (clauses `says`, `only`, `fault`).
 //! [`app_of_term`] does so for a term. Out of memory may come in place of any answer and says nothing of the file.
 //!
-//! The functions of `laws` say of these definitions that each file says one application or has one fault, and not both.
+//! The functions of `laws` say of these definitions that each file says one application or has one fault, and not both, and that
+//! a term says an application exactly where it has the form of that application (specs/Form).
 //!
 //! Only tested: that a file is read where memory is there. Trusted: the toolchain alone.
 #![tactic(auto)]

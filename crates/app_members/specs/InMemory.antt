@@ -38,7 +38,7 @@ abbrev pub AreSound : Tables → BTreeMap (Bor (List ℕ)) ℕ → Type 0
 AreSound tables noted =
     (name : List ℕ) (n : ℕ) (s : SuperTable) → noted_in noted name ≡ Some n → tables name ≡ Some (Super s) → children_fault n tables s.children ≡ None
 
--- an answer is this fault, or none where there is none; or that no memory was left
+-- an error is this fault, or that no memory was left
 abbrev pub FaultIs : MembersError → Option StartFault → Type 0
 FaultIs (NoTable m) f = f ≡ Some (no_table m.now)
 FaultIs Unsupported f = f ≡ Some unsupported

@@ -2,8 +2,8 @@
 //!
 //! [`members_of_app`] goes from the application's top through the children of its supervisors, by the tables that are loaded: each
 //! supervisor before its children, a child with those below it before its next sibling (specs/Walk). It answers the members in that
-//! order, or the first fault on the way, and [`members_of_child`] those with which a child of a supervisor starts. [`process_count`]
-//! tells how many of them are processes.
+//! order, or the first fault on the way, and [`members_of_child`] those with which a child of a supervisor starts.
+//! [`process_count`] reports how many of them are processes.
 //!
 //! Only tested: that members are answered where memory is there, and that the faults below supervisors which many others share are
 //! not looked for again for each. Trusted: the toolchain and `thiserror`.

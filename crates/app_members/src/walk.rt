@@ -102,7 +102,7 @@ fn members_with<'a>(
     member: NewMember<'a>,
     left: usize,
 ) -> Result<Vec<NewMember<'a>>, MembersError<'a>>
-    requires { member.depth + left ≤ MOST_SUPERVISORS }
+    requires { member.depth + left ≤ 8 }
     ensures { AreUnlessFault
         (fault_with left (tables_of (modules_in loaded.now)) (new_member_of member.entry))
         (members_with left (tables_of (modules_in loaded.now)) (new_member_of member.entry))
@@ -255,8 +255,8 @@ fn add_member<'a>(
     left: usize,
     members: &mut Vec<NewMember<'a>>,
 ) -> Result<(), MembersError<'a>>
-    requires depth { member.depth + left ≤ MOST_SUPERVISORS }
-    requires few { length members.old.items ≤ MOST_MEMBERS }
+    requires depth { member.depth + left ≤ 8 }
+    requires few { length members.old.items ≤ 4096 }
     ensures { Adds members.old.items (new_member_of member.entry
         ∷ members_below (children_members left (tables_of (modules_in loaded.now))
         (member.entry.depth + 1)) member.entry.table.now) result members.new.items }
@@ -283,8 +283,8 @@ fn add_children<'a>(
     depth: usize,
     members: &mut Vec<NewMember<'a>>,
 ) -> Result<(), MembersError<'a>>
-    requires depth { depth + left ≤ MOST_SUPERVISORS + 1 }
-    requires few { length members.old.items ≤ MOST_MEMBERS }
+    requires depth { depth + left ≤ 9 }
+    requires few { length members.old.items ≤ 4096 }
     ensures { Adds members.old.items
         (children_members left (tables_of (modules_in loaded.now)) depth
         (map child_of children.now)) result members.new.items }
@@ -306,8 +306,8 @@ fn add_child<'a>(
     depth: usize,
     members: &mut Vec<NewMember<'a>>,
 ) -> Result<(), MembersError<'a>>
-    requires depth { depth + left ≤ MOST_SUPERVISORS }
-    requires few { length members.old.items ≤ MOST_MEMBERS }
+    requires depth { depth + left ≤ 8 }
+    requires few { length members.old.items ≤ 4096 }
     ensures { Adds members.old.items
         (members_from left (tables_of (modules_in loaded.now)) depth (child_of child.now))
         result members.new.items }
@@ -371,7 +371,7 @@ fn add_one<'a>(
     members: &mut Vec<NewMember<'a>>,
     member: NewMember<'a>,
 ) -> Result<(), MembersError<'a>>
-    requires { length members.old.items ≤ MOST_MEMBERS }
+    requires { length members.old.items ≤ 4096 }
     ensures { Adds members.old.items (new_member_of member.entry ∷ []) result members.new.items }
 {
     if members.len() == MOST_MEMBERS {

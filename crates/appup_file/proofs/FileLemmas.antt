@@ -46,12 +46,12 @@ never_memory bytes h = go (no_term bytes no_memory h)
     go (inr (at, is)) = absurd cc
 
 -- the fault of the file's terms is the file's
-pub tells_terms : (bytes : List ℕ) (f : FileFault) → (f ≢ file.NoMemory → IsNoTermFault bytes f) → appup_fault_of f ≢ NoMemory → IsAppupFault bytes (appup_fault_of f)
-tells_terms bytes (file.BadTerm e) h other = inl (h (λ same. absurd cc))
-tells_terms bytes (file.BadShape at) h other = (at, inl (h (λ same. absurd cc)))
-tells_terms bytes (file.Duplicate name) h other = absurd (never_twice bytes (string_bytes name) (h (λ same. absurd cc)))
-tells_terms bytes file.BadVersion h other = absurd (never_version bytes (h (λ same. absurd cc)))
-tells_terms bytes file.NoMemory h other = absurd (other refl)
+pub reports_terms : (bytes : List ℕ) (f : FileFault) → (f ≢ file.NoMemory → IsNoTermFault bytes f) → appup_fault_of f ≢ NoMemory → IsAppupFault bytes (appup_fault_of f)
+reports_terms bytes (file.BadTerm e) h other = inl (h (λ same. absurd cc))
+reports_terms bytes (file.BadShape at) h other = (at, inl (h (λ same. absurd cc)))
+reports_terms bytes (file.Duplicate name) h other = absurd (never_twice bytes (string_bytes name) (h (λ same. absurd cc)))
+reports_terms bytes file.BadVersion h other = absurd (never_version bytes (h (λ same. absurd cc)))
+reports_terms bytes file.NoMemory h other = absurd (other refl)
 
 -- a fault that is passed on
 pub passed_on : (P : AppupFault → Type 0) (result : Result Appup AppupFault) (f : AppupFault) → IsErr result × IsErrAnd result (λ g. g ≡ f) → P f → IfErr result P

@@ -106,14 +106,14 @@ of_atom name s i h e = go (bytes_eq s (codes "supervisor")) refl
     six = update_members dynamic (timeout_term Default) (atom s) brutal brutal nothing
 
     -- what is written in full is read as the atom is
-    told : (vs : Values) → vs ≡ full_change (atom s) → (update_in name vs ≡ Some i → IsNamed (codes "update") name vs i) → IsNamed (codes "update") name (full_change (atom s)) i
-    told vs is from =
+    reported : (vs : Values) → vs ≡ full_change (atom s) → (update_in name vs ≡ Some i → IsNamed (codes "update") name vs i) → IsNamed (codes "update") name (full_change (atom s)) i
+    reported vs is from =
         subst (λ (ws : Values). IsNamed (codes "update") name ws i) is
         (from (ap (update_in name) is ∙ (sym (update_defaults name (one (atom s))) ∙ e)))
 
     go : (b : Bool) → bytes_eq s (codes "supervisor") ≡ b → IsNamed (codes "update") name (full_change (atom s)) i
-    go true is = told supervisor_members (ap (λ (b : Bool). if b then supervisor_members else six) (sym is)) (of_typed name static (timeout_term Default) (change_term (advanced nothing)) brutal brutal nothing i h)
-    go false is = told six (ap (λ (b : Bool). if b then supervisor_members else six) (sym is)) (of_typed name dynamic (timeout_term Default) (atom s) brutal brutal nothing i h)
+    go true is = reported supervisor_members (ap (λ (b : Bool). if b then supervisor_members else six) (sym is)) (of_typed name static (timeout_term Default) (change_term (advanced nothing)) brutal brutal nothing i h)
+    go false is = reported six (ap (λ (b : Bool). if b then supervisor_members else six) (sym is)) (of_typed name dynamic (timeout_term Default) (atom s) brutal brutal nothing i h)
 
 from_update : (name : List ℕ) (vs : Values) (i : AppupInstruction) → IsName name → update_in name vs ≡ Some i → IsNamed (codes "update") name (full_update vs) i
 from_update name no_values i h e = of_typed name dynamic (timeout_term Default) (change_term soft) brutal brutal nothing i h e

@@ -1,4 +1,4 @@
--- What an appup file says, or which fault it has; docs/RULES.md tells the format.
+-- What an appup file says, or which fault it has; docs/RULES.md gives the format.
 use Rattle.std.specs.Prelude.{◌≡◌, ℕ, true, List, [], None}
 use Rattle.erl_term.specs.Value.{Value}
 use Rattle.rel_files.specs.Fault.Fault.{bad_term, bad_shape}

@@ -1,4 +1,5 @@
--- The terms that say appups (OTP: appup(4)). An instruction has one term that leaves nothing out; what is left out of another has its default.
+-- The terms that say appups (OTP: appup(4)). An instruction has one term that leaves nothing out; what is left out of another has
+-- its default.
 use Rattle.std.specs.Prelude.{◌≡◌, ℕ, List, Some, codes, if◌then◌else◌}
 use Rattle.std.specs.List.{AllZip, AllByRecursion}
 use Rattle.std.specs.Str.{bytes_eq}

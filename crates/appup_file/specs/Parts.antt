@@ -122,7 +122,7 @@ load_in name vs = None
 abbrev pub dependent_in : List ℕ → Values → Option DependentForm
 dependent_in name vs = option_map (λ ns. record { name = name; dep_mods = ns }) (dep_mods_in vs)
 
--- a start type, permanent where none is written
+-- a start type; permanent where no type is written
 abbrev pub start_in : Values → Option StartType
 start_in no_values = Some Permanent
 start_in (value v no_values) = option_and_then start_of (word_in v)

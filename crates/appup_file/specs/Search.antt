@@ -1,4 +1,5 @@
--- Which instructions of an appup lead from one version to another (OTP: appup(4); that a regular expression is refused is this project's own).
+-- Which instructions of an appup lead from one version to another (OTP: appup(4); that a regular expression is refused is this
+-- project's own).
 use Rattle.std.specs.Prelude.{ℕ, Bool, true, List, Option, None, Some, Result, Ok, Err}
 use Rattle.std.specs.List.{find}
 use Rattle.std.specs.Str.{bytes_eq}

@@ -11,7 +11,7 @@ use rel_files::parts::word_in;
 use rel_files::{StartType, start_of};
 use std::alloc::{AllocError, Global};
 
-// A start type, permanent where none is written.
+// A start type; permanent where no type is written.
 fn start_in(row: &[Term]) -> Option<StartType>
     ensures { result ≡ start_in (members_of row.now) }
 {
@@ -53,11 +53,15 @@ pub(crate) fn app_in(
     if row.split_first().is_some() {
         return Ok(None);
     }
-    if word == "remove_application" {
-        Ok(Some(AppupInstr::RemoveApplication(String::from_str(alloc, name)?)))
-    } else if word == "restart_application" {
-        Ok(Some(AppupInstr::RestartApplication(String::from_str(alloc, name)?)))
-    } else {
-        Ok(None)
+    match word {
+        "remove_application" => {
+            let name = String::from_str(alloc, name)?;
+            Ok(Some(AppupInstr::RemoveApplication(name)))
+        }
+        "restart_application" => {
+            let name = String::from_str(alloc, name)?;
+            Ok(Some(AppupInstr::RestartApplication(name)))
+        }
+        _ => Ok(None),
     }
 }

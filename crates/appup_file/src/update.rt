@@ -41,12 +41,10 @@ fn change_in(term: &Term) -> Result<Option<StateChange>, AllocError>
 fn mod_type_of(word: &str) -> Option<ModType>
     ensures { result ≡ mod_type_of word.now }
 {
-    if word == "static" {
-        Some(ModType::Static)
-    } else if word == "dynamic" {
-        Some(ModType::Dynamic)
-    } else {
-        None
+    match word {
+        "static" => Some(ModType::Static),
+        "dynamic" => Some(ModType::Dynamic),
+        _ => None,
     }
 }
 

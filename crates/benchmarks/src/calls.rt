@@ -59,7 +59,7 @@ fn by_one<R: Wait + Clock + CpuClock + Eprint, A: Work + Drop>(
 ) -> Option<()> {
     let watch = Watch::start(rt).ok()?;
     work.work(rt);
-    watch.tell(rt, what, 1).ok()
+    watch.report(rt, what, 1).ok()
 }
 
 // Measures works that two threads do.
@@ -71,7 +71,7 @@ fn by_two<R: Threads + Wait + Sync + Clock + CpuClock + Eprint, A: Work + Drop +
     let (first, second) = works;
     let watch = Watch::start(rt).ok()?;
     two_at_once(rt, first, second);
-    watch.tell(rt, what, 2).ok()
+    watch.report(rt, what, 2).ok()
 }
 
 // Measures works that four threads do.
@@ -89,7 +89,7 @@ fn by_four<R: Threads + Wait + Sync + Clock + CpuClock + Eprint, A: Work + Drop 
         || two_at_once(rt, first, second),
         || two_at_once(rt, third, fourth),
     );
-    watch.tell(rt, what, 4).ok()
+    watch.report(rt, what, 4).ok()
 }
 
 // Two clients, who call the processes in these slots.

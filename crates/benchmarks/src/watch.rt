@@ -21,7 +21,7 @@ impl Watch {
     }
 
     /// Writes on standard error how often a second so many threads did it, and the processor time that it took each time.
-    pub(crate) fn tell<R: Clock + CpuClock + Eprint>(
+    pub(crate) fn report<R: Clock + CpuClock + Eprint>(
         &self,
         rt: &R,
         what: &str,

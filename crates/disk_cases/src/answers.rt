@@ -24,7 +24,7 @@ use text_cases::Answer;
 ///
 /// `twice`: what five calls answer, two times over, of a failing disk within another, as in
 /// [`crate::disks::five_calls`]. The text is the number of the call that fails on the one without, and of
-/// that on the one within, which has room for one byte. How many calls have failed is told behind
+/// that on the one within, which has room for one byte. How many calls have failed is reported behind
 /// each five, and at the end how many on the one within.
 ///
 /// `fault`: the text of a fault of a device.

@@ -74,8 +74,8 @@ fn push_failure(alloc: Global, name: &str, failure: &ScriptFailure, answer: &mut
     answer.push_made(&failure.text(alloc));
 }
 
-// Appends what it tells of its start record.
-fn tell_start<D: Disk>(alloc: Global, node: &mut Handler<D>, answer: &mut Answer)
+// Appends what it reports of its start record.
+fn report_start<D: Disk>(alloc: Global, node: &mut Handler<D>, answer: &mut Answer)
     requires { IsSound D.seen D.may_leave node.old }
     ensures { IsSound D.seen D.may_leave node.new }
 {
@@ -114,7 +114,7 @@ fn follow_command<H: Wait, D: Disk>(
     let vsn = rest.as_str();
     answer.push(" ");
     match sign {
-        '?' => tell_start(alloc, node, answer),
+        '?' => report_start(alloc, node, answer),
         '+' => install(rt, alloc, node, vsn, answer),
         '!' => push_done(node.make_permanent(alloc, vsn), answer),
         '<' => push_done(node.reboot_old_release(alloc, vsn), answer),

@@ -28,11 +28,11 @@ use text_cases::{Answer, first_word, number};
 ///   most three. `boot B ..`: the node is booted, and follows all of the words. The answer is the
 ///   list of its releases, and where commands are given, what it answers to each, whether it is
 ///   `dead` or `open` then, and the list again. The command `B` takes the release B in, `+B`
-///   installs it, `!B` makes it permanent, `<B` reboots it, `-B` removes it, and `?` tells the
+///   installs it, `!B` makes it permanent, `<B` reboots it, `-B` removes it, and `?` reports the
 ///   start. [`crate::files::ReleaseFiles`] has the releases and their relups. No process runs.
-/// - `unpack B`: the node is booted and takes B in, and no list is told.
+/// - `unpack B`: the node is booted and takes B in, and no list is reported.
 /// - `fail N SESSION`, `part N SESSION`: the call N of the device fails in this session, in the
-///   second with a part of its effect. How many calls have failed is told behind it.
+///   second with a part of its effect. How many calls have failed is reported behind it.
 pub(crate) fn follow<H: Wait, D: Disk + Drop>(
     rt: &H,
     alloc: Global,

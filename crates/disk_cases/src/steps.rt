@@ -13,7 +13,7 @@ use text_cases::{Answer, first_word, number};
 ///
 /// - `append BODY`, `compact BODY`, `reserve N`, `fits N`, `write_slot TEXT`, `write_start ERTS VSN`, `read_start`.
 ///   Of a TEXT as much is written as has room.
-/// - `read_slot`: the first nine bytes of the start slot are told.
+/// - `read_slot`: the first nine bytes of the start slot are reported.
 /// - `format`: the store's format. `to_format_2`.
 /// - `records`: the bodies of the records. `rooms`: whether each has room for three bytes at most.
 pub(crate) fn follow_steps<D: Disk>(
@@ -50,12 +50,12 @@ fn take_step<D: Disk>(alloc: Global, store: &mut Store<D>, step: &str, answer: &
         "write_start" => push_done(write_versions(alloc, store, rest), answer),
         "read_start" => push_start_read(alloc, store, answer),
         "to_format_2" => push_done(store.to_format_2(), answer),
-        _ => tell(store, word, number(rest), answer),
+        _ => report(store, word, number(rest), answer),
     }
 }
 
 // What doesn't change the store.
-fn tell<D: Disk>(store: &Store<D>, word: &str, len: usize, answer: &mut Answer) {
+fn report<D: Disk>(store: &Store<D>, word: &str, len: usize, answer: &mut Answer) {
     match word {
         "fits" => answer.push(if store.fits(len) { "fits" } else { "too long" }),
         "records" | "rooms" => push_records(store.records(), word, answer),

@@ -4,7 +4,7 @@ use Rattle.std.proofs.lemmas.List.{length-append}
 use Rattle.std.specs.Prelude.{IsErrAnd, IsErrOf}
 use Rattle.std.specs.Io.KnownBytes.{Consumes, IsAtEnd}
 use Rattle.erl_term.specs.TermFault.TheVariants.{NoMemory}
-use Rattle.erl_consult.specs.Failures.{Tells}
+use Rattle.erl_consult.specs.Failures.{Reports}
 use Rattle.erl_consult.specs.Listing.{HasTaken, HasRead, IsReported, TakesAtMost}
 use Rattle.erl_consult.specs.declared.error.ConsultError.{ConsultError}
 use Rattle.erl_consult.specs.declared.error.ConsultError.TheVariants.{Fault, Read, Write, TooLong}
@@ -81,23 +81,23 @@ no_write e (inl is) w = absurd cc
 no_write e (inr is) w = absurd cc
 
 -- a refusal that is passed on is the same one
-told_in : {V : Type 0} (x told : ConsultError) → IsErrOf {T = V} (Err x) told → x ≡ told
-told_in x told is = cc
+reported_in : {V : Type 0} (x reported : ConsultError) → IsErrOf {T = V} (Err x) reported → x ≡ reported
+reported_in x reported is = cc
 
-told_so : {V : Type 0} (x told : ConsultError) → x ≡ told → IsErrOf {T = V} (Err x) told
-told_so x told is = cc
+reported_so : {V : Type 0} (x reported : ConsultError) → x ≡ reported → IsErrOf {T = V} (Err x) reported
+reported_so x reported is = cc
 
-pub tells_on : {V W : Type 0} (told e : ConsultError) (r : Result W ConsultError) (old new : ℕ) → IsErrAnd r (λ x. x ≡ e) → Tells {V = V} told (Err e) old new → Tells told r old new
-tells_on told e (Ok v) old new is tells = absurd is
-tells_on told e (Err x) old new is (rose, kept) =
-    (λ it. rose (told_so e told (sym is ∙ told_in x told it)), λ other. kept (λ it. other (told_so x told (is ∙ told_in e told it))))
+pub reports_on : {V W : Type 0} (reported e : ConsultError) (r : Result W ConsultError) (old new : ℕ) → IsErrAnd r (λ x. x ≡ e) → Reports {V = V} reported (Err e) old new → Reports reported r old new
+reports_on reported e (Ok v) old new is reports = absurd is
+reports_on reported e (Err x) old new is (rose, kept) =
+    (λ it. rose (reported_so e reported (sym is ∙ reported_in x reported it)), λ other. kept (λ it. other (reported_so x reported (is ∙ reported_in e reported it))))
 
--- and a success is told in its place
-pub tells_done : {V W : Type 0} (told : ConsultError) (v : V) (w : W) (first old new : ℕ) → old ≡ first → Tells told (Ok v) old new → Tells told (Ok w) first new
-tells_done told v w first old new same (rose, kept) = (λ it. absurd cc, λ other. kept (λ it. cc) ∙ same)
+-- and a success is reported in its place
+pub reports_done : {V W : Type 0} (reported : ConsultError) (v : V) (w : W) (first old new : ℕ) → old ≡ first → Reports reported (Ok v) old new → Reports reported (Ok w) first new
+reports_done reported v w first old new same (rose, kept) = (λ it. absurd cc, λ other. kept (λ it. cc) ∙ same)
 
-pub tells_since : {V : Type 0} (told : ConsultError) (r : Result V ConsultError) (first old new : ℕ) → old ≡ first → Tells told r old new → Tells told r first new
-tells_since told r first old new same tells = subst (λ n. Tells told r n new) same tells
+pub reports_since : {V : Type 0} (reported : ConsultError) (r : Result V ConsultError) (first old new : ℕ) → old ≡ first → Reports reported r old new → Reports reported r first new
+reports_since reported r first old new same reports = subst (λ n. Reports reported r n new) same reports
 
 -- what is taken of a reader behind so many bytes
 pub takes_more : (old mid new : Option (List ℕ)) (bytes : List ℕ) (most : ℕ) → ReadSoFar old mid bytes → length bytes + most ≤ 1048577 → TakesAtMost most mid new → TakesAtMost 1048577 old new

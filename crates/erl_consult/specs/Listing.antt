@@ -3,7 +3,7 @@ use Rattle.std.specs.Prelude.{◌≡◌, ◌≢◌, ℕ, ◌<◌, ◌≤◌, Lis
 use Rattle.std.specs.List.{flat_map}
 use Rattle.std.specs.Io.KnownBytes.{Appends, Consumes}
 use Rattle.counted_io.specs.Prefixes.{AppendsPrefix}
-use Rattle.erl_term.specs.Answers.{TellsFault}
+use Rattle.erl_term.specs.Answers.{ReportsFault}
 use Rattle.erl_term.specs.TermFault.TheVariants.{NoMemory}
 use Rattle.erl_term.specs.Grammar.{Reading, Reads}
 use Rattle.erl_term.specs.Printing.{text_of}
@@ -45,7 +45,7 @@ HasBegun known old new = IfSome known (λ bytes. (text : List ℕ) × IsShort by
 -- Where the bytes of the reader are known, the refusal is theirs. A text that is too long is refused for that, whatever
 -- fault it has.
 abbrev pub IsReported : Option (List ℕ) → ConsultError → Type 0
-IsReported known (Fault f) = f ≢ NoMemory → IfSome known (λ bytes. IsShort bytes × TellsFault 64 bytes f)
+IsReported known (Fault f) = f ≢ NoMemory → IfSome known (λ bytes. IsShort bytes × ReportsFault 64 bytes f)
 IsReported known TooLong = IfSome known (λ bytes. 1048576 < length bytes)
 IsReported known Read = Unit {0}
 IsReported known Write = Unit {0}

@@ -3,7 +3,7 @@ ghost use Rattle.std.specs.Prelude.{◌≡◌, ◌≢◌, ◌⊎◌, ◌<◌, �
 ghost use Rattle.std.specs.Io.KnownBytes.{IsAtEnd};
 ghost use Rattle.counted_io.specs.Counted.{left_in, failed_reads, held_by, failed_writes};
 ghost use Rattle.erl_consult.specs.Listing.{HasTaken, HasRead, HasListed, HasBegun, IsReported, TakesAtMost};
-ghost use Rattle.erl_consult.specs.Failures.{Tells};
+ghost use Rattle.erl_consult.specs.Failures.{Reports};
 
 use crate::error::ConsultError;
 use crate::listing::listing;
@@ -39,9 +39,9 @@ pub fn consult<R: Read, W: Write>(
         (held_by W.contents writer.old) (held_by W.contents writer.new) }
 
     // A failure is reported exactly where one was. It is the only one, since nothing is tried again.
-    ensures read { Tells ConsultError.Read result (failed_reads reader.old)
+    ensures read { Reports ConsultError.Read result (failed_reads reader.old)
         (failed_reads reader.new) }
-    ensures write { Tells ConsultError.Write result (failed_writes writer.old)
+    ensures write { Reports ConsultError.Write result (failed_writes writer.old)
         (failed_writes writer.new) }
 
     // Of a longer text no byte after the first too many is read.
@@ -57,7 +57,7 @@ pub fn consult<R: Read, W: Write>(
 fn read_text<R: Read>(alloc: Global, reader: &mut CountedReader<R>) -> Result<Vec<u8>, ConsultError>
     ensures read { IfOk result (λ bytes. HasRead (left_in R.remaining reader.old) bytes.items) }
     ensures refused { IfErr result (IsReported (left_in R.remaining reader.old)) }
-    ensures cause { Tells ConsultError.Read result (failed_reads reader.old)
+    ensures cause { Reports ConsultError.Read result (failed_reads reader.old)
         (failed_reads reader.new) }
     ensures bounded { TakesAtMost 1048577 (left_in R.remaining reader.old)
         (left_in R.remaining reader.new) }
@@ -89,7 +89,7 @@ fn read_some<R: Read>(
     ensures bound { IfOk result (λ count. count ≤ most) }
     ensures error { IfErr result
         (λ e. (e ≡ ConsultError.Read) ⊎ (e ≡ ConsultError.Fault TermFault.NoMemory)) }
-    ensures cause { Tells ConsultError.Read result (failed_reads reader.old)
+    ensures cause { Reports ConsultError.Read result (failed_reads reader.old)
         (failed_reads reader.new) }
     ensures bounded { TakesAtMost most (left_in R.remaining reader.old)
         (left_in R.remaining reader.new) }

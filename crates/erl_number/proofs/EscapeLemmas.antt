@@ -5,7 +5,7 @@ use Rattle.std.specs.Str.Parse.{digits_value}
 use Rattle.std.proofs.lemmas.List.{drop-drop}
 use Rattle.std.proofs.lemmas.Bool.Decides.{nat_tests}
 use Rattle.std.proofs.lemmas.Option.{get_or_from_slice_get}
-use Rattle.erl_number.specs.Escapes.{Character, front, is_in, with_next, scalar, octal, braced, paired, hexadecimal, caret, letter_character, by_name, escape}
+use Rattle.erl_number.specs.Escapes.{Character, leading, is_in, with_next, scalar, octal, braced, paired, hexadecimal, caret, letter_character, by_name, escape}
 use Rattle.erl_number.specs.Escapes.Character.{means, senseless, unfinished}
 use Rattle.erl_number.specs.Numbers.{spelled_by}
 use Rattle.erl_number.specs.Scanned.{byte_in, digit_in, digits_here, capped}
@@ -60,18 +60,18 @@ no_digit base bytes at x e s = go (is_digit x base) refl (sym (ap (digit_in base
     go true t e = absurd cc
     go false t e = t
 
-digits_end : (base : ℕ) (bytes : List ℕ) (at : ℕ) → digit_in base (slice_get bytes at) ≡ None → front (λ c. is_digit c base) (drop at bytes) ≡ []
+digits_end : (base : ℕ) (bytes : List ℕ) (at : ℕ) → digit_in base (slice_get bytes at) ≡ None → leading (λ c. is_digit c base) (drop at bytes) ≡ []
 digits_end base bytes at e = go (slice_get bytes at) refl
   where
-    go : (o : Option ℕ) → slice_get bytes at ≡ o → front (λ c. is_digit c base) (drop at bytes) ≡ []
-    go None s = ap (front (λ c. is_digit c base)) (drop_none bytes at s)
-    go (Some x) s = ap (front (λ c. is_digit c base)) (drop_some bytes at x s) ∙ rw (no_digit base bytes at x e s) refl
+    go : (o : Option ℕ) → slice_get bytes at ≡ o → leading (λ c. is_digit c base) (drop at bytes) ≡ []
+    go None s = ap (leading (λ c. is_digit c base)) (drop_none bytes at s)
+    go (Some x) s = ap (leading (λ c. is_digit c base)) (drop_some bytes at x s) ∙ rw (no_digit base bytes at x e s) refl
 
-digits_more : (base : ℕ) (bytes : List ℕ) (at d : ℕ) (i : IsDigitAt base bytes at d) → front (λ c. is_digit c base) (drop at bytes) ≡ i.byte ∷ front (λ c. is_digit c base) (drop (at + 1) bytes)
-digits_more base bytes at d i = ap (front (λ c. is_digit c base)) (drop_some bytes at i.byte i.stands) ∙ rw (i.digit) refl
+digits_more : (base : ℕ) (bytes : List ℕ) (at d : ℕ) (i : IsDigitAt base bytes at d) → leading (λ c. is_digit c base) (drop at bytes) ≡ i.byte ∷ leading (λ c. is_digit c base) (drop (at + 1) bytes)
+digits_more base bytes at d i = ap (leading (λ c. is_digit c base)) (drop_some bytes at i.byte i.stands) ∙ rw (i.digit) refl
 
 abbrev octal_digits : List ℕ → List ℕ
-octal_digits xs = front (λ c. is_digit c 8) xs
+octal_digits xs = leading (λ c. is_digit c 8) xs
 
 -- one, two and three octal digits
 pub octal_one : (bytes : List ℕ) (at a code size : ℕ) → digit_in 8 (slice_get bytes at) ≡ Some a → digit_in 8 (slice_get bytes (at + 1)) ≡ None
@@ -184,21 +184,21 @@ pub caret_other : (bytes : List ℕ) (at x : ℕ) → byte_in (slice_get bytes a
 caret_other bytes at x e outside = sym (next_some bytes at x _ e ∙ rw outside refl)
 
 -- digits that nothing joins
-hex_row : (base : ℕ) (xs : List ℕ) → digits_here false base xs ≡ front (λ c. is_digit c base) xs
+hex_row : (base : ℕ) (xs : List ℕ) → digits_here false base xs ≡ leading (λ c. is_digit c base) xs
 hex_row base [] = refl
 hex_row base (x ∷ xs) = go (is_digit x base) (hex_row base xs)
   where
-    go : (b : Bool) → digits_here false base xs ≡ front (λ c. is_digit c base) xs
-        → (if b || false then x ∷ digits_here false base xs else []) ≡ (if b then x ∷ front (λ c. is_digit c base) xs else [])
+    go : (b : Bool) → digits_here false base xs ≡ leading (λ c. is_digit c base) xs
+        → (if b || false then x ∷ digits_here false base xs else []) ≡ (if b then x ∷ leading (λ c. is_digit c base) xs else [])
     go true e = ap (λ ys. x ∷ ys) e
     go false e = refl
 
-hex_bare : (base : ℕ) (xs : List ℕ) → base ≤ 36 → bare_digits (front (λ c. is_digit c base) xs) ≡ front (λ c. is_digit c base) xs
+hex_bare : (base : ℕ) (xs : List ℕ) → base ≤ 36 → bare_digits (leading (λ c. is_digit c base) xs) ≡ leading (λ c. is_digit c base) xs
 hex_bare base [] high = refl
 hex_bare base (x ∷ xs) high = go (is_digit x base) refl (hex_bare base xs high)
   where
-    go : (b : Bool) → is_digit x base ≡ b → bare_digits (front (λ c. is_digit c base) xs) ≡ front (λ c. is_digit c base) xs
-        → bare_digits (if b then x ∷ front (λ c. is_digit c base) xs else []) ≡ (if b then x ∷ front (λ c. is_digit c base) xs else [])
+    go : (b : Bool) → is_digit x base ≡ b → bare_digits (leading (λ c. is_digit c base) xs) ≡ leading (λ c. is_digit c base) xs
+        → bare_digits (if b then x ∷ leading (λ c. is_digit c base) xs else []) ≡ (if b then x ∷ leading (λ c. is_digit c base) xs else [])
     go true t e =
         let small : digit_value x < base = grind (arith, nat_tests) in
         rw (digit_is_bare base x high small) (ap (λ ys. x ∷ ys) e)
@@ -223,7 +223,7 @@ scalar-capped n size = go (nat_lt (2 ^ 63) n) refl
         large (capped n) k ∙ sym (large n l)
 
 abbrev hex_digits : List ℕ → List ℕ
-hex_digits xs = front (λ c. is_digit c 16) xs
+hex_digits xs = leading (λ c. is_digit c 16) xs
 
 -- hexadecimal digits at a place: how many, and where they end
 pub record IsHex (bytes : List ℕ) (at to : ℕ) : Type 0 where

@@ -7,7 +7,7 @@ use Rattle.std.proofs.lemmas.Bool.Decides.{nat_tests}
 use Rattle.std.proofs.lemmas.Option.{get_or_from_slice_get}
 use Rattle.erl_number.specs.declared.fault.TermFault.TheVariants.{BadToken, BadNumber, Unsupported}
 use Rattle.erl_number.specs.declared.run.Run.TheVariants.{InDigits, InText}
-use Rattle.erl_number.specs.Escapes.{front, is_in, itself, escape}
+use Rattle.erl_number.specs.Escapes.{leading, is_in, itself, escape}
 use Rattle.erl_number.specs.Escapes.Character.{means, senseless, unfinished}
 use Rattle.erl_number.specs.Numbers.{begins, more_digits, digit_row, spelled_by, goes_on_as_float, unless_float, is_alphanumeric, in_base, behind_base, behind_digits, digits_numeral, ended, character_number, character_numeral, numeral}
 use Rattle.erl_number.specs.Numbers.Numeral.{whole, faulty, cut_off}
@@ -108,7 +108,7 @@ is_in-capped b = go (nat_lt (2 ^ 63) b) refl
         large (capped b) k ∙ sym (large b l)
 
 in_base-outside : (start base size : ℕ) (xs : List ℕ) → is_in 2 36 base ≡ false
-    → in_base start base size xs ≡ unless_float start (drop (length (front (goes_on_with InDigits) xs)) xs) (faulty (BadNumber start))
+    → in_base start base size xs ≡ unless_float start (drop (length (leading (goes_on_with InDigits) xs)) xs) (faulty (BadNumber start))
 in_base-outside start base size xs e = rw e refl
 
 small_base : (b : ℕ) → is_in 2 36 b ≡ true → capped b ≡ b
@@ -186,14 +186,14 @@ base_digits start base size at x bytes e digit =
     ap (in_base start base size) (drop_some bytes at x e) ∙ sym (ap (behind_base start base size at) (drop_some bytes at x e) ∙ rw passes refl)
 
 -- all that may stand in a row of digits are digits of the base, if as many are
-whole_row : (base : ℕ) (xs : List ℕ) → base ≤ 36 → length (digits_here true base xs) ≡ length (front (goes_on_with InDigits) xs) → digits_here true base xs ≡ front (goes_on_with InDigits) xs
+whole_row : (base : ℕ) (xs : List ℕ) → base ≤ 36 → length (digits_here true base xs) ≡ length (leading (goes_on_with InDigits) xs) → digits_here true base xs ≡ leading (goes_on_with InDigits) xs
 whole_row base [] high e = refl
 whole_row base (x ∷ xs) high e = go (is_digit x base) (eqb x 95 && begins (λ y. is_digit y base) xs) (goes_on_with InDigits x) refl refl refl e (whole_row base xs high)
   where
     go : (a b p : Bool) → is_digit x base ≡ a → (eqb x 95 && begins (λ y. is_digit y base) xs) ≡ b → goes_on_with InDigits x ≡ p
-        → length (if a || b then x ∷ digits_here true base xs else []) ≡ length (if p then x ∷ front (goes_on_with InDigits) xs else [])
-        → (length (digits_here true base xs) ≡ length (front (goes_on_with InDigits) xs) → digits_here true base xs ≡ front (goes_on_with InDigits) xs)
-        → (if a || b then x ∷ digits_here true base xs else []) ≡ (if p then x ∷ front (goes_on_with InDigits) xs else [])
+        → length (if a || b then x ∷ digits_here true base xs else []) ≡ length (if p then x ∷ leading (goes_on_with InDigits) xs else [])
+        → (length (digits_here true base xs) ≡ length (leading (goes_on_with InDigits) xs) → digits_here true base xs ≡ leading (goes_on_with InDigits) xs)
+        → (if a || b then x ∷ digits_here true base xs else []) ≡ (if p then x ∷ leading (goes_on_with InDigits) xs else [])
     go true b true ea eb ep e more = ap (λ ys. x ∷ ys) (more (omega arith))
     go false true true ea eb ep e more = ap (λ ys. x ∷ ys) (more (omega arith))
     go false false true ea eb ep e more = absurd (omega arith)
@@ -216,15 +216,15 @@ bytes_eq_length (x ∷ xs) (y ∷ ys) e = go (eqb x y) (bytes_eq xs ys) e (bytes
     go false b e f = absurd cc
 
 -- behind it, digits of the base alone, or others too
-in_base-row : (start base size : ℕ) (bytes : List ℕ) (at end : ℕ) → end ≡ at + length (front (goes_on_with InDigits) (drop at bytes)) → goes_on_as_float (drop end bytes) ≡ false → (b : Bool)
-    → (is_in 2 36 base && bytes_eq (digit_row base (drop at bytes)) (front (goes_on_with InDigits) (drop at bytes))) ≡ b
+in_base-row : (start base size : ℕ) (bytes : List ℕ) (at end : ℕ) → end ≡ at + length (leading (goes_on_with InDigits) (drop at bytes)) → goes_on_as_float (drop end bytes) ≡ false → (b : Bool)
+    → (is_in 2 36 base && bytes_eq (digit_row base (drop at bytes)) (leading (goes_on_with InDigits) (drop at bytes))) ≡ b
     → in_base start base size (drop at bytes)
-    ≡ (if b then whole (spelled_by base (front (goes_on_with InDigits) (drop at bytes))) (size + length (front (goes_on_with InDigits) (drop at bytes))) else faulty (BadNumber start))
+    ≡ (if b then whole (spelled_by base (leading (goes_on_with InDigits) (drop at bytes))) (size + length (leading (goes_on_with InDigits) (drop at bytes))) else faulty (BadNumber start))
 in_base-row start base size bytes at end e plain b is =
-    let behind : drop (length (front (goes_on_with InDigits) (drop at bytes))) (drop at bytes) ≡ drop end bytes =
-    drop-drop (length (front (goes_on_with InDigits) (drop at bytes))) at bytes ∙ ap (λ p. drop p bytes) (sym e) in
-    ap (λ c. unless_float start (drop (length (front (goes_on_with InDigits) (drop at bytes))) (drop at bytes))
-    (if c then whole (spelled_by base (front (goes_on_with InDigits) (drop at bytes))) (size + length (front (goes_on_with InDigits) (drop at bytes))) else faulty (BadNumber start))) is
+    let behind : drop (length (leading (goes_on_with InDigits) (drop at bytes))) (drop at bytes) ≡ drop end bytes =
+    drop-drop (length (leading (goes_on_with InDigits) (drop at bytes))) at bytes ∙ ap (λ p. drop p bytes) (sym e) in
+    ap (λ c. unless_float start (drop (length (leading (goes_on_with InDigits) (drop at bytes))) (drop at bytes))
+    (if c then whole (spelled_by base (leading (goes_on_with InDigits) (drop at bytes))) (size + length (leading (goes_on_with InDigits) (drop at bytes))) else faulty (BadNumber start))) is
     ∙ rw (behind, plain) refl
 
 inside_base : (base : ℕ) → 2 ≤ base → base ≤ 36 → is_in 2 36 base ≡ true
@@ -234,71 +234,71 @@ inside_base base low high =
     rw (a, b) refl
 
 pub in_base_whole : (start base size at end to number to_size : ℕ) (bytes : List ℕ) → 2 ≤ base → base ≤ 36 → begins (λ y. is_digit y 36) (drop at bytes) ≡ true
-    → end ≡ at + length (front (goes_on_with InDigits) (drop at bytes)) → goes_on_as_float (drop end bytes) ≡ false
+    → end ≡ at + length (leading (goes_on_with InDigits) (drop at bytes)) → goes_on_as_float (drop end bytes) ≡ false
     → to ≡ at + length (digits_here true base (drop at bytes)) → number ≡ capped (spelled_by base (digits_here true base (drop at bytes))) → to ≡ end → to_size ≡ size + (to - at)
     → whole number to_size ≡ capped_numeral (in_base start base size (drop at bytes))
 in_base_whole start base size at end to number to_size bytes low high p e plain t n same s =
-    let row : digits_here true base (drop at bytes) ≡ front (goes_on_with InDigits) (drop at bytes) = whole_row base (drop at bytes) high (omega arith) in
-    let all : (is_in 2 36 base && bytes_eq (digit_row base (drop at bytes)) (front (goes_on_with InDigits) (drop at bytes))) ≡ true =
-    ap (λ b. b && bytes_eq (digit_row base (drop at bytes)) (front (goes_on_with InDigits) (drop at bytes))) (inside_base base low high)
-    ∙ (ap (λ r. bytes_eq r (front (goes_on_with InDigits) (drop at bytes))) (digit_row-here base (drop at bytes) p ∙ row) ∙ bytes_eq_self (front (goes_on_with InDigits) (drop at bytes))) in
-    let value : number ≡ capped (spelled_by base (front (goes_on_with InDigits) (drop at bytes))) = n ∙ ap (λ r. capped (spelled_by base r)) row in
-    let long : to_size ≡ size + length (front (goes_on_with InDigits) (drop at bytes)) = omega (arith, ap length row) in
+    let row : digits_here true base (drop at bytes) ≡ leading (goes_on_with InDigits) (drop at bytes) = whole_row base (drop at bytes) high (omega arith) in
+    let all : (is_in 2 36 base && bytes_eq (digit_row base (drop at bytes)) (leading (goes_on_with InDigits) (drop at bytes))) ≡ true =
+    ap (λ b. b && bytes_eq (digit_row base (drop at bytes)) (leading (goes_on_with InDigits) (drop at bytes))) (inside_base base low high)
+    ∙ (ap (λ r. bytes_eq r (leading (goes_on_with InDigits) (drop at bytes))) (digit_row-here base (drop at bytes) p ∙ row) ∙ bytes_eq_self (leading (goes_on_with InDigits) (drop at bytes))) in
+    let value : number ≡ capped (spelled_by base (leading (goes_on_with InDigits) (drop at bytes))) = n ∙ ap (λ r. capped (spelled_by base r)) row in
+    let long : to_size ≡ size + length (leading (goes_on_with InDigits) (drop at bytes)) = omega (arith, ap length row) in
     (λ j. whole (value j) (long j)) ∙ sym (ap capped_numeral (in_base-row start base size bytes at end e plain true all))
 
 pub in_base_bad : (start base size at end to : ℕ) (bytes : List ℕ) → 2 ≤ base → base ≤ 36 → begins (λ y. is_digit y 36) (drop at bytes) ≡ true
-    → end ≡ at + length (front (goes_on_with InDigits) (drop at bytes)) → goes_on_as_float (drop end bytes) ≡ false
+    → end ≡ at + length (leading (goes_on_with InDigits) (drop at bytes)) → goes_on_as_float (drop end bytes) ≡ false
     → to ≡ at + length (digits_here true base (drop at bytes)) → (to ≡ end → ⊥) → faulty (BadNumber start) ≡ capped_numeral (in_base start base size (drop at bytes))
 in_base_bad start base size at end to bytes low high p e plain t differs =
     let row = digit_row-here base (drop at bytes) p in
-    let some : bytes_eq (digit_row base (drop at bytes)) (front (goes_on_with InDigits) (drop at bytes)) ≡ false = decided (bytes_eq (digit_row base (drop at bytes)) (front (goes_on_with InDigits) (drop at bytes))) refl in
-    let all : (is_in 2 36 base && bytes_eq (digit_row base (drop at bytes)) (front (goes_on_with InDigits) (drop at bytes))) ≡ false =
-    ap (λ b. b && bytes_eq (digit_row base (drop at bytes)) (front (goes_on_with InDigits) (drop at bytes))) (inside_base base low high) ∙ some in
+    let some : bytes_eq (digit_row base (drop at bytes)) (leading (goes_on_with InDigits) (drop at bytes)) ≡ false = decided (bytes_eq (digit_row base (drop at bytes)) (leading (goes_on_with InDigits) (drop at bytes))) refl in
+    let all : (is_in 2 36 base && bytes_eq (digit_row base (drop at bytes)) (leading (goes_on_with InDigits) (drop at bytes))) ≡ false =
+    ap (λ b. b && bytes_eq (digit_row base (drop at bytes)) (leading (goes_on_with InDigits) (drop at bytes))) (inside_base base low high) ∙ some in
     sym (ap capped_numeral (in_base-row start base size bytes at end e plain false all))
   where
-    decided : (b : Bool) → bytes_eq (digit_row base (drop at bytes)) (front (goes_on_with InDigits) (drop at bytes)) ≡ b
-        → bytes_eq (digit_row base (drop at bytes)) (front (goes_on_with InDigits) (drop at bytes)) ≡ false
+    decided : (b : Bool) → bytes_eq (digit_row base (drop at bytes)) (leading (goes_on_with InDigits) (drop at bytes)) ≡ b
+        → bytes_eq (digit_row base (drop at bytes)) (leading (goes_on_with InDigits) (drop at bytes)) ≡ false
     decided false t = t
     decided true s =
-        let same = bytes_eq_length (digit_row base (drop at bytes)) (front (goes_on_with InDigits) (drop at bytes)) s in
+        let same = bytes_eq_length (digit_row base (drop at bytes)) (leading (goes_on_with InDigits) (drop at bytes)) s in
         absurd (differs (omega (arith, same, ap length (digit_row-here base (drop at bytes) p))))
 
 -- where the text ends
-pub ended-run : (at end : ℕ) (bytes : List ℕ) → end ≡ at + length (front (goes_on_with InText) (drop at bytes)) → ended at (drop at bytes) ≡ ended end (drop end bytes)
+pub ended-run : (at end : ℕ) (bytes : List ℕ) → end ≡ at + length (leading (goes_on_with InText) (drop at bytes)) → ended at (drop at bytes) ≡ ended end (drop end bytes)
 ended-run at end bytes e =
-    let behind : drop (length (front (goes_on_with InText) (drop at bytes))) (drop at bytes) ≡ drop end bytes =
-    drop-drop (length (front (goes_on_with InText) (drop at bytes))) at bytes ∙ ap (λ p. drop p bytes) (sym e) in
+    let behind : drop (length (leading (goes_on_with InText) (drop at bytes))) (drop at bytes) ≡ drop end bytes =
+    drop-drop (length (leading (goes_on_with InText) (drop at bytes))) at bytes ∙ ap (λ p. drop p bytes) (sym e) in
     past at (drop at bytes) ∙ (λ j. ended (sym e j) (behind j))
   where
-    past : (p : ℕ) (xs : List ℕ) → ended p xs ≡ ended (p + length (front (goes_on_with InText) xs)) (drop (length (front (goes_on_with InText) xs)) xs)
+    past : (p : ℕ) (xs : List ℕ) → ended p xs ≡ ended (p + length (leading (goes_on_with InText) xs)) (drop (length (leading (goes_on_with InText) xs)) xs)
     past p [] = refl
     past p (x ∷ xs) = go (nat_le x 255) refl (past (p + 1) xs)
       where
-        go : (b : Bool) → nat_le x 255 ≡ b → ended (p + 1) xs ≡ ended ((p + 1) + length (front (goes_on_with InText) xs)) (drop (length (front (goes_on_with InText) xs)) xs)
-            → ended p (x ∷ xs) ≡ ended (p + length (if b then x ∷ front (goes_on_with InText) xs else [])) (drop (length (if b then x ∷ front (goes_on_with InText) xs else [])) (x ∷ xs))
+        go : (b : Bool) → nat_le x 255 ≡ b → ended (p + 1) xs ≡ ended ((p + 1) + length (leading (goes_on_with InText) xs)) (drop (length (leading (goes_on_with InText) xs)) xs)
+            → ended p (x ∷ xs) ≡ ended (p + length (if b then x ∷ leading (goes_on_with InText) xs else [])) (drop (length (if b then x ∷ leading (goes_on_with InText) xs else [])) (x ∷ xs))
         go true t e =
             let small : nat_lt 255 x ≡ false = grind (arith, nat_tests) in
-            let place : (p + 1) + length (front (goes_on_with InText) xs) ≡ p + suc (length (front (goes_on_with InText) xs)) = omega arith in
-            rw small (e ∙ ap (λ q. ended q (drop (length (front (goes_on_with InText) xs)) xs)) place)
+            let place : (p + 1) + length (leading (goes_on_with InText) xs) ≡ p + suc (length (leading (goes_on_with InText) xs)) = omega arith in
+            rw small (e ∙ ap (λ q. ended q (drop (length (leading (goes_on_with InText) xs)) xs)) place)
         go false t e = let same : p ≡ p + 0 = omega arith in ap (λ q. ended q (x ∷ xs)) same
 
 -- the byte behind a run is none of it
-behind_run : (p : ℕ → Bool) (xs : List ℕ) (x : ℕ) (ys : List ℕ) → drop (length (front p xs)) xs ≡ x ∷ ys → p x ≡ false
+behind_run : (p : ℕ → Bool) (xs : List ℕ) (x : ℕ) (ys : List ℕ) → drop (length (leading p xs)) xs ≡ x ∷ ys → p x ≡ false
 behind_run p [] x ys e = absurd cc
 behind_run p (z ∷ zs) x ys e = go (p z) refl e (behind_run p zs x ys)
   where
-    go : (b : Bool) → p z ≡ b → drop (length (if b then z ∷ front p zs else [])) (z ∷ zs) ≡ x ∷ ys → (drop (length (front p zs)) zs ≡ x ∷ ys → p x ≡ false) → p x ≡ false
+    go : (b : Bool) → p z ≡ b → drop (length (if b then z ∷ leading p zs else [])) (z ∷ zs) ≡ x ∷ ys → (drop (length (leading p zs)) zs ≡ x ∷ ys → p x ≡ false) → p x ≡ false
     go true t e more = more e
     go false t e more = let is : z ≡ x = cc in sym (ap p is) ∙ t
 
-pub ended_some : (at end x : ℕ) (bytes : List ℕ) → end ≡ at + length (front (goes_on_with InText) (drop at bytes)) → slice_get bytes end ≡ Some x → faulty (BadToken end) ≡ ended at (drop at bytes)
+pub ended_some : (at end x : ℕ) (bytes : List ℕ) → end ≡ at + length (leading (goes_on_with InText) (drop at bytes)) → slice_get bytes end ≡ Some x → faulty (BadToken end) ≡ ended at (drop at bytes)
 ended_some at end x bytes e s =
-    let behind = drop-drop (length (front (goes_on_with InText) (drop at bytes))) at bytes ∙ (ap (λ p. drop p bytes) (sym e) ∙ drop_some bytes end x s) in
+    let behind = drop-drop (length (leading (goes_on_with InText) (drop at bytes))) at bytes ∙ (ap (λ p. drop p bytes) (sym e) ∙ drop_some bytes end x s) in
     let large : nat_le x 255 ≡ false = behind_run (goes_on_with InText) (drop at bytes) x (drop (end + 1) bytes) behind in
     let over : nat_lt 255 x ≡ true = grind (arith, nat_tests) in
     sym (ended-run at end bytes e ∙ (ap (ended end) (drop_some bytes end x s) ∙ rw over refl))
 
-pub ended_none : (at end : ℕ) (bytes : List ℕ) → end ≡ at + length (front (goes_on_with InText) (drop at bytes)) → slice_get bytes end ≡ None → cut_off ≡ ended at (drop at bytes)
+pub ended_none : (at end : ℕ) (bytes : List ℕ) → end ≡ at + length (leading (goes_on_with InText) (drop at bytes)) → slice_get bytes end ≡ None → cut_off ≡ ended at (drop at bytes)
 ended_none at end bytes e s = sym (ended-run at end bytes e ∙ ap (ended end) (drop_none bytes end s))
 
 -- behind `$`
@@ -365,7 +365,7 @@ escape_unfinished at next bytes e k is =
 pub bad_digit : (base at : ℕ) (bytes : List ℕ) → base ≤ 36 → slice_get bytes at ≡ Some 256 → begins (λ y. is_digit y base) (drop at bytes) ≡ false
 bad_digit base at bytes l e = let none : is_digit 256 base ≡ false = grind (arith, nat_tests) in begins_some base at 256 bytes e ∙ none
 
-pub ended_there : (at end : ℕ) (bytes : List ℕ) (there : At) → (there ≡ End → ⊥) → end ≡ at + length (front (goes_on_with InText) (drop at bytes)) → stands_at there ≡ slice_get bytes end
+pub ended_there : (at end : ℕ) (bytes : List ℕ) (there : At) → (there ≡ End → ⊥) → end ≡ at + length (leading (goes_on_with InText) (drop at bytes)) → stands_at there ≡ slice_get bytes end
     → faulty (BadToken end) ≡ ended at (drop at bytes)
 ended_there at end bytes (Byte x) differs e h = ended_some at end x bytes e (sym h)
 ended_there at end bytes NotUtf8 differs e h = ended_some at end 256 bytes e (sym h)

@@ -5,12 +5,12 @@ use Rattle.std.proofs.lemmas.Bool.Decides.{nat_tests}
 use Rattle.std.specs.Prelude.{slice_range}
 use Rattle.erl_number.specs.declared.run.Run.{Run}
 use Rattle.erl_number.specs.declared.run.Run.TheVariants.{InName, InQuotes, InComment, InDigits, InBlanks, InText}
-use Rattle.erl_number.specs.Escapes.{front}
+use Rattle.erl_number.specs.Escapes.{leading}
 use Rattle.erl_number.specs.Views.{seal}
 use Rattle.erl_number.specs.Scanned.{goes_on_with, stands_at}
 use Rattle.erl_number.specs.declared.text.At.{At}
 use Rattle.erl_number.specs.declared.text.At.TheVariants.{Byte, NotUtf8, End}
-use Rattle.erl_number.proofs.Runs.{front-take, front_le, run_stops, run_past}
+use Rattle.erl_number.proofs.Runs.{leading-take, leading_le, run_stops, run_past}
 
 -- no run goes on over the end of the bytes that are UTF-8
 pub stops_at_seal : (run : Run) → goes_on_with run 256 ≡ false
@@ -21,27 +21,27 @@ stops_at_seal InDigits = refl
 stops_at_seal InBlanks = refl
 stops_at_seal InText = refl
 
-front-seal : (p : ℕ → Bool) (b : Bool) → p 256 ≡ false → front p (seal b) ≡ []
-front-seal p true e = rw e refl
-front-seal p false e = refl
+leading-seal : (p : ℕ → Bool) (b : Bool) → p 256 ≡ false → leading p (seal b) ≡ []
+leading-seal p true e = rw e refl
+leading-seal p false e = refl
 
-front-append_seal : (p : ℕ → Bool) (xs : List ℕ) (b : Bool) → p 256 ≡ false → front p (xs ++ seal b) ≡ front p xs
-front-append_seal p [] b e = front-seal p b e
-front-append_seal p (x ∷ xs) b e = ap (λ ys. if p x then x ∷ ys else []) (front-append_seal p xs b e)
+leading-append_seal : (p : ℕ → Bool) (xs : List ℕ) (b : Bool) → p 256 ≡ false → leading p (xs ++ seal b) ≡ leading p xs
+leading-append_seal p [] b e = leading-seal p b e
+leading-append_seal p (x ∷ xs) b e = ap (λ ys. if p x then x ∷ ys else []) (leading-append_seal p xs b e)
 
 -- a run of a text is one of its bytes that are UTF-8
 pub run_valid : (run : Run) (valid : List ℕ) (b : Bool) (from : ℕ) → from ≤ length valid
-    → front (goes_on_with run) (drop from (valid ++ seal b)) ≡ front (goes_on_with run) (drop from valid)
-run_valid run valid b from l = rw (drop-append-le from valid (seal b) l) (front-append_seal (goes_on_with run) (drop from valid) b (stops_at_seal run))
+    → leading (goes_on_with run) (drop from (valid ++ seal b)) ≡ leading (goes_on_with run) (drop from valid)
+run_valid run valid b from l = rw (drop-append-le from valid (seal b) l) (leading-append_seal (goes_on_with run) (drop from valid) b (stops_at_seal run))
 
-pub run_within : (run : Run) (valid : List ℕ) (from : ℕ) → from ≤ length valid → from + length (front (goes_on_with run) (drop from valid)) ≤ length valid
-run_within run valid from l = omega (arith, front_le (goes_on_with run) (drop from valid), length-drop from valid)
+pub run_within : (run : Run) (valid : List ℕ) (from : ℕ) → from ≤ length valid → from + length (leading (goes_on_with run) (drop from valid)) ≤ length valid
+run_within run valid from l = omega (arith, leading_le (goes_on_with run) (drop from valid), length-drop from valid)
 
-pub run_part : (run : Run) (valid : List ℕ) (from to : ℕ) → to ≡ from + length (front (goes_on_with run) (drop from valid))
-    → slice_range valid from to ≡ front (goes_on_with run) (drop from valid)
+pub run_part : (run : Run) (valid : List ℕ) (from to : ℕ) → to ≡ from + length (leading (goes_on_with run) (drop from valid))
+    → slice_range valid from to ≡ leading (goes_on_with run) (drop from valid)
 run_part run valid from to e =
-    let long : to - from ≡ length (front (goes_on_with run) (drop from valid)) = omega arith in
-    ap (λ n. take n (drop from valid)) long ∙ sym (front-take (goes_on_with run) (drop from valid))
+    let long : to - from ≡ length (leading (goes_on_with run) (drop from valid)) = omega arith in
+    ap (λ n. take n (drop from valid)) long ∙ sym (leading-take (goes_on_with run) (drop from valid))
 
 -- a byte of the text that is one
 pub byte_valid : (valid : List ℕ) (b : Bool) (at : ℕ) → at < length (valid ++ seal b) → get_or (valid ++ seal b) at 0 < 256
@@ -60,7 +60,7 @@ byte_valid valid false at l small =
     ((let h : at < length (valid ++ []) = l in rw same at h), ap (λ xs. get_or xs at 0) same)
 
 -- a run ends where no byte stands
-pub run_ends : (run : Run) (xs : List ℕ) (i : ℕ) (there : At) → ((b : ℕ) → there ≡ Byte b → ⊥) → stands_at there ≡ slice_get xs i → length (front (goes_on_with run) (drop i xs)) ≡ 0
+pub run_ends : (run : Run) (xs : List ℕ) (i : ℕ) (there : At) → ((b : ℕ) → there ≡ Byte b → ⊥) → stands_at there ≡ slice_get xs i → length (leading (goes_on_with run) (drop i xs)) ≡ 0
 run_ends run xs i (Byte b) differs e = absurd (differs b refl)
 run_ends run xs i NotUtf8 differs e = run_stops (goes_on_with run) xs i 256 (sym e) (stops_at_seal run)
 run_ends run xs i End differs e = run_past (goes_on_with run) xs i (sym e)

@@ -8,7 +8,7 @@ use Rattle.std.proofs.Math.Seq.{take-length, take-append_seam}
 use Rattle.std.proofs.lemmas.Bool.Decides.{nat_tests}
 use Rattle.std.proofs.lemmas.Str.{utf8_valid_len_le, utf8_valid_len-IsUtf8}
 use Rattle.erl_number.specs.Texts.{sealed}
-use Rattle.erl_number.specs.Escapes.{front}
+use Rattle.erl_number.specs.Escapes.{leading}
 use Rattle.erl_number.specs.Views.{seal}
 
 pub sealed-nil : (bytes : List ℕ) → length bytes ≡ 0 → [] ≡ sealed bytes
@@ -47,41 +47,41 @@ drop_none (x ∷ xs) (suc i) e = drop_none xs i e
 
 -- how far a run goes, from a place on
 pub run_more : (p : ℕ → Bool) (xs : List ℕ) (i b : ℕ) → slice_get xs i ≡ Some b → p b ≡ true
-    → length (front p (drop i xs)) ≡ length (front p (drop (i + 1) xs)) + 1
+    → length (leading p (drop i xs)) ≡ length (leading p (drop (i + 1) xs)) + 1
 run_more p xs i b e h = rw (drop_some xs i b e, h) (omega arith)
 
-pub run_stops : (p : ℕ → Bool) (xs : List ℕ) (i b : ℕ) → slice_get xs i ≡ Some b → p b ≡ false → length (front p (drop i xs)) ≡ 0
+pub run_stops : (p : ℕ → Bool) (xs : List ℕ) (i b : ℕ) → slice_get xs i ≡ Some b → p b ≡ false → length (leading p (drop i xs)) ≡ 0
 run_stops p xs i b e h = rw (drop_some xs i b e, h) refl
 
-pub run_past : (p : ℕ → Bool) (xs : List ℕ) (i : ℕ) → slice_get xs i ≡ None → length (front p (drop i xs)) ≡ 0
+pub run_past : (p : ℕ → Bool) (xs : List ℕ) (i : ℕ) → slice_get xs i ≡ None → length (leading p (drop i xs)) ≡ 0
 run_past p xs i e = rw (drop_none xs i e) refl
 
-pub front-take : (p : ℕ → Bool) (xs : List ℕ) → front p xs ≡ take (length (front p xs)) xs
-front-take p [] = refl
-front-take p (x ∷ xs) = go (p x) (front-take p xs)
+pub leading-take : (p : ℕ → Bool) (xs : List ℕ) → leading p xs ≡ take (length (leading p xs)) xs
+leading-take p [] = refl
+leading-take p (x ∷ xs) = go (p x) (leading-take p xs)
   where
-    go : (b : Bool) → front p xs ≡ take (length (front p xs)) xs → (if b then x ∷ front p xs else []) ≡ take (length (if b then x ∷ front p xs else [])) (x ∷ xs)
+    go : (b : Bool) → leading p xs ≡ take (length (leading p xs)) xs → (if b then x ∷ leading p xs else []) ≡ take (length (if b then x ∷ leading p xs else [])) (x ∷ xs)
     go true e = ap (λ ys. x ∷ ys) e
     go false e = refl
 
-pub front_le : (p : ℕ → Bool) (xs : List ℕ) → length (front p xs) ≤ length xs
-front_le p [] = omega arith
-front_le p (x ∷ xs) = go (p x) (front_le p xs)
+pub leading_le : (p : ℕ → Bool) (xs : List ℕ) → length (leading p xs) ≤ length xs
+leading_le p [] = omega arith
+leading_le p (x ∷ xs) = go (p x) (leading_le p xs)
   where
-    go : (b : Bool) → length (front p xs) ≤ length xs → length (if b then x ∷ front p xs else []) ≤ length (x ∷ xs)
+    go : (b : Bool) → length (leading p xs) ≤ length xs → length (if b then x ∷ leading p xs else []) ≤ length (x ∷ xs)
     go true e = omega arith
     go false e = omega arith
 
 -- each byte of a run passes
-pub front_passes : (p : ℕ → Bool) (xs : List ℕ) (k : ℕ) → k < length (front p xs) → p (get_or xs k 0) ≡ true
-front_passes p [] k l = absurd (omega arith)
-front_passes p (x ∷ xs) zero l = go (p x) refl l
+pub leading_passes : (p : ℕ → Bool) (xs : List ℕ) (k : ℕ) → k < length (leading p xs) → p (get_or xs k 0) ≡ true
+leading_passes p [] k l = absurd (omega arith)
+leading_passes p (x ∷ xs) zero l = go (p x) refl l
   where
-    go : (b : Bool) → p x ≡ b → 0 < length (if b then x ∷ front p xs else []) → p x ≡ true
+    go : (b : Bool) → p x ≡ b → 0 < length (if b then x ∷ leading p xs else []) → p x ≡ true
     go true e l = e
     go false e l = absurd (omega arith)
-front_passes p (x ∷ xs) (suc k) l = go (λ h. front_passes p xs k h) (p x) l
+leading_passes p (x ∷ xs) (suc k) l = go (λ h. leading_passes p xs k h) (p x) l
   where
-    go : (k < length (front p xs) → p (get_or xs k 0) ≡ true) → (b : Bool) → suc k < length (if b then x ∷ front p xs else []) → p (get_or xs k 0) ≡ true
+    go : (k < length (leading p xs) → p (get_or xs k 0) ≡ true) → (b : Bool) → suc k < length (if b then x ∷ leading p xs else []) → p (get_or xs k 0) ≡ true
     go more true l = more (omega arith)
     go more false l = absurd (omega arith)

@@ -9,9 +9,9 @@ abbrev pub is_in : ℕ → ℕ → ℕ → Bool
 is_in low high x = nat_le low x && nat_le x high
 
 -- the bytes up to the first that doesn't pass
-abbrev pub front : (ℕ → Bool) → List ℕ → List ℕ
-front p [] = []
-front p (x ∷ xs) = if p x then x ∷ front p xs else []
+abbrev pub leading : (ℕ → Bool) → List ℕ → List ℕ
+leading p [] = []
+leading p (x ∷ xs) = if p x then x ∷ leading p xs else []
 
 -- A character that so many bytes spell, bytes that spell none, or bytes that end within one.
 pub data Character : Type 0 where
@@ -39,12 +39,12 @@ scalar c size = if nat_lt c 0xD800 || is_in 0xE000 0x10FFFF c then means c size 
 
 -- one to three octal digits
 abbrev pub octal : List ℕ → Character
-octal xs = let ds = take 3 (front (λ c. is_digit c 8) xs) in scalar (digits_value 8 ds) (length ds)
+octal xs = let ds = take 3 (leading (λ c. is_digit c 8) xs) in scalar (digits_value 8 ds) (length ds)
 
 -- hexadecimal digits up to a brace, behind `x{`
 abbrev pub braced : List ℕ → Character
 braced xs =
-    let ds = front (λ c. is_digit c 16) xs in
+    let ds = leading (λ c. is_digit c 16) xs in
     with_next (drop (length ds) xs) (λ y ys. if y == 125 && nat_lt 0 (length ds) then scalar (digits_value 16 ds) (length ds + 3) else senseless)
 
 -- two hexadecimal digits, behind `x`

@@ -5,7 +5,7 @@ use Rattle.std.specs.Str.{bytes_eq}
 use Rattle.std.specs.Str.Parse.{digits_value}
 use Rattle.erl_number.specs.declared.fault.TermFault.{TermFault}
 use Rattle.erl_number.specs.declared.fault.TermFault.TheVariants.{BadToken, BadNumber, Unsupported}
-use Rattle.erl_number.specs.Escapes.{Character, is_in, front, itself, escape}
+use Rattle.erl_number.specs.Escapes.{Character, is_in, leading, itself, escape}
 use Rattle.erl_number.specs.Escapes.Character.{means, senseless, unfinished}
 
 -- A number of so many bytes, bytes with a fault, or bytes that end within.
@@ -49,7 +49,7 @@ is_alphanumeric x = is_digit x 36
 -- the number behind a base and `#`, of so many bytes with these: all letters, digits and `_` are taken for digits
 abbrev pub in_base : ℕ → ℕ → ℕ → List ℕ → Numeral
 in_base start base size xs =
-    let row = front (λ x. is_alphanumeric x || x == 95) xs in
+    let row = leading (λ x. is_alphanumeric x || x == 95) xs in
     unless_float start (drop (length row) xs)
     (if is_in 2 36 base && bytes_eq (digit_row base xs) row then whole (spelled_by base row) (size + length row) else faulty (BadNumber start))
 

@@ -11,7 +11,7 @@ pub enum TermFault {
     /// A byte or a token that can't stand there, or a token that the end cuts off where no bracket is open.
     BadToken(usize),
     /// A number outside 64 bits signed, of a base outside 2 to 36, or with a digit outside its base; or a segment of a binary
-    /// that is no byte or has a character that is none. It is told where it begins.
+    /// that is no byte or has a character that is none. It is reported where it begins.
     BadNumber(usize),
     /// The innermost bracket or quote that is open at the end.
     Unclosed(usize),

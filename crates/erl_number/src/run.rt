@@ -1,7 +1,7 @@
 //! Bytes in a row.
 ghost use Rattle.std.specs.Prelude.{◌≡◌, ◌+◌, ◌≤◌, ◌^◌, length, drop};
 ghost use Rattle.std.specs.Str.{IsUtf8};
-ghost use Rattle.erl_number.specs.Escapes.{is_in, front};
+ghost use Rattle.erl_number.specs.Escapes.{is_in, leading};
 ghost use Rattle.erl_number.specs.Views.{text_bytes};
 ghost use Rattle.erl_number.specs.Scanned.{goes_on_with};
 
@@ -49,7 +49,7 @@ fn is_small_letter(byte: u8) -> bool
 pub fn run_end(text: Text<'_>, run: Run, from: usize) -> usize
     requires { from ≤ 2 ^ 63 }
     ensures end { result ≡ from + length
-        (front (goes_on_with run) (drop from (text_bytes text.entry))) }
+        (leading (goes_on_with run) (drop from (text_bytes text.entry))) }
     ensures within { result ≤ 2 ^ 63 }
     ensures utf8 { IsUtf8 text.entry.valid.now }
 {

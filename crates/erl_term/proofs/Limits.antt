@@ -6,7 +6,7 @@ use Rattle.std.specs.Str.{chars, bytes_eq}
 use Rattle.erl_number.specs.declared.fault.TermFault.TheVariants.{BadToken, BadNumber, Unsupported}
 use Rattle.erl_token.specs.declared.class.Class.{Class}
 use Rattle.erl_token.specs.declared.class.Class.TheVariants.{Blank, Percent, Dot, Less, Greater, Quote, Apostrophe, Dollar, Sign, Letter, Digit}
-use Rattle.erl_number.specs.Escapes.{front}
+use Rattle.erl_number.specs.Escapes.{leading}
 use Rattle.erl_number.specs.Numbers.{Numeral, numeral, is_int}
 use Rattle.erl_number.specs.Numbers.Numeral.{whole, faulty as faulty_number, cut_off}
 use Rattle.erl_token.specs.Quotes.{Quoted, quoted}
@@ -88,11 +88,11 @@ spelling_short : (at : ℕ) (class : Class) (x : ℕ) (xs : List ℕ) → IsShor
 spelling_short at Less x xs = doubled_short open_binary x xs tt
 spelling_short at Greater x xs = doubled_short close_binary x xs tt
 spelling_short at Dot x xs = dot_short (ends_a_term xs) x
-spelling_short at Letter x xs = bare_short at (x ∷ front is_bare_name_byte xs)
+spelling_short at Letter x xs = bare_short at (x ∷ leading is_bare_name_byte xs)
 spelling_short at Digit x xs = numbered_short at pos 0 (numeral at at (x ∷ xs))
 spelling_short at Dollar x xs = numbered_short at pos 0 (numeral at at (x ∷ xs))
 spelling_short at Sign x xs =
-    let n = length (front (λ y. nat_le y 32) xs) in numbered_short at (sign_of x) (n + 1) (numeral at (at + 1 + n) (drop n xs))
+    let n = length (leading (λ y. nat_le y 32) xs) in numbered_short at (sign_of x) (n + 1) (numeral at (at + 1 + n) (drop n xs))
 spelling_short at Quote x xs = quoted_text_short (quoted 34 at (at + 1) 0 xs)
 spelling_short at Apostrophe x xs = quoted_name_short at (quoted 39 at (at + 1) 0 xs)
 spelling_short at class x xs = tt

@@ -6,44 +6,44 @@ use Rattle.erl_number.specs.declared.fault.TermFault.TheVariants.{Unclosed}
 use Rattle.erl_token.specs.Lexing.{Token, Item, items_of}
 use Rattle.erl_token.specs.Lexing.Token.{dot, broken, cut}
 use Rattle.erl_term.specs.Grammar.{tokens, Reading}
-use Rattle.erl_term.specs.Faults.{Viable, MayCome, Tells, TellsOwn, TellsCut, TellsPlace, IsMisplaced, TellsEnd, IsInnermost, IsFault}
+use Rattle.erl_term.specs.Faults.{Viable, MayCome, Reports, ReportsOwn, ReportsCut, ReportsPlace, IsMisplaced, ReportsEnd, IsInnermost, IsFault}
 use Rattle.erl_term.specs.Machine.{State, run, nothing_read}
 use Rattle.erl_term.specs.Machine.State.{whole}
 use Rattle.erl_term.proofs.Passes.{progress}
-use Rattle.erl_term.proofs.Viability.{plain, viable_front, viable_runs, may_not_come}
+use Rattle.erl_term.proofs.Viability.{plain, viable_prefix, viable_runs, may_not_come}
 use Rattle.erl_term.proofs.Innermost.{whole_has_none, one_innermost}
-use Rattle.erl_term.proofs.Refusals.{place_told}
+use Rattle.erl_term.proofs.Refusals.{place_reported}
 use Rattle.erl_term.proofs.Places.{AreSame, IsBefore, places}
 
 came : (limit : ℕ) (is before after : List Item) (i : Item) → is ≡ before ++ (i ∷ after) → Viable limit (tokens is) → MayCome limit (tokens before) i.token
 came limit is before after i split viable =
-    viable_front limit (tokens before ++ i.token ∷ []) (tokens after)
+    viable_prefix limit (tokens before ++ i.token ∷ []) (tokens after)
     (subst (λ ts. Viable limit ts) (ap tokens split ∙ (map-append (λ i. i.token) before (i ∷ after) ∙ sym (append_assoc (tokens before) (i.token ∷ []) (tokens after)))) viable)
 
 -- a dot may come behind a whole term alone
 whole_at_dot : (limit : ℕ) (is : List Item) → MayCome limit (tokens is) dot → (done : List Reading) × (r : Reading) × (run limit nothing_read is ≡ Ok (progress done (whole r)))
 whole_at_dot limit is may =
-    let (p, runs) = viable_runs limit is (viable_front limit (tokens is) (dot ∷ []) may) in
+    let (p, runs) = viable_runs limit is (viable_prefix limit (tokens is) (dot ∷ []) may) in
     go p.done p.state runs
   where
     go : (done : List Reading) (s : State) → run limit nothing_read is ≡ Ok (progress done s) → (done : List Reading) × (r : Reading) × (run limit nothing_read is ≡ Ok (progress done (whole r)))
     go done (whole r) runs = (done, r, runs)
     go done s runs = absurd (may_not_come limit is (progress done s) (plain dot) runs refl may)
 
--- the place of a token tells one fault
-one_place : (limit : ℕ) (is : List Item) (i : Item) (f g : TermFault) → Viable limit (tokens is) → TellsPlace limit (tokens is) i f → TellsPlace limit (tokens is) i g → f ≡ g
+-- the place of a token reports one fault
+one_place : (limit : ℕ) (is : List Item) (i : Item) (f g : TermFault) → Viable limit (tokens is) → ReportsPlace limit (tokens is) i f → ReportsPlace limit (tokens is) i g → f ≡ g
 one_place limit is i f g viable p q =
     let (read, runs) = viable_runs limit is viable in
-    place_told limit is read i f runs p ∙ sym (place_told limit is read i g runs q)
+    place_reported limit is read i f runs p ∙ sym (place_reported limit is read i g runs q)
 
--- the end within what begins there tells one fault
-one_cut : (is : List Item) (at : ℕ) (f g : TermFault) → TellsCut is at f → TellsCut is at g → f ≡ g
+-- the end within what begins there reports one fault
+one_cut : (is : List Item) (at : ℕ) (f g : TermFault) → ReportsCut is at f → ReportsCut is at g → f ≡ g
 one_cut is at f g (inl (i, innermost, d)) (inl (j, innermost_too, e)) = d ∙ ((λ k. Unclosed (one_innermost is i j innermost innermost_too k).from) ∙ sym e)
 one_cut is at f g (inl (i, innermost, d)) (inr (none, e)) = absurd (none i innermost)
 one_cut is at f g (inr (none, d)) (inl (i, innermost, e)) = absurd (none i innermost)
 one_cut is at f g (inr (none, d)) (inr (none_too, e)) = d ∙ sym e
 
--- A token that can't follow these tells one fault: its own, or that of its place.
+-- A token that can't follow these reports one fault: its own, or that of its place.
 one_of_both : (P : Type 0) (Own Q : TermFault → Type 0) (f g : TermFault) → ((f g : TermFault) → Own f → Own g → f ≡ g) → ((f g : TermFault) → Q f → Q g → f ≡ g)
     → (P × Own f) ⊎ ((P → ⊥) × Q f) → (P × Own g) ⊎ ((P → ⊥) × Q g) → f ≡ g
 one_of_both P Own Q f g one_own one (inl (may, d)) (inl (may_too, e)) = one_own f g d e
@@ -56,21 +56,21 @@ one_of_place f g Q one (inl never) q = absurd never
 one_of_place f g Q one (inr p) (inl never) = absurd never
 one_of_place f g Q one (inr (u, p)) (inr (v, q)) = one f g p q
 
-one_told : (limit : ℕ) (is : List Item) (i : Item) (t : Token) (f g : TermFault) → Viable limit (tokens is)
-    → TellsOwn limit is i.from t f ⊎ (IsMisplaced limit (tokens is) t × TellsPlace limit (tokens is) i f)
-    → TellsOwn limit is i.from t g ⊎ (IsMisplaced limit (tokens is) t × TellsPlace limit (tokens is) i g) → f ≡ g
-one_told limit is i (broken like own) f g viable p q =
-    one_of_both (MayCome limit (tokens is) like) (λ f. f ≡ own) (TellsPlace limit (tokens is) i) f g (λ f g d e. d ∙ sym e) (λ f g. one_place limit is i f g viable) p q
-one_told limit is i (cut like) f g viable p q =
-    one_of_both (MayCome limit (tokens is) like) (TellsCut is i.from) (TellsPlace limit (tokens is) i) f g (one_cut is i.from) (λ f g. one_place limit is i f g viable) p q
-one_told limit is i t f g viable p q = one_of_place f g (TellsPlace limit (tokens is) i) (λ f g. one_place limit is i f g viable) p q
+one_reported : (limit : ℕ) (is : List Item) (i : Item) (t : Token) (f g : TermFault) → Viable limit (tokens is)
+    → ReportsOwn limit is i.from t f ⊎ (IsMisplaced limit (tokens is) t × ReportsPlace limit (tokens is) i f)
+    → ReportsOwn limit is i.from t g ⊎ (IsMisplaced limit (tokens is) t × ReportsPlace limit (tokens is) i g) → f ≡ g
+one_reported limit is i (broken like own) f g viable p q =
+    one_of_both (MayCome limit (tokens is) like) (λ f. f ≡ own) (ReportsPlace limit (tokens is) i) f g (λ f g d e. d ∙ sym e) (λ f g. one_place limit is i f g viable) p q
+one_reported limit is i (cut like) f g viable p q =
+    one_of_both (MayCome limit (tokens is) like) (ReportsCut is i.from) (ReportsPlace limit (tokens is) i) f g (one_cut is i.from) (λ f g. one_place limit is i f g viable) p q
+one_reported limit is i t f g viable p q = one_of_place f g (ReportsPlace limit (tokens is) i) (λ f g. one_place limit is i f g viable) p q
 
 -- where a dot may come no bracket is open
 none_open : (limit : ℕ) (is : List Item) (i : Item) → MayCome limit (tokens is) dot → IsInnermost is i → ⊥
 none_open limit is i may innermost = let (done, r, runs) = whole_at_dot limit is may in whole_has_none limit is done r runs i innermost
 
--- the end tells one fault
-one_end : (limit size : ℕ) (is : List Item) (f g : TermFault) → TellsEnd limit size is f → TellsEnd limit size is g → f ≡ g
+-- the end reports one fault
+one_end : (limit size : ℕ) (is : List Item) (f g : TermFault) → ReportsEnd limit size is f → ReportsEnd limit size is g → f ≡ g
 one_end limit size is f g (inl (may, d)) (inl (may_too, e)) = d ∙ sym e
 one_end limit size is f g (inl (may, d)) (inr (i, innermost, e)) = absurd (none_open limit is i may innermost)
 one_end limit size is f g (inr (i, innermost, d)) (inl (may, e)) = absurd (none_open limit is i may innermost)
@@ -85,7 +85,7 @@ one_fault limit bytes f g (inl (before, after, i, split, front, may_not, p)) (in
   where
     go : AreSame before after x y i j ⊎ (IsBefore before after x y i j ⊎ IsBefore x y before after j i) → f ≡ g
     go (inl s) =
-        let moved : Tells limit before i g = subst (λ b. Tells limit b i g) (sym s.before) (subst (λ k. Tells limit x k g) (sym s.here) q) in
-        one_told limit before i i.token f g front p moved
+        let moved : Reports limit before i g = subst (λ b. Reports limit b i g) (sym s.before) (subst (λ k. Reports limit x k g) (sym s.here) q) in
+        one_reported limit before i i.token f g front p moved
     go (inr (inl s)) = absurd (may_not (came limit x before s.between i s.further front_too))
     go (inr (inr s)) = absurd (may_not_too (came limit before x s.between j s.further front))

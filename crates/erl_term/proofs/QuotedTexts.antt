@@ -11,7 +11,7 @@ use Rattle.std.proofs.lemmas.Bool.{and_parts, and_from}
 use Rattle.std.proofs.lemmas.Bool.Decides.{nat_tests}
 use Rattle.std.proofs.lemmas.Fmt.{digits_is_IsNumeral}
 use Rattle.std.proofs.lemmas.Str.{chars-encodes, encodes-chars, scalars-chars}
-use Rattle.erl_number.specs.Escapes.{front, with_next, scalar, escape}
+use Rattle.erl_number.specs.Escapes.{leading, with_next, scalar, escape}
 use Rattle.erl_number.specs.Escapes.Character.{means, senseless}
 use Rattle.erl_token.specs.Quotes.{behind, quoted}
 use Rattle.erl_token.specs.Quotes.Quoted.{closed}
@@ -137,11 +137,11 @@ escape-itself rest = (refl, refl, refl)
 escape-named : (rest : List ℕ) → (escape (116 ∷ rest) ≡ means 9 1) × (escape (110 ∷ rest) ≡ means 10 1) × (escape (114 ∷ rest) ≡ means 13 1)
 escape-named rest = (refl, refl, refl)
 
-hexadecimals-front : (ds rest : List ℕ) → AllDigits 16 ds → front (λ c. is_digit c 16) (ds ++ (125 ∷ rest)) ≡ ds
-hexadecimals-front [] rest h = refl
-hexadecimals-front (d ∷ ds) rest h =
+hexadecimals-leading : (ds rest : List ℕ) → AllDigits 16 ds → leading (λ c. is_digit c 16) (ds ++ (125 ∷ rest)) ≡ ds
+hexadecimals-leading [] rest h = refl
+hexadecimals-leading (d ∷ ds) rest h =
     let digit : is_digit d 16 ≡ true = let first = h.0 in grind (arith, nat_tests) in
-    rw digit (ap (λ xs. d ∷ xs) (hexadecimals-front ds rest h.1))
+    rw digit (ap (λ xs. d ∷ xs) (hexadecimals-leading ds rest h.1))
 
 -- hexadecimal digits between braces
 escape-hexadecimal : (c : ℕ) (ds rest : List ℕ) → IsNumeral 16 ds → digits_value 16 ds ≡ c → c < 128 → escape (120 ∷ (123 ∷ (ds ++ (125 ∷ rest)))) ≡ means c (length ds + 3)
@@ -151,7 +151,7 @@ escape-hexadecimal c ds rest h e l =
     let ends : with_next (125 ∷ rest) (λ y ys. if y == 125 && nat_lt 0 (length ds) then scalar (digits_value 16 ds) (length ds + 3) else senseless) ≡ means c (length ds + 3) =
     rw (some, e, low) refl in
     ap (λ fs. with_next (drop (length fs) (ds ++ (125 ∷ rest))) (λ y ys. if y == 125 && nat_lt 0 (length fs) then scalar (digits_value 16 fs) (length fs + 3) else senseless))
-    (hexadecimals-front ds rest h.1)
+    (hexadecimals-leading ds rest h.1)
     ∙ (ap (λ ys. with_next ys (λ y ys. if y == 125 && nat_lt 0 (length ds) then scalar (digits_value 16 ds) (length ds + 3) else senseless)) (drop-append_seam ds (125 ∷ rest))
     ∙ ends)
 

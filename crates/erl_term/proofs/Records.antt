@@ -7,7 +7,7 @@ use Rattle.erl_term.specs.declared.term.Term.{Term}
 use Rattle.erl_term.specs.Value.{Value, value_of}
 use Rattle.erl_term.specs.Grammar.{Reading, Reads}
 use Rattle.erl_term.specs.Answers.{reading_of_spanned}
-use Rattle.erl_term.specs.OneTerm.{HasTerm, TellsCount, IsRecordFault, TellsRecordFault}
+use Rattle.erl_term.specs.OneTerm.{HasTerm, ReportsCount, IsRecordFault, ReportsRecordFault}
 use Rattle.erl_term.specs.Machine.{reading_of}
 use Rattle.erl_term.specs.Views.{GivesTerms}
 use Rattle.erl_term.proofs.Exact.{ok_reads, reads_ok, err_is_fault, one_reading}
@@ -21,11 +21,11 @@ passed_only limit bytes f (Err g) is read v has =
     let never : Err f ≡ Ok (has.0 ∷ []) = sym read ∙ reads_ok limit bytes (has.0 ∷ []) has.1 in absurd (cc)
 
 pub passed_fault : (limit : ℕ) (bytes : List ℕ) (f : TermFault) (r : Result Term TermFault) → IsErr r × IsErrAnd r (λ g. g ≡ f)
-    → GivesTerms (Err f) (reading_of limit bytes) → IfErr r (TellsRecordFault limit bytes)
+    → GivesTerms (Err f) (reading_of limit bytes) → IfErr r (ReportsRecordFault limit bytes)
 passed_fault limit bytes f (Ok t) is read = tt
-passed_fault limit bytes f (Err g) is read = subst (λ h. TellsRecordFault limit bytes h) (sym is.1) (own f read)
+passed_fault limit bytes f (Err g) is read = subst (λ h. ReportsRecordFault limit bytes h) (sym is.1) (own f read)
   where
-    own : (f : TermFault) → GivesTerms (Err f) (reading_of limit bytes) → TellsRecordFault limit bytes f
+    own : (f : TermFault) → GivesTerms (Err f) (reading_of limit bytes) → ReportsRecordFault limit bytes f
     own NoMemory read = tt
     own f read = inl (err_is_fault limit bytes f read)
 
@@ -48,7 +48,7 @@ module _ (limit : ℕ) (bytes : List ℕ) (terms : List Spanned) (read : reading
   pub none_fault : length terms ≡ 0 → IsRecordFault limit bytes (MissingDot (length bytes))
   none_fault none = inr (map reading_of_spanned terms, reads_all, go terms none)
     where
-      go : (ts : List Spanned) → length ts ≡ 0 → TellsCount (length bytes) (map reading_of_spanned ts) (MissingDot (length bytes))
+      go : (ts : List Spanned) → length ts ≡ 0 → ReportsCount (length bytes) (map reading_of_spanned ts) (MissingDot (length bytes))
       go [] none = refl
       go (t ∷ ts) none = absurd (omega (arith, none))
 
@@ -62,9 +62,9 @@ module _ (limit : ℕ) (bytes : List ℕ) (terms : List Spanned) (read : reading
 
   pub several_fault : (all : List Spanned) (second : Spanned) → all ≡ terms → 1 < length all → second ≡ get_or all 1 second
       → IsRecordFault limit bytes (MissingDot second.from)
-  several_fault all second same more is = inr (map reading_of_spanned terms, reads_all, subst (λ ts. TellsCount (length bytes) (map reading_of_spanned ts) (MissingDot second.from)) same (go all more is))
+  several_fault all second same more is = inr (map reading_of_spanned terms, reads_all, subst (λ ts. ReportsCount (length bytes) (map reading_of_spanned ts) (MissingDot second.from)) same (go all more is))
     where
-      go : (ts : List Spanned) → 1 < length ts → second ≡ get_or ts 1 second → TellsCount (length bytes) (map reading_of_spanned ts) (MissingDot second.from)
+      go : (ts : List Spanned) → 1 < length ts → second ≡ get_or ts 1 second → ReportsCount (length bytes) (map reading_of_spanned ts) (MissingDot second.from)
       go [] more is = absurd (omega (arith, more))
       go (t ∷ []) more is = absurd (omega (arith, more))
       go (t ∷ u ∷ ts) more is = ap (λ (s : Spanned). MissingDot s.from) is

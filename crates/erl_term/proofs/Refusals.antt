@@ -1,4 +1,4 @@
--- What each state of the machine lets come, and so what its refusal tells.
+-- What each state of the machine lets come, and so what its refusal reports.
 use Rattle.std.proofs.Common.{◌≡◌, ℕ, pos, ◌⊎◌, inl, inr, Bool, true, false, ◌||◌, eqb, List, [], ◌∷◌, ◌++◌, Option, Some, None, Ok, if◌then◌else◌, refl, sym, ◌∙◌, ap, subst, arith, append_assoc}
 use Rattle.std.proofs.lemmas.List.{map-append}
 use Rattle.std.proofs.lemmas.Bool.Decides.{nat_tests}
@@ -14,13 +14,13 @@ use Rattle.erl_term.specs.Value.Value.{int, atom}
 use Rattle.erl_token.specs.Lexing.{Token, Item, some_name, some_number}
 use Rattle.erl_token.specs.Lexing.Token.{dot, stray}
 use Rattle.erl_term.specs.Grammar.{tokens, Reading}
-use Rattle.erl_term.specs.Faults.{Viable, MayCome, IsInside, IsLeftOut, TellsPlace, for_a_term, for_a_segment}
+use Rattle.erl_term.specs.Faults.{Viable, MayCome, IsInside, IsLeftOut, ReportsPlace, for_a_term, for_a_segment}
 use Rattle.erl_term.specs.Machine.{Level, State, Progress, kind_of, bracket_of, with_member, is_same, is_binary, added, open_levels, put, at_kind, next, is_left_out, misplaced, misplaced_inside, run, nothing_read}
 use Rattle.erl_term.specs.Machine.State.{begun, whole, inside}
 use Rattle.erl_term.specs.Machine.Kind.{leaf}
 use Rattle.erl_term.proofs.Passes.{progress, reading, closes, kind_of-closes, next_leaf, next_closing, bracket_of-with_member}
 use Rattle.erl_term.proofs.StateLemmas.{same_bracket, some_same}
-use Rattle.erl_term.proofs.Viability.{plain, zero_adds, runs_on, viable_front, may_come, may_not_come}
+use Rattle.erl_term.proofs.Viability.{plain, zero_adds, runs_on, viable_prefix, may_come, may_not_come}
 
 -- Members and ends of brackets
 
@@ -68,7 +68,7 @@ never_inside limit is p b t v bytes e k h (inr viable) = go (next limit p (plain
         (close_refused limit q.done q.state b (member_keeps limit p.done p.state q b t v bytes k n h)) (subst (λ ts. Viable limit ts) both viable)
     go None n =
         may_not_come limit is p (plain t) e n
-        (viable_front limit (tokens is ++ t ∷ []) (closes b ∷ []) (subst (λ ts. Viable limit ts) (sym (append_assoc (tokens is) (t ∷ []) (closes b ∷ []))) viable))
+        (viable_prefix limit (tokens is ++ t ∷ []) (closes b ∷ []) (subst (λ ts. Viable limit ts) (sym (append_assoc (tokens is) (t ∷ []) (closes b ∷ []))) viable))
 
 -- the innermost bracket may be closed, at once or behind a member
 comes_inside : (limit : ℕ) (is : List Item) (done : List Reading) (slot : Slot) (l : Level) (ls : List Level) (t : Token) (v : Value) (bytes : Option (List ℕ)) (bs : List ℕ)
@@ -162,7 +162,7 @@ no_name limit is done s ls e free within may = may_not_come limit is (progress d
 
 -- The place of a refused token
 
--- what may come where a member may begin, and what is told there
+-- what may come where a member may begin, and what is reported there
 pub record AtMember (limit : ℕ) (is : List Item) (s : State) (b : Bracket) : Type 0 where
   pub number : MayCome limit (tokens is) some_number
   pub name : is_same b Binary ≡ false → MayCome limit (tokens is) some_name
@@ -178,38 +178,38 @@ at_member limit is done s l ls e free ends = record {
   no_dot = may_not_come limit is (progress done s) (plain dot) e ends;
 }
 
--- the fault that a place for a member tells
+-- the fault that a place for a member reports
 abbrev pub for_a_member : Bracket → Token → ℕ → TermFault
 for_a_member Binary t at = for_a_segment t at
 for_a_member b t at = for_a_term t at
 
-member_tells : (limit : ℕ) (is : List Item) (s : State) (i : Item) (b : Bracket) → AtMember limit is s b → (IsLeftOut limit (tokens is) i.token → ⊥)
-    → TellsPlace limit (tokens is) i (for_a_member b i.token i.from)
-member_tells limit is s i Tuple a read = inr (inr (inl (read, a.name refl, refl)))
-member_tells limit is s i Square a read = inr (inr (inl (read, a.name refl, refl)))
-member_tells limit is s i Binary a read = inr (inr (inr (inl (read, a.no_name refl, a.number, refl))))
+member_reports : (limit : ℕ) (is : List Item) (s : State) (i : Item) (b : Bracket) → AtMember limit is s b → (IsLeftOut limit (tokens is) i.token → ⊥)
+    → ReportsPlace limit (tokens is) i (for_a_member b i.token i.from)
+member_reports limit is s i Tuple a read = inr (inr (inl (read, a.name refl, refl)))
+member_reports limit is s i Square a read = inr (inr (inl (read, a.name refl, refl)))
+member_reports limit is s i Binary a read = inr (inr (inr (inl (read, a.no_name refl, a.number, refl))))
 
-term_told : (limit : ℕ) (is : List Item) (i : Item) (f : TermFault) → MayCome limit (tokens is) some_name → MayCome limit (tokens is) some_number
-    → (MayCome limit (tokens is) dot → ⊥) → (IsLeftOut limit (tokens is) i.token → ⊥) → TellsPlace limit (tokens is) i f → f ≡ for_a_term i.token i.from
-term_told limit is i f name number no_dot read (inl (may, d)) = absurd (no_dot may)
-term_told limit is i f name number no_dot read (inr (inl (left, d))) = absurd (read left)
-term_told limit is i f name number no_dot read (inr (inr (inl (n, may, d)))) = d
-term_told limit is i f name number no_dot read (inr (inr (inr (inl (n, never, may, d))))) = absurd (never name)
-term_told limit is i f name number no_dot read (inr (inr (inr (inr (n, never, neither, d))))) = absurd (neither number)
+term_reported : (limit : ℕ) (is : List Item) (i : Item) (f : TermFault) → MayCome limit (tokens is) some_name → MayCome limit (tokens is) some_number
+    → (MayCome limit (tokens is) dot → ⊥) → (IsLeftOut limit (tokens is) i.token → ⊥) → ReportsPlace limit (tokens is) i f → f ≡ for_a_term i.token i.from
+term_reported limit is i f name number no_dot read (inl (may, d)) = absurd (no_dot may)
+term_reported limit is i f name number no_dot read (inr (inl (left, d))) = absurd (read left)
+term_reported limit is i f name number no_dot read (inr (inr (inl (n, may, d)))) = d
+term_reported limit is i f name number no_dot read (inr (inr (inr (inl (n, never, may, d))))) = absurd (never name)
+term_reported limit is i f name number no_dot read (inr (inr (inr (inr (n, never, neither, d))))) = absurd (neither number)
 
-segment_told : (limit : ℕ) (is : List Item) (i : Item) (f : TermFault) → (MayCome limit (tokens is) some_name → ⊥) → MayCome limit (tokens is) some_number
-    → (MayCome limit (tokens is) dot → ⊥) → (IsLeftOut limit (tokens is) i.token → ⊥) → TellsPlace limit (tokens is) i f → f ≡ for_a_segment i.token i.from
-segment_told limit is i f no_name number no_dot read (inl (may, d)) = absurd (no_dot may)
-segment_told limit is i f no_name number no_dot read (inr (inl (left, d))) = absurd (read left)
-segment_told limit is i f no_name number no_dot read (inr (inr (inl (n, may, d)))) = absurd (no_name may)
-segment_told limit is i f no_name number no_dot read (inr (inr (inr (inl (n, never, may, d))))) = d
-segment_told limit is i f no_name number no_dot read (inr (inr (inr (inr (n, never, neither, d))))) = absurd (neither number)
+segment_reported : (limit : ℕ) (is : List Item) (i : Item) (f : TermFault) → (MayCome limit (tokens is) some_name → ⊥) → MayCome limit (tokens is) some_number
+    → (MayCome limit (tokens is) dot → ⊥) → (IsLeftOut limit (tokens is) i.token → ⊥) → ReportsPlace limit (tokens is) i f → f ≡ for_a_segment i.token i.from
+segment_reported limit is i f no_name number no_dot read (inl (may, d)) = absurd (no_dot may)
+segment_reported limit is i f no_name number no_dot read (inr (inl (left, d))) = absurd (read left)
+segment_reported limit is i f no_name number no_dot read (inr (inr (inl (n, may, d)))) = absurd (no_name may)
+segment_reported limit is i f no_name number no_dot read (inr (inr (inr (inl (n, never, may, d))))) = d
+segment_reported limit is i f no_name number no_dot read (inr (inr (inr (inr (n, never, neither, d))))) = absurd (neither number)
 
-member_told : (limit : ℕ) (is : List Item) (s : State) (i : Item) (b : Bracket) (f : TermFault) → AtMember limit is s b → (IsLeftOut limit (tokens is) i.token → ⊥)
-    → TellsPlace limit (tokens is) i f → f ≡ for_a_member b i.token i.from
-member_told limit is s i Tuple f a read tells = term_told limit is i f (a.name refl) a.number a.no_dot read tells
-member_told limit is s i Square f a read tells = term_told limit is i f (a.name refl) a.number a.no_dot read tells
-member_told limit is s i Binary f a read tells = segment_told limit is i f (a.no_name refl) a.number a.no_dot read tells
+member_reported : (limit : ℕ) (is : List Item) (s : State) (i : Item) (b : Bracket) (f : TermFault) → AtMember limit is s b → (IsLeftOut limit (tokens is) i.token → ⊥)
+    → ReportsPlace limit (tokens is) i f → f ≡ for_a_member b i.token i.from
+member_reported limit is s i Tuple f a read reports = term_reported limit is i f (a.name refl) a.number a.no_dot read reports
+member_reported limit is s i Square f a read reports = term_reported limit is i f (a.name refl) a.number a.no_dot read reports
+member_reported limit is s i Binary f a read reports = segment_reported limit is i f (a.no_name refl) a.number a.no_dot read reports
 
 first_inside : (b : Bracket) (t : Token) (at : ℕ) → for_a_member b t at ≡ misplaced_inside First b t at
 first_inside Tuple t at = refl
@@ -221,19 +221,19 @@ next_inside Tuple t at = refl
 next_inside Square t at = refl
 next_inside Binary t at = refl
 
--- the place of a token that may not come tells the machine's fault
-pub place_tells : (limit : ℕ) (is : List Item) (p : Progress) (i : Item) → run limit nothing_read is ≡ Ok p
-    → TellsPlace limit (tokens is) i (misplaced p.state i.token i.from)
-place_tells limit is p i e = go p.state e
+-- the place of a token that may not come reports the machine's fault
+pub place_reports : (limit : ℕ) (is : List Item) (p : Progress) (i : Item) → run limit nothing_read is ≡ Ok p
+    → ReportsPlace limit (tokens is) i (misplaced p.state i.token i.from)
+place_reports limit is p i e = go p.state e
   where
     in_bracket : (slot : Slot) (l : Level) (ls : List Level) → run limit nothing_read is ≡ Ok (progress p.done (inside slot l ls)) → (IsLeftOut limit (tokens is) i.token → ⊥)
-        → TellsPlace limit (tokens is) i (misplaced_inside slot (bracket_of l.members) i.token i.from)
+        → ReportsPlace limit (tokens is) i (misplaced_inside slot (bracket_of l.members) i.token i.from)
     in_bracket First l ls e read =
-        subst (TellsPlace limit (tokens is) i) (first_inside (bracket_of l.members) i.token i.from)
-        (member_tells limit is (inside First l ls) i (bracket_of l.members) (at_member limit is p.done (inside First l ls) l ls e refl refl) read)
+        subst (ReportsPlace limit (tokens is) i) (first_inside (bracket_of l.members) i.token i.from)
+        (member_reports limit is (inside First l ls) i (bracket_of l.members) (at_member limit is p.done (inside First l ls) l ls e refl refl) read)
     in_bracket Next l ls e read =
-        subst (TellsPlace limit (tokens is) i) (next_inside (bracket_of l.members) i.token i.from)
-        (member_tells limit is (inside Next l ls) i (bracket_of l.members) (at_member limit is p.done (inside Next l ls) l ls e refl refl) read)
+        subst (ReportsPlace limit (tokens is) i) (next_inside (bracket_of l.members) i.token i.from)
+        (member_reports limit is (inside Next l ls) i (bracket_of l.members) (at_member limit is p.done (inside Next l ls) l ls e refl refl) read)
     in_bracket Later l ls e read = inr (inr (inr (inr (
       read,
       may_not_come limit is (progress p.done (inside Later l ls)) (plain dot) e refl,
@@ -242,21 +242,21 @@ place_tells limit is p i e = go p.state e
     ))))
 
     by_left_out : (slot : Slot) (l : Level) (ls : List Level) → run limit nothing_read is ≡ Ok (progress p.done (inside slot l ls)) → (b : Bool) → is_left_out (bracket_of l.members) i.token ≡ b
-        → TellsPlace limit (tokens is) i (if b then Unsupported i.from else misplaced_inside slot (bracket_of l.members) i.token i.from)
+        → ReportsPlace limit (tokens is) i (if b then Unsupported i.from else misplaced_inside slot (bracket_of l.members) i.token i.from)
     by_left_out slot l ls e true h = inr (inl (left_out limit is p.done slot l ls i.token e h, refl))
     by_left_out slot l ls e false h = in_bracket slot l ls e (not_left_out limit is (progress p.done (inside slot l ls)) i.token e h)
 
-    go : (s : State) → run limit nothing_read is ≡ Ok (progress p.done s) → TellsPlace limit (tokens is) i (misplaced s i.token i.from)
+    go : (s : State) → run limit nothing_read is ≡ Ok (progress p.done s) → ReportsPlace limit (tokens is) i (misplaced s i.token i.from)
     go (whole r) e = inl (dot_comes limit is p.done r e, refl)
     go begun e = inr (inr (inl (not_left_out limit is (progress p.done begun) i.token e refl, name_comes limit is p.done begun [] e refl refl, refl)))
     go (inside slot l ls) e = by_left_out slot l ls e (is_left_out (bracket_of l.members) i.token) refl
 
 -- and no other
-pub place_told : (limit : ℕ) (is : List Item) (p : Progress) (i : Item) (f : TermFault) → run limit nothing_read is ≡ Ok p
-    → TellsPlace limit (tokens is) i f → f ≡ misplaced p.state i.token i.from
-place_told limit is p i f e = go p.state e
+pub place_reported : (limit : ℕ) (is : List Item) (p : Progress) (i : Item) (f : TermFault) → run limit nothing_read is ≡ Ok p
+    → ReportsPlace limit (tokens is) i f → f ≡ misplaced p.state i.token i.from
+place_reported limit is p i f e = go p.state e
   where
-    behind_whole : (r : Reading) → run limit nothing_read is ≡ Ok (progress p.done (whole r)) → TellsPlace limit (tokens is) i f → f ≡ misplaced (whole r) i.token i.from
+    behind_whole : (r : Reading) → run limit nothing_read is ≡ Ok (progress p.done (whole r)) → ReportsPlace limit (tokens is) i f → f ≡ misplaced (whole r) i.token i.from
     behind_whole r e (inl (may, d)) = d
     behind_whole r e (inr (inl (left, d))) = absurd (not_left_out limit is (progress p.done (whole r)) i.token e refl left)
     behind_whole r e (inr (inr (inl (n, may, d)))) = absurd (may_not_come limit is (progress p.done (whole r)) (plain some_name) e refl may)
@@ -264,7 +264,7 @@ place_told limit is p i f e = go p.state e
     behind_whole r e (inr (inr (inr (inr (n, never, neither, d))))) = absurd (never (dot_comes limit is p.done r e))
 
     behind_member : (l : Level) (ls : List Level) → run limit nothing_read is ≡ Ok (progress p.done (inside Later l ls)) → (IsLeftOut limit (tokens is) i.token → ⊥)
-        → TellsPlace limit (tokens is) i f → f ≡ misplaced_inside Later (bracket_of l.members) i.token i.from
+        → ReportsPlace limit (tokens is) i f → f ≡ misplaced_inside Later (bracket_of l.members) i.token i.from
     behind_member l ls e read (inl (may, d)) = absurd (may_not_come limit is (progress p.done (inside Later l ls)) (plain dot) e refl may)
     behind_member l ls e read (inr (inl (left, d))) = absurd (read left)
     behind_member l ls e read (inr (inr (inl (n, may, d)))) = absurd (may_not_come limit is (progress p.done (inside Later l ls)) (plain some_name) e refl may)
@@ -272,17 +272,17 @@ place_told limit is p i f e = go p.state e
     behind_member l ls e read (inr (inr (inr (inr (n, never, neither, d))))) = d
 
     in_bracket : (slot : Slot) (l : Level) (ls : List Level) → run limit nothing_read is ≡ Ok (progress p.done (inside slot l ls)) → (IsLeftOut limit (tokens is) i.token → ⊥)
-        → TellsPlace limit (tokens is) i f → f ≡ misplaced_inside slot (bracket_of l.members) i.token i.from
-    in_bracket First l ls e read tells =
-        member_told limit is (inside First l ls) i (bracket_of l.members) f (at_member limit is p.done (inside First l ls) l ls e refl refl) read tells
+        → ReportsPlace limit (tokens is) i f → f ≡ misplaced_inside slot (bracket_of l.members) i.token i.from
+    in_bracket First l ls e read reports =
+        member_reported limit is (inside First l ls) i (bracket_of l.members) f (at_member limit is p.done (inside First l ls) l ls e refl refl) read reports
         ∙ first_inside (bracket_of l.members) i.token i.from
-    in_bracket Next l ls e read tells =
-        member_told limit is (inside Next l ls) i (bracket_of l.members) f (at_member limit is p.done (inside Next l ls) l ls e refl refl) read tells
+    in_bracket Next l ls e read reports =
+        member_reported limit is (inside Next l ls) i (bracket_of l.members) f (at_member limit is p.done (inside Next l ls) l ls e refl refl) read reports
         ∙ next_inside (bracket_of l.members) i.token i.from
-    in_bracket Later l ls e read tells = behind_member l ls e read tells
+    in_bracket Later l ls e read reports = behind_member l ls e read reports
 
     unread : (slot : Slot) (l : Level) (ls : List Level) → run limit nothing_read is ≡ Ok (progress p.done (inside slot l ls)) → IsLeftOut limit (tokens is) i.token
-        → TellsPlace limit (tokens is) i f → f ≡ Unsupported i.from
+        → ReportsPlace limit (tokens is) i f → f ≡ Unsupported i.from
     unread slot l ls e left (inl (may, d)) = absurd (may_not_come limit is (progress p.done (inside slot l ls)) (plain dot) e refl may)
     unread slot l ls e left (inr (inl (left_too, d))) = d
     unread slot l ls e left (inr (inr (inl (n, may, d)))) = absurd (n left)
@@ -290,13 +290,13 @@ place_told limit is p i f e = go p.state e
     unread slot l ls e left (inr (inr (inr (inr (n, never, neither, d))))) = absurd (n left)
 
     by_left_out : (slot : Slot) (l : Level) (ls : List Level) → run limit nothing_read is ≡ Ok (progress p.done (inside slot l ls)) → (b : Bool) → is_left_out (bracket_of l.members) i.token ≡ b
-        → TellsPlace limit (tokens is) i f → f ≡ (if b then Unsupported i.from else misplaced_inside slot (bracket_of l.members) i.token i.from)
-    by_left_out slot l ls e true h tells = unread slot l ls e (left_out limit is p.done slot l ls i.token e h) tells
-    by_left_out slot l ls e false h tells = in_bracket slot l ls e (not_left_out limit is (progress p.done (inside slot l ls)) i.token e h) tells
+        → ReportsPlace limit (tokens is) i f → f ≡ (if b then Unsupported i.from else misplaced_inside slot (bracket_of l.members) i.token i.from)
+    by_left_out slot l ls e true h reports = unread slot l ls e (left_out limit is p.done slot l ls i.token e h) reports
+    by_left_out slot l ls e false h reports = in_bracket slot l ls e (not_left_out limit is (progress p.done (inside slot l ls)) i.token e h) reports
 
-    go : (s : State) → run limit nothing_read is ≡ Ok (progress p.done s) → TellsPlace limit (tokens is) i f → f ≡ misplaced s i.token i.from
-    go (whole r) e tells = behind_whole r e tells
-    go begun e tells =
-        term_told limit is i f (name_comes limit is p.done begun [] e refl refl) (number_comes limit is p.done begun [] e refl)
-        (may_not_come limit is (progress p.done begun) (plain dot) e refl) (not_left_out limit is (progress p.done begun) i.token e refl) tells
-    go (inside slot l ls) e tells = by_left_out slot l ls e (is_left_out (bracket_of l.members) i.token) refl tells
+    go : (s : State) → run limit nothing_read is ≡ Ok (progress p.done s) → ReportsPlace limit (tokens is) i f → f ≡ misplaced s i.token i.from
+    go (whole r) e reports = behind_whole r e reports
+    go begun e reports =
+        term_reported limit is i f (name_comes limit is p.done begun [] e refl refl) (number_comes limit is p.done begun [] e refl)
+        (may_not_come limit is (progress p.done begun) (plain dot) e refl) (not_left_out limit is (progress p.done begun) i.token e refl) reports
+    go (inside slot l ls) e reports = by_left_out slot l ls e (is_left_out (bracket_of l.members) i.token) refl reports

@@ -11,7 +11,7 @@ use Rattle.std.proofs.lemmas.Fmt.{decimal_is_IsNumeral}
 use Rattle.std.proofs.Math.Seq.{drop-append_seam}
 use Rattle.std.proofs.lemmas.Str.Parse.{digit_from_value}
 use Rattle.erl_token.specs.declared.class.Class.TheVariants.{Letter, Digit}
-use Rattle.erl_number.specs.Escapes.{is_in, front}
+use Rattle.erl_number.specs.Escapes.{is_in, leading}
 use Rattle.erl_number.specs.Numbers.{Numeral, more_digits, digit_row, spelled_by, goes_on_as_float, behind_digits, digits_numeral, numeral, is_int}
 use Rattle.erl_number.specs.Numbers.Numeral.{whole}
 use Rattle.erl_number.specs.Texts.{is_bare_name_byte}
@@ -66,7 +66,7 @@ letter_class : (x : ℕ) → is_in 97 122 x ≡ true → class_of x ≡ Letter
 letter_class x h = grind (arith, nat_tests)
 
 -- a name ends where the term ends
-name_bytes-behind : (s rest : List ℕ) → list_all is_bare_name_byte s ≡ true → IsBehind rest → front is_bare_name_byte (s ++ rest) ≡ s
+name_bytes-behind : (s rest : List ℕ) → list_all is_bare_name_byte s ≡ true → IsBehind rest → leading is_bare_name_byte (s ++ rest) ≡ s
 name_bytes-behind [] [] h b = elim b [ ]
 name_bytes-behind [] (x ∷ xs) h b = let stops : is_bare_name_byte x ≡ false = by_stop (λ y. is_bare_name_byte y ≡ false) refl refl refl refl refl x b.0 in rw stops refl
 name_bytes-behind (x ∷ s) rest h b =

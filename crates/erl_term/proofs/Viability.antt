@@ -50,8 +50,8 @@ tokens-plain [] = refl
 tokens-plain (t ∷ ts) = ap (λ us. t ∷ us) (tokens-plain ts)
 
 -- a front of what the machine takes
-front_runs : (limit : ℕ) (p q : Progress) (a b : List Item) → run limit p (a ++ b) ≡ Ok q → (t : Progress) × (run limit p a ≡ Ok t)
-front_runs limit p q a b e = go (run limit p a) refl
+leading_runs : (limit : ℕ) (p q : Progress) (a b : List Item) → run limit p (a ++ b) ≡ Ok q → (t : Progress) × (run limit p a ≡ Ok t)
+leading_runs limit p q a b e = go (run limit p a) refl
   where
     go : (r : Result Progress TermFault) → run limit p a ≡ r → (t : Progress) × (run limit p a ≡ Ok t)
     go (Ok t) h = (t, h)
@@ -62,7 +62,7 @@ viable_runs limit is (more, ps, fit, e) =
     let whole_row : tokens (is ++ map plain more) ≡ rows ps =
     map-append (λ i. i.token) is (map plain more) ∙ (ap (λ ts. tokens is ++ ts) (tokens-plain more) ∙ e) in
     let (rs, terms) = rows_are_terms limit (is ++ map plain more) ps fit whole_row in
-    front_runs limit nothing_read (progress rs begun) is (map plain more) (reads_terms limit (is ++ map plain more) rs [] terms)
+    leading_runs limit nothing_read (progress rs begun) is (map plain more) (reads_terms limit (is ++ map plain more) rs [] terms)
 
 -- Each state can be brought to its end.
 abbrev pub Ends : ℕ → List Reading → State → Type 0
@@ -124,8 +124,8 @@ runs_on limit is p q i e n =
     run-append limit nothing_read is (i ∷ []) ∙ ((λ j. and_then (e j) (λ q. run limit q (i ∷ []))) ∙ goes limit p q i [] n)
 
 -- what can be completed has come token by token
-pub viable_front : (limit : ℕ) (a b : List Token) → Viable limit (a ++ b) → Viable limit a
-viable_front limit a b (more, ps, fit, e) = (b ++ more, ps, fit, sym (append_assoc a b more) ∙ e)
+pub viable_prefix : (limit : ℕ) (a b : List Token) → Viable limit (a ++ b) → Viable limit a
+viable_prefix limit a b (more, ps, fit, e) = (b ++ more, ps, fit, sym (append_assoc a b more) ∙ e)
 
 pub may_come : (limit : ℕ) (is : List Item) (p q : Progress) (i : Item) → run limit nothing_read is ≡ Ok p → next limit p i ≡ Some q → MayCome limit (tokens is) i.token
 may_come limit is p q i e n =

@@ -21,6 +21,6 @@ IsOnly rs (Ok v) = readings v ≡ rs
 IsOnly rs (Err f) = f ≡ NoMemory
 
 -- the fault of the text, or out of memory
-abbrev pub TellsFault : ℕ → List ℕ → TermFault → Type 0
-TellsFault limit bytes NoMemory = Unit {0}
-TellsFault limit bytes f = IsFault limit bytes f
+abbrev pub ReportsFault : ℕ → List ℕ → TermFault → Type 0
+ReportsFault limit bytes NoMemory = Unit {0}
+ReportsFault limit bytes f = IsFault limit bytes f

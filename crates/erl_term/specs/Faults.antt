@@ -1,4 +1,4 @@
--- Which fault of a text is told: that of the first token, or of the end, that can't follow what stands before it.
+-- Which fault of a text is reported: that of the first token, or of the end, that can't follow what stands before it.
 use Rattle.std.specs.Prelude.{◌≡◌, ◌≢◌, ℕ, ◌⊎◌, List, [], ◌∷◌, ◌++◌, length, ◌==◌, if◌then◌else◌}
 use Rattle.std.specs.List.{AllByRecursion}
 use Rattle.erl_number.specs.declared.fault.TermFault.{TermFault}
@@ -33,12 +33,12 @@ IsLeftOut limit ts (stray x) =
     ((x ≡ 124) × IsInside limit ts some_name close_list) ⊎ (((x ≡ 47) ⊎ (x ≡ 58)) × IsInside limit ts some_number close_binary)
 IsLeftOut limit ts t = ⊥
 
--- told where a dot may come: the dot is missing, unless what stands there begins no token
+-- reported where a dot may come: the dot is missing, unless what stands there begins no token
 abbrev pub for_a_dot : Token → ℕ → TermFault
 for_a_dot (stray x) at = BadToken at
 for_a_dot t at = MissingDot at
 
--- told where a term may begin: a bracket is one too many, `#` begins what isn't read, and all else begins no term
+-- reported where a term may begin: a bracket is one too many, `#` begins what isn't read, and all else begins no term
 abbrev pub for_a_term : Token → ℕ → TermFault
 for_a_term open_tuple at = Deep at
 for_a_term open_list at = Deep at
@@ -46,15 +46,15 @@ for_a_term open_binary at = Deep at
 for_a_term (stray x) at = if x == 35 then Unsupported at else BadToken at
 for_a_term t at = BadToken at
 
--- told where a segment of a binary may begin: a number or a text is out of range, and all else begins no segment
+-- reported where a segment of a binary may begin: a number or a text is out of range, and all else begins no segment
 abbrev pub for_a_segment : Token → ℕ → TermFault
 for_a_segment (number n) at = BadNumber at
 for_a_segment (text s) at = BadNumber at
 for_a_segment t at = BadToken at
 
 -- the fault of a token that can't stand there, whatever follows its first byte
-abbrev pub TellsPlace : ℕ → List Token → Item → TermFault → Type 0
-TellsPlace limit ts i f =
+abbrev pub ReportsPlace : ℕ → List Token → Item → TermFault → Type 0
+ReportsPlace limit ts i f =
     (MayCome limit ts dot × (f ≡ for_a_dot i.token i.from))
     ⊎ (IsLeftOut limit ts i.token × (f ≡ Unsupported i.from))
     ⊎ ((IsLeftOut limit ts i.token → ⊥) × MayCome limit ts some_name × (f ≡ for_a_term i.token i.from))
@@ -76,15 +76,15 @@ abbrev pub IsInnermost : List Item → Item → Type 0
 IsInnermost all i = (before after : List Item) × (all ≡ before ++ (i ∷ after)) × IsOpening i.token × AreMembers (tokens after)
 
 -- the fault of the end within what begins at this place: the innermost bracket is open, or there is none
-abbrev pub TellsCut : List Item → ℕ → TermFault → Type 0
-TellsCut before at f =
+abbrev pub ReportsCut : List Item → ℕ → TermFault → Type 0
+ReportsCut before at f =
     ((i : Item) × IsInnermost before i × (f ≡ Unclosed i.from)) ⊎ (((i : Item) → IsInnermost before i → ⊥) × (f ≡ BadToken at))
 
 -- the fault of its own of a token that begins as one that may come does
-abbrev pub TellsOwn : ℕ → List Item → ℕ → Token → TermFault → Type 0
-TellsOwn limit before at (broken like own) f = MayCome limit (tokens before) like × (f ≡ own)
-TellsOwn limit before at (cut like) f = MayCome limit (tokens before) like × TellsCut before at f
-TellsOwn limit before at t f = ⊥
+abbrev pub ReportsOwn : ℕ → List Item → ℕ → Token → TermFault → Type 0
+ReportsOwn limit before at (broken like own) f = MayCome limit (tokens before) like × (f ≡ own)
+ReportsOwn limit before at (cut like) f = MayCome limit (tokens before) like × ReportsCut before at f
+ReportsOwn limit before at t f = ⊥
 
 -- no token that begins so may come
 abbrev pub IsMisplaced : ℕ → List Token → Token → Type 0
@@ -93,19 +93,19 @@ IsMisplaced limit ts (cut like) = MayCome limit ts like → ⊥
 IsMisplaced limit ts t = Unit {0}
 
 -- the fault of a token that can't follow these
-abbrev pub Tells : ℕ → List Item → Item → TermFault → Type 0
-Tells limit before i f =
-    TellsOwn limit before i.from i.token f ⊎ (IsMisplaced limit (tokens before) i.token × TellsPlace limit (tokens before) i f)
+abbrev pub Reports : ℕ → List Item → Item → TermFault → Type 0
+Reports limit before i f =
+    ReportsOwn limit before i.from i.token f ⊎ (IsMisplaced limit (tokens before) i.token × ReportsPlace limit (tokens before) i f)
 
 -- the fault of the end, in a text of so many bytes: a dot is missing, or the innermost bracket is open
-abbrev pub TellsEnd : ℕ → ℕ → List Item → TermFault → Type 0
-TellsEnd limit size all f =
+abbrev pub ReportsEnd : ℕ → ℕ → List Item → TermFault → Type 0
+ReportsEnd limit size all f =
     (MayCome limit (tokens all) dot × (f ≡ MissingDot size)) ⊎ ((i : Item) × IsInnermost all i × (f ≡ Unclosed i.from))
 
 -- The first fault of a text.
 abbrev pub IsFault : ℕ → List ℕ → TermFault → Type 0
 IsFault limit bytes f =
     ((before after : List Item) × (i : Item) × (items_of bytes ≡ before ++ (i ∷ after)) × Viable limit (tokens before)
-    × (MayCome limit (tokens before) i.token → ⊥) × Tells limit before i f)
+    × (MayCome limit (tokens before) i.token → ⊥) × Reports limit before i f)
     ⊎ (Viable limit (tokens (items_of bytes)) × ((ps : List Phrase) → Fit limit ps → tokens (items_of bytes) ≢ rows ps)
-    × TellsEnd limit (length bytes) (items_of bytes) f)
+    × ReportsEnd limit (length bytes) (items_of bytes) f)

@@ -1,8 +1,10 @@
 -- Laws of texts, whatever reads them.
-use Rattle.std.specs.Prelude.{◌≡◌, ℕ, ◌-◌, ◌⊎◌, List, [], ◌∷◌, ◌++◌, slice_range}
+use Rattle.std.specs.Prelude.{◌≡◌, ℕ, ◌+◌, ◌-◌, ◌⊎◌, List, [], ◌∷◌, ◌++◌, slice_range}
+use Rattle.std.specs.List.{AllByRecursion}
 use Rattle.erl_number.specs.declared.fault.TermFault.{TermFault}
 use Rattle.erl_term.specs.Grammar.{Reading, Reads}
 use Rattle.erl_term.specs.Faults.{IsFault}
+use Rattle.erl_term.specs.Within.{IsWithin}
 
 -- No text has two readings.
 abbrev pub HasOneReading : Type 0
@@ -25,3 +27,8 @@ abbrev pub EachTermStandsAlone : Type 0
 EachTermStandsAlone =
     (limit : ℕ) (bytes : List ℕ) (before after : List Reading) (r : Reading) → Reads limit bytes (before ++ (r ∷ after))
     → Reads limit (slice_range bytes r.from r.to ++ 46 ∷ []) (record { term = r.term; from = 0; to = r.to - r.from } ∷ [])
+
+-- A term that is read has one bracket more than the limit at most, since a text of no characters is read without brackets
+-- and printed as a list of no members.
+abbrev pub KeepsLimits : Type 0
+KeepsLimits = (limit : ℕ) (bytes : List ℕ) (rs : List Reading) → Reads limit bytes rs → AllByRecursion (λ r. IsWithin (limit + 1) r.term) rs

@@ -6,11 +6,10 @@ pub mod Value
 pub mod Grammar
 pub mod Faults
 pub mod OneTerm
-pub mod Laws
 pub mod Answers
 pub mod Machine
 pub mod Views
 pub mod Printing
 pub mod Within
-pub mod Limits
+pub mod Laws
 pub mod Lines

@@ -10,17 +10,17 @@ use Rattle.erl_term.specs.Faults.{IsFault}
 abbrev pub HasTerm : ℕ → List ℕ → Value → Type 0
 HasTerm limit bytes v = (r : Reading) × Reads limit bytes (r ∷ []) × (r.term ≡ v)
 
--- told of terms that aren't one: a dot is missing at the end of a text of so many bytes, or where the second begins
-abbrev pub TellsCount : ℕ → List Reading → TermFault → Type 0
-TellsCount size [] f = f ≡ MissingDot size
-TellsCount size (r ∷ []) f = ⊥
-TellsCount size (r ∷ s ∷ rs) f = f ≡ MissingDot s.from
+-- reported of terms that aren't one: a dot is missing at the end of a text of so many bytes, or where the second begins
+abbrev pub ReportsCount : ℕ → List Reading → TermFault → Type 0
+ReportsCount size [] f = f ≡ MissingDot size
+ReportsCount size (r ∷ []) f = ⊥
+ReportsCount size (r ∷ s ∷ rs) f = f ≡ MissingDot s.from
 
 -- The fault of a text that is to have one term: its own, or that its terms aren't one.
 abbrev pub IsRecordFault : ℕ → List ℕ → TermFault → Type 0
-IsRecordFault limit bytes f = IsFault limit bytes f ⊎ ((rs : List Reading) × Reads limit bytes rs × TellsCount (length bytes) rs f)
+IsRecordFault limit bytes f = IsFault limit bytes f ⊎ ((rs : List Reading) × Reads limit bytes rs × ReportsCount (length bytes) rs f)
 
 -- that fault, or out of memory
-abbrev pub TellsRecordFault : ℕ → List ℕ → TermFault → Type 0
-TellsRecordFault limit bytes NoMemory = Unit {0}
-TellsRecordFault limit bytes f = IsRecordFault limit bytes f
+abbrev pub ReportsRecordFault : ℕ → List ℕ → TermFault → Type 0
+ReportsRecordFault limit bytes NoMemory = Unit {0}
+ReportsRecordFault limit bytes f = IsRecordFault limit bytes f

@@ -4,9 +4,6 @@ use Rattle.std.specs.declared.alloc.Global.{Global}
 use Rattle.std.specs.Str.{chars}
 use Rattle.erl_number.specs.declared.fault.TermFault.{TermFault}
 use Rattle.erl_number.specs.declared.fault.TermFault.TheVariants.{NoMemory}
-use Rattle.erl_token.specs.declared.content.Content.{Content}
-use Rattle.erl_token.specs.declared.token.Token.{Token as CodeToken}
-use Rattle.erl_token.specs.declared.token.Token.TheVariants.{Name}
 use Rattle.erl_term.specs.declared.term.Spanned.{Spanned}
 use Rattle.erl_term.specs.declared.parser.Level.{Level as CodeLevel}
 use Rattle.erl_term.specs.declared.parser.Members.{Members as CodeMembers}
@@ -38,10 +35,6 @@ abbrev pub state_of : CodeState → State
 state_of Begun = begun
 state_of (Whole s) = whole (reading_of_spanned s)
 state_of (Inside slot l outer) = inside slot (level_of l) (reverse (map level_of outer.items))
-
--- a token that is a name
-abbrev pub IsName : CodeToken → Type 0
-IsName t = (c : Content) × (t ≡ Name c)
 
 -- what a parser has read
 abbrev pub progress_of : Parser → Progress

@@ -1,7 +1,6 @@
 //! Laws of the texts themselves, whatever reads them. Each function does nothing: its contract is the law, and the laws that
 //! it calls are what it rests on.
-ghost use Rattle.erl_term.specs.Laws.{EachTermStandsAlone, HasOneReading, HasOneFault, NeverBoth, ReadsOrFails};
-ghost use Rattle.erl_term.specs.Limits.{KeepsLimits};
+ghost use Rattle.erl_term.specs.Laws.{EachTermStandsAlone, HasOneReading, HasOneFault, KeepsLimits, NeverBoth, ReadsOrFails};
 ghost use Rattle.erl_term.specs.Lines.{PrintsOneLine};
 
 pub use erl_token::laws::{items_tile_a_text, rows_stand_alone};

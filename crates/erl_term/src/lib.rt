@@ -8,7 +8,7 @@
 //! limits of the reader (specs/Within).
 //! The functions of `laws` say of these definitions that no text has two readings or two faults, that none both reads and
 //! has a fault, and that each has one of the two; that a term is what its own bytes spell; that what is read has short
-//! atoms, and at most one bracket more when it is printed (specs/Limits); and that a term is printed on one line.
+//! atoms, and at most one bracket more when it is printed (specs/Laws); and that a term is printed on one line.
 //!
 //! Only tested: that a text is read and a term printed where memory is there, small texts with their answers, and texts
 //! against Erlang/OTP (docs/MEASUREMENTS.md). Trusted: the toolchain alone.

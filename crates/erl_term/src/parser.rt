@@ -5,11 +5,11 @@ ghost use Rattle.erl_token.specs.Contents.{content_bytes};
 ghost use Rattle.erl_term.specs.Machine.{step, misplaced, is_left_out, comes, cut_off, put, with_member, begins_term, open_levels, empty, bracket_of, close, enclosed, at_end, nothing_read};
 ghost use Rattle.erl_term.specs.Faults.{for_a_term, for_a_segment};
 ghost use Rattle.erl_token.specs.Views.{token_value, like_value, item_value};
-ghost use Rattle.erl_term.specs.Views.{members_are, level_of, state_of, progress_of, all_levels, Gives, GivesTerms, IsName};
+ghost use Rattle.erl_term.specs.Views.{members_are, level_of, state_of, progress_of, all_levels, Gives, GivesTerms};
 ghost use Rattle.erl_term.specs.Answers.{reading_of_spanned};
 ghost use Rattle.erl_number.specs.declared.fault.TermFault.TheVariants.{NoMemory};
 ghost use Rattle.erl_token.specs.declared.token.Token.TheVariants.{Open, Close, Comma, Dot, Number, Broken, Cut};
-ghost use Rattle.erl_token.specs.Lexing.Token.{text as text_token};
+ghost use Rattle.erl_token.specs.Lexing.Token.{name as name_token, text as text_token};
 
 use crate::character::characters;
 use crate::term::{Spanned, Term};
@@ -88,20 +88,7 @@ impl Parser {
     }
 
     /// Takes one more token. After an `Err` the parser is of no use.
-    pub fn take(&mut self, alloc: Global, item: Item<'_>) -> Result<(), TermFault>
-        ensures step { Gives result (progress_of self.new)
-            (step self.old.limit (progress_of self.old) (item_value item.entry)) }
-        ensures limit { self.new.limit ≡ self.old.limit }
-    {
-        match item.token {
-            Token::Name(_) => self.put_name(alloc, item),
-            _ => self.take_other(alloc, &item),
-        }
-    }
-
-    /// Takes one more token, which is no name.
-    fn take_other(&mut self, alloc: Global, item: &Item<'_>) -> Result<(), TermFault>
-        requires { IsName item.now.token → ⊥ }
+    pub fn take(&mut self, alloc: Global, item: &Item<'_>) -> Result<(), TermFault>
         ensures step { Gives result (progress_of self.new)
             (step self.old.limit (progress_of self.old) (item_value item.now)) }
         ensures limit { self.new.limit ≡ self.old.limit }
@@ -111,7 +98,7 @@ impl Parser {
             Token::Close(bracket) => self.close(*bracket, item),
             Token::Comma => self.separate(item),
             Token::Dot => self.end(item),
-            Token::Name(_) => unreachable!(),
+            Token::Name(name) => self.put_name(alloc, name, item),
             Token::Number(n) => self.put_number(*n, item),
             Token::Text(text) => self.put_text(alloc, text, item),
             Token::Stray(_) | Token::NotUtf8 => Err(self.state.misplaced(item)),
@@ -132,7 +119,7 @@ impl Parser {
         }
     }
 
-    /// A term may begin here, or else its fault is told.
+    /// A term may begin here, or else its fault is reported.
     fn expect_term(&self, item: &Item<'_>) -> Result<(), TermFault>
         ensures begins { OnOk result (begins_term (progress_of self.now).state ≡ true) }
         ensures refused { IfErr result (λ f. begins_term (progress_of self.now).state ≡ false) }
@@ -147,7 +134,7 @@ impl Parser {
         }
     }
 
-    /// What the token begins as may stand here, or else its fault is told.
+    /// What the token begins as may stand here, or else its fault is reported.
     fn expect(&self, like: Like, item: &Item<'_>) -> Result<(), TermFault>
         ensures may { OnOk result
             (comes self.now.limit (progress_of self.now) (like_value like) ≡ true) }
@@ -231,19 +218,19 @@ impl Parser {
     }
 
     /// A name, as an atom.
-    fn put_name(&mut self, alloc: Global, item: Item<'_>) -> Result<(), TermFault>
-        requires { IsName item.token }
+    fn put_name(
+        &mut self,
+        alloc: Global,
+        name: &Content<'_>,
+        item: &Item<'_>,
+    ) -> Result<(), TermFault>
+        requires { token_value item.now.token ≡ name_token (content_bytes name.now) }
         ensures step { Gives result (progress_of self.new)
-            (step self.old.limit (progress_of self.old) (item_value item.entry)) }
+            (step self.old.limit (progress_of self.old) (item_value item.now)) }
         ensures limit { self.new.limit ≡ self.old.limit }
     {
-        self.expect_term(&item)?;
-        let Item { token, from, to } = item;
-        let Token::Name(name) = token else {
-            unreachable!()
-        };
-        let term = Term::Atom(name.into_string(alloc)?);
-        self.put(Spanned { term, from, to })
+        self.expect_term(item)?;
+        self.put(spanned(Term::Atom(name.to_text(alloc)?), item))
     }
 
     /// A token that has a fault of its own is refused.

@@ -1,7 +1,7 @@
 //! Texts into terms.
 ghost use Rattle.std.specs.Prelude.{List, IfOk, IfErr};
 ghost use Rattle.erl_term.specs.Grammar.{Reading, Reads};
-ghost use Rattle.erl_term.specs.Answers.{readings, IsOnly, TellsFault};
+ghost use Rattle.erl_term.specs.Answers.{readings, IsOnly, ReportsFault};
 ghost use Rattle.erl_term.specs.Machine.{reading_of};
 ghost use Rattle.erl_term.specs.Views.{GivesTerms};
 
@@ -18,7 +18,7 @@ pub const MAX_DEPTH: usize = 64;
 pub fn read_terms(alloc: Global, bytes: &[u8]) -> Result<Vec<Spanned>, TermFault>
     ensures found { IfOk result (λ v. Reads 64 bytes.now (readings v)) }
     ensures only { (rs : List Reading) → Reads 64 bytes.now rs → IsOnly rs result }
-    ensures fault { IfErr result (TellsFault 64 bytes.now) }
+    ensures fault { IfErr result (ReportsFault 64 bytes.now) }
 {
     read(alloc, bytes, MAX_DEPTH)
 }
@@ -32,7 +32,7 @@ pub fn read(alloc: Global, bytes: &[u8], limit: usize) -> Result<Vec<Spanned>, T
     let mut at = 0;
     while let Some(item) = next_item(alloc, text, at)? {
         at = item.to;
-        parser.take(alloc, item)?;
+        parser.take(alloc, &item)?;
     }
     parser.finish(bytes.len())
 }

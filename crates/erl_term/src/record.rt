@@ -1,7 +1,7 @@
 //! The one term that a record's body is.
 ghost use Rattle.std.specs.Prelude.{◌≡◌, IfOk, IfErr, MatchResult};
 ghost use Rattle.erl_term.specs.Value.{Value, value_of};
-ghost use Rattle.erl_term.specs.OneTerm.{HasTerm, TellsRecordFault};
+ghost use Rattle.erl_term.specs.OneTerm.{HasTerm, ReportsRecordFault};
 
 use crate::reader::read;
 use crate::term::Term;
@@ -17,7 +17,7 @@ pub fn read_record(alloc: Global, bytes: &[u8]) -> Result<Term, TermFault>
     ensures found { IfOk result (λ term. HasTerm 72 bytes.now (value_of term)) }
     ensures only { (v : Value) → HasTerm 72 bytes.now v
         → MatchResult result (λ term. value_of term ≡ v) (λ f. f ≡ TermFault.NoMemory) }
-    ensures fault { IfErr result (TellsRecordFault 72 bytes.now) }
+    ensures fault { IfErr result (ReportsRecordFault 72 bytes.now) }
 {
     let mut terms = read(alloc, bytes, RECORD_DEPTH)?;
     if let Some(second) = terms.get(1) {

@@ -4,7 +4,7 @@ use Rattle.std.specs.Char.{is_digit}
 use Rattle.std.specs.Str.{chars, continuation_len}
 use Rattle.std.specs.Str.Parse.{digits_value}
 use Rattle.std.proofs.lemmas.List.{take-append-le, drop-append-le, length-drop}
-use Rattle.erl_number.specs.Escapes.{Character, is_in, front, with_next, first_of, itself, scalar, octal, braced, paired, hexadecimal, caret, letter_character, by_name, escape}
+use Rattle.erl_number.specs.Escapes.{Character, is_in, leading, with_next, first_of, itself, scalar, octal, braced, paired, hexadecimal, caret, letter_character, by_name, escape}
 use Rattle.erl_number.specs.Escapes.Character.{means, senseless, unfinished}
 use Rattle.erl_token.proofs.Sizes.{CharacterHolds, escape_holds}
 
@@ -16,23 +16,23 @@ pub nil_of : {A : Type 0} (xs : List A) → length xs ≤ 0 → xs ≡ []
 nil_of [] l = refl
 nil_of (x ∷ xs) l = absurd (omega arith)
 
-pub front_stays : (p : ℕ → Bool) → p 46 ≡ false → (c d : List ℕ) → length (front p (c ++ d)) ≤ length c → front p (c ++ stop) ≡ front p (c ++ d)
-front_stays p s [] d l = let none = nil_of (front p d) l in rw s (sym none)
-front_stays p s (x ∷ c) d l = go (p x) l (front_stays p s c d)
+pub leading_stays : (p : ℕ → Bool) → p 46 ≡ false → (c d : List ℕ) → length (leading p (c ++ d)) ≤ length c → leading p (c ++ stop) ≡ leading p (c ++ d)
+leading_stays p s [] d l = let none = nil_of (leading p d) l in rw s (sym none)
+leading_stays p s (x ∷ c) d l = go (p x) l (leading_stays p s c d)
   where
-    go : (b : Bool) → length (if b then x ∷ front p (c ++ d) else []) ≤ length (x ∷ c) → (length (front p (c ++ d)) ≤ length c → front p (c ++ stop) ≡ front p (c ++ d))
-        → (if b then x ∷ front p (c ++ stop) else []) ≡ (if b then x ∷ front p (c ++ d) else [])
+    go : (b : Bool) → length (if b then x ∷ leading p (c ++ d) else []) ≤ length (x ∷ c) → (length (leading p (c ++ d)) ≤ length c → leading p (c ++ stop) ≡ leading p (c ++ d))
+        → (if b then x ∷ leading p (c ++ stop) else []) ≡ (if b then x ∷ leading p (c ++ d) else [])
     go true l f = ap (λ r. x ∷ r) (f (omega (arith, l)))
     go false l f = refl
 
-take_front_stays : (n : ℕ) (p : ℕ → Bool) → p 46 ≡ false → (c d : List ℕ) → length (take n (front p (c ++ d))) ≤ length c → take n (front p (c ++ stop)) ≡ take n (front p (c ++ d))
-take_front_stays zero p s c d l = refl
-take_front_stays (suc n) p s [] d l = let none = nil_of (take (suc n) (front p d)) l in rw s (sym none)
-take_front_stays (suc n) p s (x ∷ c) d l = go (p x) l (take_front_stays n p s c d)
+take_leading_stays : (n : ℕ) (p : ℕ → Bool) → p 46 ≡ false → (c d : List ℕ) → length (take n (leading p (c ++ d))) ≤ length c → take n (leading p (c ++ stop)) ≡ take n (leading p (c ++ d))
+take_leading_stays zero p s c d l = refl
+take_leading_stays (suc n) p s [] d l = let none = nil_of (take (suc n) (leading p d)) l in rw s (sym none)
+take_leading_stays (suc n) p s (x ∷ c) d l = go (p x) l (take_leading_stays n p s c d)
   where
-    go : (b : Bool) → length (take (suc n) (if b then x ∷ front p (c ++ d) else [])) ≤ length (x ∷ c)
-        → (length (take n (front p (c ++ d))) ≤ length c → take n (front p (c ++ stop)) ≡ take n (front p (c ++ d)))
-        → take (suc n) (if b then x ∷ front p (c ++ stop) else []) ≡ take (suc n) (if b then x ∷ front p (c ++ d) else [])
+    go : (b : Bool) → length (take (suc n) (if b then x ∷ leading p (c ++ d) else [])) ≤ length (x ∷ c)
+        → (length (take n (leading p (c ++ d))) ≤ length c → take n (leading p (c ++ stop)) ≡ take n (leading p (c ++ d)))
+        → take (suc n) (if b then x ∷ leading p (c ++ stop) else []) ≡ take (suc n) (if b then x ∷ leading p (c ++ d) else [])
     go true l f = ap (λ r. x ∷ r) (f (omega (arith, l)))
     go false l f = refl
 
@@ -62,9 +62,9 @@ scalar_size v size k n e = go (nat_lt v 0xD800 || is_in 0xE000 0x10FFFF v) e
 
 octal_stays : (x : ℕ) (c d : List ℕ) (k n : ℕ) → octal (x ∷ (c ++ d)) ≡ means k n → n ≤ length (x ∷ c) → octal (x ∷ (c ++ stop)) ≡ means k n
 octal_stays x c d k n e l =
-    let row = take 3 (front (λ y. is_digit y 8) (x ∷ (c ++ d))) in
+    let row = take 3 (leading (λ y. is_digit y 8) (x ∷ (c ++ d))) in
     let size : length row ≡ n = scalar_size (digits_value 8 row) (length row) k n e in
-    let same = take_front_stays 3 (λ y. is_digit y 8) refl (x ∷ c) d (omega (arith, size, l)) in
+    let same = take_leading_stays 3 (λ y. is_digit y 8) refl (x ∷ c) d (omega (arith, size, l)) in
     ap (λ ds. scalar (digits_value 8 ds) (length ds)) same ∙ e
 
 abbrev braced_end : List ℕ → List ℕ → Character
@@ -81,16 +81,16 @@ braced_size ds (y ∷ ys) k n e = (go (nat_lt 255 y) (y == 125 && nat_lt 0 (leng
 
 braced_stays : (c d : List ℕ) (k n : ℕ) → braced (c ++ d) ≡ means k n → n ≤ length c + 2 → braced (c ++ stop) ≡ means k n
 braced_stays c d k n e l =
-    let ds = front (λ y. is_digit y 16) (c ++ d) in
+    let ds = leading (λ y. is_digit y 16) (c ++ d) in
     let size = (braced_size ds (drop (length ds) (c ++ d)) k n e).0 in
-    let same = front_stays (λ y. is_digit y 16) refl c d (omega (arith, size)) in
+    let same = leading_stays (λ y. is_digit y 16) refl c d (omega (arith, size)) in
     let left : 0 < length (drop (length ds) c) = omega (arith, size, length-drop (length ds) c) in
     let within : length ds ≤ length c = omega (arith, size) in
     let cut = drop_stays (length ds) c d within in
     ap (λ r. braced_end r (drop (length r) (c ++ stop))) same ∙ (ap (braced_end ds) cut.1
     ∙ (tail (drop (length ds) c) left ∙ (sym (ap (braced_end ds) cut.0) ∙ e)))
   where
-    tail : (r : List ℕ) → 0 < length r → braced_end (front (λ y. is_digit y 16) (c ++ d)) (r ++ stop) ≡ braced_end (front (λ y. is_digit y 16) (c ++ d)) (r ++ d)
+    tail : (r : List ℕ) → 0 < length r → braced_end (leading (λ y. is_digit y 16) (c ++ d)) (r ++ stop) ≡ braced_end (leading (λ y. is_digit y 16) (c ++ d)) (r ++ d)
     tail [] l = absurd (omega arith)
     tail (y ∷ r) l = refl
 
@@ -113,7 +113,7 @@ hexadecimal_least (y ∷ ys) k n e = go (nat_lt 255 y) (y == 123) (is_digit y 16
   where
     go : (a b f : Bool) → (if a then unfinished else if b then braced ys else if f then paired y ys else senseless) ≡ means k n → 3 ≤ n
     go true b f e = absurd cc
-    go false true f e = let row = front (λ x. is_digit x 16) ys in omega (arith, (braced_size row (drop (length row) ys) k n e).0)
+    go false true f e = let row = leading (λ x. is_digit x 16) ys in omega (arith, (braced_size row (drop (length row) ys) k n e).0)
     go false false true e = omega (arith, paired_least y ys k n e)
     go false false false e = absurd cc
 

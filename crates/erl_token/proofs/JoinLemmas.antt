@@ -10,7 +10,7 @@ use Rattle.erl_number.specs.Numbers.{Numeral, numeral, is_int}
 use Rattle.erl_number.specs.Numbers.Numeral.{whole, faulty as faulty_number, cut_off}
 use Rattle.erl_token.specs.Quotes.{Quoted, quoted}
 use Rattle.erl_token.specs.Quotes.Quoted.{closed, faulty}
-use Rattle.erl_number.specs.Escapes.{front}
+use Rattle.erl_number.specs.Escapes.{leading}
 use Rattle.erl_token.specs.declared.token.Token.{Token as CodeToken}
 use Rattle.erl_token.specs.declared.token.Token.TheVariants.{Open, Close, Text as CodeText}
 use Rattle.erl_token.specs.declared.token.Bracket.TheVariants.{Tuple, List as Square, Binary}
@@ -134,11 +134,11 @@ spelling-no_text : (at : ℕ) (k : Class) (x : ℕ) (xs : List ℕ) → k ≢ Qu
 spelling-no_text at Less x xs h = doubled-no_text open_binary x xs refl
 spelling-no_text at Greater x xs h = doubled-no_text close_binary x xs refl
 spelling-no_text at Dot x xs h = dot-no_text (ends_a_term xs) x
-spelling-no_text at Letter x xs h = bare-no_text at (x ∷ front is_bare_name_byte xs)
+spelling-no_text at Letter x xs h = bare-no_text at (x ∷ leading is_bare_name_byte xs)
 spelling-no_text at Digit x xs h = number-no_text at pos 0 (numeral at at (x ∷ xs))
 spelling-no_text at Dollar x xs h = number-no_text at pos 0 (numeral at at (x ∷ xs))
 spelling-no_text at Sign x xs h =
-    let n = length (front (λ y. nat_le y 32) xs) in number-no_text at (sign_of x) (n + 1) (numeral at (at + 1 + n) (drop n xs))
+    let n = length (leading (λ y. nat_le y 32) xs) in number-no_text at (sign_of x) (n + 1) (numeral at (at + 1 + n) (drop n xs))
 spelling-no_text at Quote x xs h = absurd (h refl)
 spelling-no_text at Apostrophe x xs h = name_in_quotes-no_text at (quoted 39 at (at + 1) 0 xs)
 spelling-no_text at k x xs h = refl
@@ -201,7 +201,7 @@ row_breaks bytes s from to next f e is =
     let broken_item : Item = record { token = broken some_text f; from = next; to = next + 1 } in
     ap (put_item (text_item s from to)) (next_text bytes next (faulty f) e is (omega arith) ∙ put_item-other broken_item (items_from bytes (next + 1)) refl)
 
--- what the code tells apart as no text is none
+-- what the code takes for no text is none
 pub no_whole_text : (t : CodeToken) → ((content : Content) → t ≡ CodeText content → ⊥) → is_whole_text (token_value t) ≡ false
 no_whole_text (CodeText content) h = absurd (h content refl)
 no_whole_text (Open Tuple) h = refl

@@ -7,19 +7,19 @@ use Rattle.erl_token.specs.declared.token.Item.{Item as CodeItem}
 use Rattle.erl_number.specs.declared.run.Run.TheVariants.{InComment}
 use Rattle.erl_token.specs.Lexing.{class_of, spelling, comment_size, lex, start_of, goes_on, Spelling, ends_a_term}
 use Rattle.erl_token.specs.Lexing.Start.{token_of}
-use Rattle.erl_number.specs.Escapes.{front}
+use Rattle.erl_number.specs.Escapes.{leading}
 use Rattle.erl_token.specs.Views.{item_value, lexed}
 use Rattle.erl_number.specs.Scanned.{goes_on_with}
 use Rattle.erl_token.specs.Scanned.{IsSpelled}
 use Rattle.erl_number.proofs.Runs.{drop_some, drop_none}
 
 -- the token's own words for its run
-pub comment_size-front : (xs : List ℕ) → comment_size xs ≡ length (front (goes_on_with InComment) xs)
-comment_size-front [] = refl
-comment_size-front (x ∷ xs) = go (eqb x 10 || nat_lt 255 x) (comment_size-front xs)
+pub comment_size-leading : (xs : List ℕ) → comment_size xs ≡ length (leading (goes_on_with InComment) xs)
+comment_size-leading [] = refl
+comment_size-leading (x ∷ xs) = go (eqb x 10 || nat_lt 255 x) (comment_size-leading xs)
   where
-    go : (b : Bool) → comment_size xs ≡ length (front (goes_on_with InComment) xs)
-        → (if b then 0 else comment_size xs + 1) ≡ length (if not b then x ∷ front (goes_on_with InComment) xs else [])
+    go : (b : Bool) → comment_size xs ≡ length (leading (goes_on_with InComment) xs)
+        → (if b then 0 else comment_size xs + 1) ≡ length (if not b then x ∷ leading (goes_on_with InComment) xs else [])
     go true e = refl
     go false e = rw e (omega arith)
 
@@ -40,9 +40,9 @@ skips_blank bytes at b e k =
     begins_at bytes at b e ∙ ap (λ c. goes_on at (start_of at c b (drop (at + 1) bytes)) (λ n. lex (at + 1) n (drop (at + 1) bytes))) k
 
 pub skips_comment : (bytes : List ℕ) (at b end : ℕ) → slice_get bytes at ≡ Some b → class_of b ≡ Percent
-    → end ≡ (at + 1) + length (front (goes_on_with InComment) (drop (at + 1) bytes)) → lex at 0 (drop at bytes) ≡ lex end 0 (drop end bytes)
+    → end ≡ (at + 1) + length (leading (goes_on_with InComment) (drop (at + 1) bytes)) → lex at 0 (drop at bytes) ≡ lex end 0 (drop end bytes)
 skips_comment bytes at b end e k is =
-    let size = comment_size-front (drop (at + 1) bytes) in
+    let size = comment_size-leading (drop (at + 1) bytes) in
     let place : (at + 1) + comment_size (drop (at + 1) bytes) ≡ end = omega arith in
     begins_at bytes at b e
     ∙ (ap (λ c. goes_on at (start_of at c b (drop (at + 1) bytes)) (λ n. lex (at + 1) n (drop (at + 1) bytes))) k

@@ -8,14 +8,14 @@ use Rattle.std.proofs.lemmas.Bool.Decides.{nat_tests}
 use Rattle.std.proofs.lemmas.Slice.Eq.{bytes_eq-Decides}
 use Rattle.std.proofs.lemmas.List.{length-drop}
 use Rattle.erl_number.specs.declared.fault.TermFault.TheVariants.{BadToken, BadNumber, Unsupported}
-use Rattle.erl_number.specs.Escapes.{Character, is_in, front, itself, escape}
+use Rattle.erl_number.specs.Escapes.{Character, is_in, leading, itself, escape}
 use Rattle.erl_number.specs.Escapes.Character.{means, senseless, unfinished}
 use Rattle.erl_number.specs.Numbers.{Numeral, more_digits, digit_row, begins, spelled_by, unless_float, goes_on_as_float, is_alphanumeric, in_base, behind_base, behind_digits, digits_numeral, character_number, ended, character_numeral, numeral}
 use Rattle.erl_number.specs.Numbers.Numeral.{whole, faulty as faulty_number}
 use Rattle.erl_token.specs.Quotes.{Quoted, quoted, behind, escaped}
 use Rattle.erl_token.specs.Quotes.Quoted.{closed, faulty}
 use Rattle.erl_token.proofs.Sizes.{CharacterHolds, itself_holds, NumeralHolds, numeral_holds}
-use Rattle.erl_token.proofs.CutLemmas.{stop, nil_of, front_stays, drop_stays, escape_stays, itself_stays}
+use Rattle.erl_token.proofs.CutLemmas.{stop, nil_of, leading_stays, drop_stays, escape_stays, itself_stays}
 
 -- Rows of digits
 
@@ -73,12 +73,12 @@ unless_whole start rest n k size e = go (goes_on_as_float rest) refl e
 in_base_stays : (start start' base size : ℕ) (c d : List ℕ) (k n : ℕ) → in_base start base size (c ++ d) ≡ whole k n → n ≤ size + length c → in_base start' base size (c ++ stop) ≡ whole k n
 in_base_stays start start' base size c d k n e l =
     let p : ℕ → Bool = λ x. is_alphanumeric x || x == 95 in
-    let row = front p (c ++ d) in
+    let row = leading p (c ++ d) in
     let good = is_in 2 36 base && bytes_eq (digit_row base (c ++ d)) row in
     let parts = unless_whole start (drop (length row) (c ++ d)) (if good then whole (spelled_by base row) (size + length row) else faulty_number (BadNumber start)) k n e in
     let inner = passed good row parts.1 in
     let within : length row ≤ length c = omega (arith, inner.2, l) in
-    let same = front_stays p refl c d within in
+    let same = leading_stays p refl c d within in
     let cut = drop_stays (length row) c d within in
     let tests = and_parts (is_in 2 36 base) (bytes_eq (digit_row base (c ++ d)) row) inner.0 in
     let base_high : base ≤ 36 = let h = tests.0 in grind (arith, nat_tests) in
@@ -108,8 +108,8 @@ base_least start base size at (x ∷ d) k n e = go (is_alphanumeric x) refl e
     go : (b : Bool) → is_alphanumeric x ≡ b → (if b then in_base start base size (x ∷ d) else faulty_number (BadToken at)) ≡ whole k n → size < n
     go true a e =
         let p : ℕ → Bool = λ y. is_alphanumeric y || y == 95 in
-        let all = front p (x ∷ d) in
-        let first : all ≡ x ∷ front p d = rw a refl in
+        let all = leading p (x ∷ d) in
+        let first : all ≡ x ∷ leading p d = rw a refl in
         let good = is_in 2 36 base && bytes_eq (digit_row base (x ∷ d)) all in
         sized good all (omega (arith, ap length first)) (unless_whole start (drop (length all) (x ∷ d)) (if good then whole (spelled_by base all) (size + length all) else faulty_number (BadNumber start)) k n e).1
     go false a e = absurd cc

@@ -11,20 +11,20 @@ use Rattle.erl_number.specs.declared.run.Run.TheVariants.{InName}
 use Rattle.erl_number.specs.Texts.{is_bare_name_byte}
 use Rattle.erl_token.specs.Lexing.{class_of, alone, doubled, Spelling, Token, Item}
 use Rattle.erl_token.specs.Lexing.Token.{cut, stray}
-use Rattle.erl_number.specs.Escapes.{front}
+use Rattle.erl_number.specs.Escapes.{leading}
 use Rattle.erl_number.specs.Views.{seal}
 use Rattle.erl_number.specs.Scanned.{goes_on_with}
-use Rattle.erl_number.proofs.Runs.{drop_some, drop_none, front_passes}
+use Rattle.erl_number.proofs.Runs.{drop_some, drop_none, leading_passes}
 use Rattle.erl_number.proofs.Parts.{run_valid, run_within, run_part, byte_valid}
 
 ascii_in_run : (run : Run) → ((x : ℕ) → goes_on_with run x ≡ true → x < 128) → (valid : List ℕ) (from to : ℕ) → IsUtf8 valid → from < to → to ≤ length valid
-    → to ≡ from + length (front (goes_on_with run) (drop from valid)) → IsCharBoundary valid to
+    → to ≡ from + length (leading (goes_on_with run) (drop from valid)) → IsCharBoundary valid to
 ascii_in_run run ascii valid from to utf8 some within e =
-    let last : (to - 1) - from < length (front (goes_on_with run) (drop from valid)) = omega arith in
+    let last : (to - 1) - from < length (leading (goes_on_with run) (drop from valid)) = omega arith in
     let place : from + ((to - 1) - from) ≡ to - 1 = omega arith in
     let passes : goes_on_with run (get_or valid (to - 1) 0) ≡ true =
     ap (λ x. goes_on_with run x) (ap (λ k. get_or valid k 0) (sym place) ∙ sym (get_or-drop from valid ((to - 1) - from) 0))
-    ∙ front_passes (goes_on_with run) (drop from valid) ((to - 1) - from) last in
+    ∙ leading_passes (goes_on_with run) (drop from valid) ((to - 1) - from) last in
     let behind : (to - 1) + 1 ≡ to = omega arith in
     subst (λ k. IsCharBoundary valid k) behind (IsCharBoundary-after_ascii valid (to - 1) utf8 (omega arith) (ascii (get_or valid (to - 1) 0) passes))
 
@@ -38,25 +38,25 @@ letter_in_name x e = ((grind (arith, nat_tests)), (grind (arith, nat_tests)))
 pub record IsRun (run : Run) (valid bytes : List ℕ) (from to : ℕ) : Type 0 where
   pub some : from < to
   pub within : to ≤ length valid
-  pub end : to ≡ from + length (front (goes_on_with run) (drop from valid))
-  pub same : front (goes_on_with run) (drop from bytes) ≡ front (goes_on_with run) (drop from valid)
+  pub end : to ≡ from + length (leading (goes_on_with run) (drop from valid))
+  pub same : leading (goes_on_with run) (drop from bytes) ≡ leading (goes_on_with run) (drop from valid)
   pub begins : get_or valid from 0 < 128
 
 is_run : (run : Run) (valid : List ℕ) (b : Bool) (from to : ℕ) → from < length (valid ++ seal b) → get_or (valid ++ seal b) from 0 < 128
-    → goes_on_with run (get_or (valid ++ seal b) from 0) ≡ true → to ≡ from + length (front (goes_on_with run) (drop from (valid ++ seal b)))
+    → goes_on_with run (get_or (valid ++ seal b) from 0) ≡ true → to ≡ from + length (leading (goes_on_with run) (drop from (valid ++ seal b)))
     → IsRun run valid (valid ++ seal b) from to
 is_run run valid b from to l ascii passes e =
     let (in_valid, byte) = byte_valid valid b from l (omega arith) in
     let same = run_valid run valid b from (omega arith) in
-    let end : to ≡ from + length (front (goes_on_with run) (drop from valid)) = e ∙ ap (λ ys. from + length ys) same in
-    let first : front (goes_on_with run) (drop from valid) ≡ get_or valid from 0 ∷ front (goes_on_with run) (drop (from + 1) valid) =
-    ap (front (goes_on_with run)) (drop_more valid from 0 in_valid)
-    ∙ ap (λ t. if t then get_or valid from 0 ∷ front (goes_on_with run) (drop (from + 1) valid) else []) (ap (goes_on_with run) (sym byte) ∙ passes) in
-    let long : length (front (goes_on_with run) (drop from valid)) ≡ suc (length (front (goes_on_with run) (drop (from + 1) valid))) = ap length first in
+    let end : to ≡ from + length (leading (goes_on_with run) (drop from valid)) = e ∙ ap (λ ys. from + length ys) same in
+    let first : leading (goes_on_with run) (drop from valid) ≡ get_or valid from 0 ∷ leading (goes_on_with run) (drop (from + 1) valid) =
+    ap (leading (goes_on_with run)) (drop_more valid from 0 in_valid)
+    ∙ ap (λ t. if t then get_or valid from 0 ∷ leading (goes_on_with run) (drop (from + 1) valid) else []) (ap (goes_on_with run) (sym byte) ∙ passes) in
+    let long : length (leading (goes_on_with run) (drop from valid)) ≡ suc (length (leading (goes_on_with run) (drop (from + 1) valid))) = ap length first in
     record { some = omega arith; within = omega (arith, run_within run valid from (omega arith)); end = end; same = same; begins = omega arith }
 
 pub name_run : (valid : List ℕ) (b : Bool) (from to : ℕ) → from < length (valid ++ seal b) → class_of (get_or (valid ++ seal b) from 0) ≡ Letter
-    → to ≡ from + length (front (goes_on_with InName) (drop from (valid ++ seal b))) → IsRun InName valid (valid ++ seal b) from to
+    → to ≡ from + length (leading (goes_on_with InName) (drop from (valid ++ seal b))) → IsRun InName valid (valid ++ seal b) from to
 name_run valid b from to l k e = let (ascii, passes) = letter_in_name (get_or (valid ++ seal b) from 0) k in is_run InName valid b from to l ascii passes e
 
 pub name_begins : {valid bytes : List ℕ} {from to : ℕ} → IsRun InName valid bytes from to → IsCharBoundary valid from
@@ -74,12 +74,12 @@ spelled_item s at = item s.token at (at + s.size)
 
 -- the name between the places, and how many bytes it takes
 pub name_part : {valid bytes : List ℕ} {from to : ℕ} (part : List ℕ) → IsRun InName valid bytes from to → part ≡ slice_range valid from to
-    → part ≡ front is_bare_name_byte (drop from bytes)
+    → part ≡ leading is_bare_name_byte (drop from bytes)
 name_part {valid = valid} {from = from} {to = to} part r e = e ∙ (run_part InName valid from to r.end ∙ sym r.same)
 
-pub name_size : {valid bytes : List ℕ} {from to : ℕ} → IsRun InName valid bytes from to → to - from ≡ length (front is_bare_name_byte (drop from bytes))
+pub name_size : {valid bytes : List ℕ} {from to : ℕ} → IsRun InName valid bytes from to → to - from ≡ length (leading is_bare_name_byte (drop from bytes))
 name_size {valid = valid} {bytes = bytes} {from = from} {to = to} r =
-    let short : to - from ≡ length (front (goes_on_with InName) (drop from valid)) = omega (arith, r.end) in
+    let short : to - from ≡ length (leading (goes_on_with InName) (drop from valid)) = omega (arith, r.end) in
     short ∙ ap length (sym r.same)
 
 -- two bytes in a row, by the second

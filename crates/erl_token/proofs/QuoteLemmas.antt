@@ -9,7 +9,7 @@ use Rattle.std.proofs.lemmas.Option.{slice_get_within, get_or_from_slice_get}
 use Rattle.erl_number.specs.declared.run.Run.TheVariants.{InQuotes}
 use Rattle.erl_number.specs.declared.fault.TermFault.{TermFault}
 use Rattle.erl_number.specs.declared.fault.TermFault.TheVariants.{BadToken, Unclosed}
-use Rattle.erl_number.specs.Escapes.{Character, front, escape}
+use Rattle.erl_number.specs.Escapes.{Character, leading, escape}
 use Rattle.erl_number.specs.Escapes.Character.{means, senseless, unfinished}
 use Rattle.erl_token.specs.Quotes.{Quoted, behind, unclosed, escaped, quoted}
 use Rattle.erl_token.specs.Quotes.Quoted.{closed, faulty}
@@ -54,17 +54,17 @@ quoted-plain quote from at x xs h =
 -- a run of bytes that stand for themselves
 pub quoted-run : (quote from at : ℕ) (xs : List ℕ)
     → quoted quote from at 0 xs
-    ≡ behind (front (is_plain quote) xs) (length (front (is_plain quote) xs)) (quoted quote from (at + length (front (is_plain quote) xs)) 0 (drop (length (front (is_plain quote) xs)) xs))
+    ≡ behind (leading (is_plain quote) xs) (length (leading (is_plain quote) xs)) (quoted quote from (at + length (leading (is_plain quote) xs)) 0 (drop (length (leading (is_plain quote) xs)) xs))
 quoted-run quote from at [] = refl
 quoted-run quote from at (x ∷ xs) = go (is_plain quote x) refl (quoted-run quote from (at + 1) xs)
   where
     go : (b : Bool) → is_plain quote x ≡ b
         → quoted quote from (at + 1) 0 xs
-        ≡ behind (front (is_plain quote) xs) (length (front (is_plain quote) xs)) (quoted quote from ((at + 1) + length (front (is_plain quote) xs)) 0 (drop (length (front (is_plain quote) xs)) xs))
+        ≡ behind (leading (is_plain quote) xs) (length (leading (is_plain quote) xs)) (quoted quote from ((at + 1) + length (leading (is_plain quote) xs)) 0 (drop (length (leading (is_plain quote) xs)) xs))
         → quoted quote from at 0 (x ∷ xs)
-        ≡ (let r = if b then x ∷ front (is_plain quote) xs else [] in behind r (length r) (quoted quote from (at + length r) 0 (drop (length r) (x ∷ xs))))
+        ≡ (let r = if b then x ∷ leading (is_plain quote) xs else [] in behind r (length r) (quoted quote from (at + length r) 0 (drop (length r) (x ∷ xs))))
     go true e more =
-        let r = front (is_plain quote) xs in
+        let r = leading (is_plain quote) xs in
         let place : (at + 1) + length r ≡ at + length (x ∷ r) = omega arith in
         let size : 1 + length r ≡ length (x ∷ r) = omega arith in
         quoted-plain quote from at x xs e
@@ -100,9 +100,9 @@ reads_on quote from bytes content more at size end r is e =
     }
 
 pub reads_run : (quote from : ℕ) (bytes content more : List ℕ) (at end : ℕ) → IsRead quote from bytes content at
-    → end ≡ at + length (front (is_plain quote) (drop at bytes)) → more ≡ front (is_plain quote) (drop at bytes) → IsRead quote from bytes (content ++ more) end
+    → end ≡ at + length (leading (is_plain quote) (drop at bytes)) → more ≡ leading (is_plain quote) (drop at bytes) → IsRead quote from bytes (content ++ more) end
 reads_run quote from bytes content more at end r is same =
-    let run = front (is_plain quote) (drop at bytes) in
+    let run = leading (is_plain quote) (drop at bytes) in
     let place : at + length run ≡ end = sym is in
     reads_on quote from bytes content more at (length run) end r is
     (quoted-run quote from at (drop at bytes)
@@ -135,9 +135,9 @@ reads_escape quote from bytes content at c size end r h e is place =
     ∙ ap (λ p. behind (encode_utf8 c) (1 + size) (quoted quote from p 0 (drop p bytes))) (sym place))))))
 
 -- how it ends
-tells : (quote from : ℕ) (bytes content : List ℕ) (at : ℕ) (f : TermFault) → IsRead quote from bytes content at
+reports : (quote from : ℕ) (bytes content : List ℕ) (at : ℕ) (f : TermFault) → IsRead quote from bytes content at
     → quoted quote from at 0 (drop at bytes) ≡ faulty f → quoted quote from (from + 1) 0 (drop (from + 1) bytes) ≡ faulty f
-tells quote from bytes content at f r e = r.so_far ∙ ap (behind content (at - (from + 1))) e
+reports quote from bytes content at f r e = r.so_far ∙ ap (behind content (at - (from + 1))) e
 
 pub closes_quote : (quote from : ℕ) (bytes content : List ℕ) (at : ℕ) → IsRead quote from bytes content at → slice_get bytes at ≡ Some quote
     → quoted quote from (from + 1) 0 (drop (from + 1) bytes) ≡ closed content ((at + 1) - (from + 1))
@@ -155,21 +155,21 @@ bad_in_quotes quote from bytes content at b r e other large =
     let no_quote : eqb b quote ≡ false = grind (arith, nat_tests) in
     let bad : nat_lt 255 b ≡ true = grind (arith, nat_tests) in
     let here : quoted quote from at 0 (b ∷ drop (at + 1) bytes) ≡ faulty (BadToken at) = rw (no_quote, bad) refl in
-    tells quote from bytes content at (BadToken at) r (ap (quoted quote from at 0) (drop_some bytes at b e) ∙ here)
+    reports quote from bytes content at (BadToken at) r (ap (quoted quote from at 0) (drop_some bytes at b e) ∙ here)
 
 pub open_quote : (quote from : ℕ) (bytes content : List ℕ) (at : ℕ) → IsRead quote from bytes content at → slice_get bytes at ≡ None
     → quoted quote from (from + 1) 0 (drop (from + 1) bytes) ≡ faulty (Unclosed from)
-open_quote quote from bytes content at r e = tells quote from bytes content at (Unclosed from) r (ap (quoted quote from at 0) (drop_none bytes at e))
+open_quote quote from bytes content at r e = reports quote from bytes content at (Unclosed from) r (ap (quoted quote from at 0) (drop_none bytes at e))
 
 pub senseless_escape : (quote from : ℕ) (bytes content : List ℕ) (at : ℕ) → IsRead quote from bytes content at → quote ≢ 92
     → slice_get bytes at ≡ Some 92 → escape (drop (at + 1) bytes) ≡ senseless → quoted quote from (from + 1) 0 (drop (from + 1) bytes) ≡ faulty (BadToken at)
-senseless_escape quote from bytes content at r h e is = tells quote from bytes content at (BadToken at) r (at_escape quote from at bytes senseless h e is)
+senseless_escape quote from bytes content at r h e is = reports quote from bytes content at (BadToken at) r (at_escape quote from at bytes senseless h e is)
 
 pub unfinished_escape : (quote from : ℕ) (bytes content : List ℕ) (at : ℕ) → IsRead quote from bytes content at → quote ≢ 92
     → slice_get bytes at ≡ Some 92 → escape (drop (at + 1) bytes) ≡ unfinished
     → quoted quote from (from + 1) 0 (drop (from + 1) bytes) ≡ faulty (unclosed from (at + 1) (drop (at + 1) bytes))
 unfinished_escape quote from bytes content at r h e is =
-    tells quote from bytes content at (unclosed from (at + 1) (drop (at + 1) bytes)) r (at_escape quote from at bytes unfinished h e is)
+    reports quote from bytes content at (unclosed from (at + 1) (drop (at + 1) bytes)) r (at_escape quote from at bytes unfinished h e is)
 
 -- The fault of a text that ends with a quote open, by where its bytes are no longer UTF-8.
 unclosed-bytes : (from at : ℕ) (xs : List ℕ) (b : Bool) → EachIndex xs (λ k. get_or xs k 0 < 256)
@@ -211,29 +211,29 @@ inside valid b at x e small =
 pub cut_behind : (valid : List ℕ) (b : Bool) (at x : ℕ) → IsUtf8 valid → slice_get (valid ++ seal b) at ≡ Some x → x < 128 → IsCharBoundary valid (at + 1)
 cut_behind valid b at x utf8 e small = let (within, is) = inside valid b at x e small in IsCharBoundary-after_ascii valid at utf8 within (omega arith)
 
-front_stops : (p : ℕ → Bool) (xs : List ℕ) → length (front p xs) < length xs → p (get_or xs (length (front p xs)) 0) ≡ false
-front_stops p [] l = absurd (omega arith)
-front_stops p (x ∷ xs) l = go (p x) refl l (front_stops p xs)
+leading_stops : (p : ℕ → Bool) (xs : List ℕ) → length (leading p xs) < length xs → p (get_or xs (length (leading p xs)) 0) ≡ false
+leading_stops p [] l = absurd (omega arith)
+leading_stops p (x ∷ xs) l = go (p x) refl l (leading_stops p xs)
   where
-    go : (t : Bool) → p x ≡ t → length (if t then x ∷ front p xs else []) < length (x ∷ xs)
-        → (length (front p xs) < length xs → p (get_or xs (length (front p xs)) 0) ≡ false)
-        → p (get_or (x ∷ xs) (length (if t then x ∷ front p xs else [])) 0) ≡ false
+    go : (t : Bool) → p x ≡ t → length (if t then x ∷ leading p xs else []) < length (x ∷ xs)
+        → (length (leading p xs) < length xs → p (get_or xs (length (leading p xs)) 0) ≡ false)
+        → p (get_or (x ∷ xs) (length (if t then x ∷ leading p xs else [])) 0) ≡ false
     go true e l more = more (omega arith)
     go false e l more = e
 
 -- a run between quotes ends where the text may be cut
 pub run_cut : (quote : ℕ) (valid : List ℕ) (b : Bool) (at end : ℕ) → quote < 128 → at ≤ length valid
-    → end ≡ at + length (front (is_plain quote) (drop at (valid ++ seal b))) → IsCharBoundary valid end
+    → end ≡ at + length (leading (is_plain quote) (drop at (valid ++ seal b))) → IsCharBoundary valid end
 run_cut quote valid b at end small l e =
-    let same : front (is_plain quote) (drop at (valid ++ seal b)) ≡ front (is_plain quote) (drop at valid) = run_valid (InQuotes quote) valid b at l in
-    let short : end ≡ at + length (front (is_plain quote) (drop at valid)) = e ∙ ap (λ ys. at + length ys) same in
+    let same : leading (is_plain quote) (drop at (valid ++ seal b)) ≡ leading (is_plain quote) (drop at valid) = run_valid (InQuotes quote) valid b at l in
+    let short : end ≡ at + length (leading (is_plain quote) (drop at valid)) = e ∙ ap (λ ys. at + length ys) same in
     let within : end ≤ length valid = omega (arith, run_within (InQuotes quote) valid at l) in (
       within,
       λ inside high.
-          let left : length (front (is_plain quote) (drop at valid)) < length (drop at valid) = omega (arith, length-drop at valid) in
-          let stops : is_plain quote (get_or (drop at valid) (length (front (is_plain quote) (drop at valid))) 0) ≡ false = front_stops (is_plain quote) (drop at valid) left in
-          let place : get_or (drop at valid) (length (front (is_plain quote) (drop at valid))) 0 ≡ get_or valid end 0 =
-          get_or-drop at valid (length (front (is_plain quote) (drop at valid))) 0 ∙ ap (λ k. get_or valid k 0) (sym short) in
+          let left : length (leading (is_plain quote) (drop at valid)) < length (drop at valid) = omega (arith, length-drop at valid) in
+          let stops : is_plain quote (get_or (drop at valid) (length (leading (is_plain quote) (drop at valid))) 0) ≡ false = leading_stops (is_plain quote) (drop at valid) left in
+          let place : get_or (drop at valid) (length (leading (is_plain quote) (drop at valid))) 0 ≡ get_or valid end 0 =
+          get_or-drop at valid (length (leading (is_plain quote) (drop at valid))) 0 ∙ ap (λ k. get_or valid k 0) (sym short) in
           let here : is_plain quote (get_or valid end 0) ≡ false = ap (is_plain quote) (sym place) ∙ stops in
           not_plain (get_or valid end 0) here high,
     )
@@ -242,14 +242,14 @@ run_cut quote valid b at end small l e =
     not_plain x h high = grind (arith, nat_tests)
 
 pub run_between : (quote : ℕ) (valid : List ℕ) (b : Bool) (at end : ℕ) → at ≤ length valid
-    → end ≡ at + length (front (is_plain quote) (drop at (valid ++ seal b))) → slice_range valid at end ≡ front (is_plain quote) (drop at (valid ++ seal b))
+    → end ≡ at + length (leading (is_plain quote) (drop at (valid ++ seal b))) → slice_range valid at end ≡ leading (is_plain quote) (drop at (valid ++ seal b))
 run_between quote valid b at end l e =
-    let same : front (is_plain quote) (drop at (valid ++ seal b)) ≡ front (is_plain quote) (drop at valid) = run_valid (InQuotes quote) valid b at l in
+    let same : leading (is_plain quote) (drop at (valid ++ seal b)) ≡ leading (is_plain quote) (drop at valid) = run_valid (InQuotes quote) valid b at l in
     run_part (InQuotes quote) valid at end (e ∙ ap (λ ys. at + length ys) same) ∙ sym same
 
 -- a run that begins with a byte that stands for itself goes on
 pub run_goes_on : (quote : ℕ) (bytes : List ℕ) (at x end : ℕ) → slice_get bytes at ≡ Some x → x ≢ quote → x ≤ 255 → x ≢ 92
-    → end ≡ at + length (front (is_plain quote) (drop at bytes)) → at < end
+    → end ≡ at + length (leading (is_plain quote) (drop at bytes)) → at < end
 run_goes_on quote bytes at x end e other byte no_escape is =
     let plain : is_plain quote x ≡ true = grind (arith, nat_tests) in
     omega (arith, run_more (is_plain quote) bytes at x e plain)

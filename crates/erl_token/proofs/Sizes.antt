@@ -8,7 +8,7 @@ use Rattle.std.proofs.lemmas.Bool.Decides.{nat_tests}
 use Rattle.std.proofs.lemmas.List.{length-take, length-drop}
 use Rattle.erl_token.specs.declared.class.Class.{Class}
 use Rattle.erl_token.specs.declared.class.Class.TheVariants.{Less, Greater, Quote, Apostrophe, Dollar, Sign, Letter, Digit}
-use Rattle.erl_number.specs.Escapes.{Character, is_in, front, with_next, first_of, itself, scalar, octal, braced, paired, hexadecimal, caret, letter_character, by_name, escape}
+use Rattle.erl_number.specs.Escapes.{Character, is_in, leading, with_next, first_of, itself, scalar, octal, braced, paired, hexadecimal, caret, letter_character, by_name, escape}
 use Rattle.erl_number.specs.Escapes.Character.{means, senseless, unfinished}
 use Rattle.erl_number.specs.Numbers.{Numeral, more_digits, digit_row, begins, spelled_by, unless_float, goes_on_as_float, is_alphanumeric, in_base, behind_base, behind_digits, digits_numeral, character_number, ended, character_numeral, numeral, is_int}
 use Rattle.erl_number.specs.Numbers.Numeral.{whole, faulty as faulty_number, cut_off}
@@ -23,11 +23,11 @@ use Rattle.erl_token.specs.Lexing.{Token, Spelling, alone, some_name, some_numbe
 abbrev pub Holds : ℕ → ℕ → Type 0
 Holds most size = (0 < size) × (size ≤ most)
 
-pub front_size : (p : ℕ → Bool) (xs : List ℕ) → length (front p xs) ≤ length xs
-front_size p [] = omega arith
-front_size p (x ∷ xs) = go (p x) (front_size p xs)
+pub leading_size : (p : ℕ → Bool) (xs : List ℕ) → length (leading p xs) ≤ length xs
+leading_size p [] = omega arith
+leading_size p (x ∷ xs) = go (p x) (leading_size p xs)
   where
-    go : (b : Bool) → length (front p xs) ≤ length xs → length (if b then x ∷ front p xs else []) ≤ length (x ∷ xs)
+    go : (b : Bool) → length (leading p xs) ≤ length xs → length (if b then x ∷ leading p xs else []) ≤ length (x ∷ xs)
     go true h = omega arith
     go false h = omega arith
 
@@ -84,14 +84,14 @@ next_holds most (x ∷ xs) decide h = if_holds (nat_lt 255 x) most unfinished (d
 
 octal_holds : (x : ℕ) (xs : List ℕ) → is_digit x 8 ≡ true → CharacterHolds (length (x ∷ xs)) (octal (x ∷ xs))
 octal_holds x xs d =
-    let row = front (λ c. is_digit c 8) (x ∷ xs) in
-    let first : row ≡ x ∷ front (λ c. is_digit c 8) xs = rw d refl in
-    let most = front_size (λ c. is_digit c 8) (x ∷ xs) in
+    let row = leading (λ c. is_digit c 8) (x ∷ xs) in
+    let first : row ≡ x ∷ leading (λ c. is_digit c 8) xs = rw d refl in
+    let most = leading_size (λ c. is_digit c 8) (x ∷ xs) in
     scalar_holds (digits_value 8 (take 3 row)) (length (x ∷ xs)) (length (take 3 row)) (omega (arith, length-take 3 row, ap length first), omega (arith, length-take 3 row, most))
 
 braced_holds : (xs : List ℕ) → CharacterHolds (length xs + 2) (braced xs)
 braced_holds xs =
-    let row = front (λ c. is_digit c 16) xs in
+    let row = leading (λ c. is_digit c 16) xs in
     next_holds (length xs + 2) (drop (length row) xs) (λ y ys. if y == 125 && nat_lt 0 (length row) then scalar (digits_value 16 row) (length row + 3) else senseless)
     (λ y ys e. if_holds (y == 125 && nat_lt 0 (length row)) (length xs + 2) (scalar (digits_value 16 row) (length row + 3)) senseless
     (scalar_holds (digits_value 16 row) (length xs + 2) (length row + 3) (omega arith, omega (arith, length-drop (length row) xs, ap length e))) tt)
@@ -146,11 +146,11 @@ either_holds false most n m h k = k
 
 in_base_holds : (start base size : ℕ) (xs : List ℕ) → 0 < size → NumeralHolds (size + length xs) (in_base start base size xs)
 in_base_holds start base size xs some =
-    let row = front (λ x. is_alphanumeric x || x == 95) xs in
+    let row = leading (λ x. is_alphanumeric x || x == 95) xs in
     let n : Numeral = if is_in 2 36 base && bytes_eq (digit_row base xs) row then whole (spelled_by base row) (size + length row) else faulty_number (BadNumber start) in
     either_holds (goes_on_as_float (drop (length row) xs)) (size + length xs) (faulty_number (Unsupported start)) n tt
     (either_holds (is_in 2 36 base && bytes_eq (digit_row base xs) row) (size + length xs) (whole (spelled_by base row) (size + length row)) (faulty_number (BadNumber start))
-    (omega arith, omega (arith, front_size (λ x. is_alphanumeric x || x == 95) xs)) tt)
+    (omega arith, omega (arith, leading_size (λ x. is_alphanumeric x || x == 95) xs)) tt)
 
 behind_base_holds : (start base size at : ℕ) (xs : List ℕ) → 0 < size → NumeralHolds (size + length xs) (behind_base start base size at xs)
 behind_base_holds start base size at [] some = tt
@@ -272,8 +272,8 @@ unsigned_holds at x xs =
 
 signed_holds : (at x : ℕ) (xs : List ℕ) → SpellingHolds (length (x ∷ xs)) (signed at x xs)
 signed_holds at x xs =
-    let n = length (front (λ y. nat_le y 32) xs) in
-    let all : n + 1 + length (drop n xs) ≡ length (x ∷ xs) = omega (arith, front_size (λ y. nat_le y 32) xs, length-drop n xs) in
+    let n = length (leading (λ y. nat_le y 32) xs) in
+    let all : n + 1 + length (drop n xs) ≡ length (x ∷ xs) = omega (arith, leading_size (λ y. nat_le y 32) xs, length-drop n xs) in
     subst (λ m. SpellingHolds m (signed at x xs)) all
     (number_holds at (sign_of x) (n + 1) (length (drop n xs)) (numeral at (at + 1 + n) (drop n xs)) (numeral_holds at (at + 1 + n) (drop n xs)) (omega arith))
 
@@ -281,11 +281,11 @@ doubled_holds : (t : Token) (x : ℕ) (xs : List ℕ) → SpellingHolds (length 
 doubled_holds t x [] = (omega arith, omega arith)
 doubled_holds t x (y ∷ ys) = choice_holds (y == x) (length (x ∷ y ∷ ys)) (record { token = t; size = 2 }) (alone (stray x)) (omega arith, omega arith) (omega arith, omega arith)
 
-bare_holds : (at x : ℕ) (xs : List ℕ) → SpellingHolds (length (x ∷ xs)) (bare at (x ∷ front is_bare_name_byte xs))
+bare_holds : (at x : ℕ) (xs : List ℕ) → SpellingHolds (length (x ∷ xs)) (bare at (x ∷ leading is_bare_name_byte xs))
 bare_holds at x xs =
-    let s = x ∷ front is_bare_name_byte xs in
+    let s = x ∷ leading is_bare_name_byte xs in
     choice_holds (bytes_eq s (codes "fun")) (length (x ∷ xs)) (alone (broken some_name (Unsupported at))) (name_spelling at s (length s)) (omega arith, omega arith)
-    (name_holds at (length (x ∷ xs)) s (length s) (omega arith, omega (arith, front_size is_bare_name_byte xs)))
+    (name_holds at (length (x ∷ xs)) s (length s) (omega arith, omega (arith, leading_size is_bare_name_byte xs)))
 
 text_quotes_hold : (x : ℕ) (xs : List ℕ) (q : Quoted) → QuotedHolds (length xs) q → SpellingHolds (length (x ∷ xs)) (text_in_quotes q)
 text_quotes_hold x xs (closed s size) h = (omega arith, omega (arith, h))

@@ -3,7 +3,7 @@ use Rattle.std.proofs.Common.{◌≡◌, ◌⊎◌, inl, inr, ℕ, pos, ◌+◌,
 use Rattle.std.proofs.lemmas.List.{drop_more}
 use Rattle.erl_token.specs.declared.class.Class.{Class}
 use Rattle.erl_token.specs.declared.class.Class.TheVariants.{Blank, Percent, Dollar, Letter, Digit, Other}
-use Rattle.erl_number.specs.Escapes.{front}
+use Rattle.erl_number.specs.Escapes.{leading}
 use Rattle.erl_number.specs.Texts.{is_bare_name_byte}
 use Rattle.erl_token.specs.Lexing.{class_of, alone, bare, numbered, spelling}
 use Rattle.erl_token.specs.Lexing.Token.{stray}
@@ -15,10 +15,10 @@ bytes_from : (bytes : List ℕ) (at x : ℕ) → at < length bytes → x ≡ get
 bytes_from bytes at x h e = drop_more bytes at 0 h ∙ ap (λ y. y ∷ drop (at + 1) bytes) (sym e)
 
 pub name_spelled : (bytes : List ℕ) (at x : ℕ) (k : Class) → at < length bytes → x ≡ get_or bytes at 0 → k ≡ class_of x → k ≡ Letter
-    → bare at (front is_bare_name_byte (drop at bytes)) ≡ spelling at k x (drop (at + 1) bytes)
+    → bare at (leading is_bare_name_byte (drop at bytes)) ≡ spelling at k x (drop (at + 1) bytes)
 name_spelled bytes at x k h e c l =
     let passes : is_bare_name_byte x ≡ true = (letter_in_name x (sym c ∙ l)).1 in
-    rw l (ap (λ xs. bare at (front is_bare_name_byte xs)) (bytes_from bytes at x h e) ∙ rw passes refl)
+    rw l (ap (λ xs. bare at (leading is_bare_name_byte xs)) (bytes_from bytes at x h e) ∙ rw passes refl)
 
 pub number_spelled : (bytes : List ℕ) (at x : ℕ) (k : Class) → at < length bytes → x ≡ get_or bytes at 0 → (k ≡ Digit) ⊎ (k ≡ Dollar)
     → numbered at pos 0 (numeral at at (drop at bytes)) ≡ spelling at k x (drop (at + 1) bytes)

@@ -6,7 +6,7 @@ use Rattle.std.proofs.lemmas.List.{length-drop}
 use Rattle.erl_number.specs.declared.fault.TermFault.TheVariants.{BadToken, BadNumber, Unsupported}
 use Rattle.erl_token.specs.declared.class.Class.{Class}
 use Rattle.erl_token.specs.declared.class.Class.TheVariants.{Blank, Percent, Dot, Less, Greater, Quote, Apostrophe, Dollar, Sign, Letter, Digit, Other}
-use Rattle.erl_number.specs.Escapes.{front}
+use Rattle.erl_number.specs.Escapes.{leading}
 use Rattle.erl_number.specs.Numbers.{Numeral, numeral, is_int}
 use Rattle.erl_number.specs.Numbers.Numeral.{whole, faulty as faulty_number, cut_off}
 use Rattle.erl_token.specs.Quotes.{Quoted, quoted}
@@ -15,7 +15,7 @@ use Rattle.erl_number.specs.Texts.{is_bare_name_byte}
 use Rattle.erl_token.specs.Lexing.{Token, Spelling, alone, some_name, some_number, name_spelling, bare, name_in_quotes, text_in_quotes, in_range, numbered, sign_of, signed, doubled, ends_a_term, spelling}
 use Rattle.erl_token.specs.Lexing.Token.{open_binary, close_binary, name, number, dot, stray, broken}
 use Rattle.erl_token.specs.Rows.{is_of_term}
-use Rattle.erl_token.proofs.CutLemmas.{stop, front_stays, drop_stays}
+use Rattle.erl_token.proofs.CutLemmas.{stop, leading_stays, drop_stays}
 use Rattle.erl_token.proofs.NumberCuts.{numeral_stays, quoted_stays}
 
 abbrev IsGood : Spelling → Type 0
@@ -67,10 +67,10 @@ numbered_stays at at' start start' from from' sign size c d good l = go (numeral
 
 signed_stays : (at at' x : ℕ) (c d : List ℕ) → IsGood (signed at x (c ++ d)) → (signed at x (c ++ d)).size ≤ length (x ∷ c) → signed at' x (c ++ stop) ≡ signed at x (c ++ d)
 signed_stays at at' x c d good l =
-    let blanks = front (λ y. nat_le y 32) (c ++ d) in
+    let blanks = leading (λ y. nat_le y 32) (c ++ d) in
     let n = length blanks in
     let within : n ≤ length c = few (numeral at (at + 1 + n) (drop n (c ++ d))) good l in
-    let same = front_stays (λ y. nat_le y 32) refl c d within in
+    let same = leading_stays (λ y. nat_le y 32) refl c d within in
     let cut = drop_stays n c d within in
     let room : (n + 1) + length (drop n c) ≡ length (x ∷ c) = omega (arith, length-drop n c, within) in
     let here : numbered at (sign_of x) (n + 1) (numeral at (at + 1 + n) (drop n (c ++ d))) ≡ numbered at (sign_of x) (n + 1) (numeral at (at + 1 + n) (drop n c ++ d)) =
@@ -81,9 +81,9 @@ signed_stays at at' x c d good l =
     (subst (λ m. (numbered at (sign_of x) (n + 1) (numeral at (at + 1 + n) (drop n c ++ d))).size ≤ m) (sym room) (subst (λ s. s.size ≤ length (x ∷ c)) here l))
     ∙ sym here))
   where
-    few : (m : Numeral) → (let n = length (front (λ y. nat_le y 32) (c ++ d)) in IsGood (numbered at (sign_of x) (n + 1) m) → (numbered at (sign_of x) (n + 1) m).size ≤ length (x ∷ c) → n ≤ length c)
+    few : (m : Numeral) → (let n = length (leading (λ y. nat_le y 32) (c ++ d)) in IsGood (numbered at (sign_of x) (n + 1) m) → (numbered at (sign_of x) (n + 1) m).size ≤ length (x ∷ c) → n ≤ length c)
     few (whole k size) good l =
-        let n = length (front (λ y. nat_le y 32) (c ++ d)) in
+        let n = length (leading (λ y. nat_le y 32) (c ++ d)) in
         omega (arith, l, (number_moves at at (sign_of x k) (n + 1 + size) good).1)
     few (faulty_number f) good l = absurd cc
     few cut_off good l = absurd cc
@@ -109,9 +109,9 @@ spelling_stays at at' Less x c d good l = doubled_stays open_binary x c d good l
 spelling_stays at at' Greater x c d good l = doubled_stays close_binary x c d good l
 spelling_stays at at' Dot x c d good l = absurd (no_dot x (ends_a_term (c ++ d)) good)
 spelling_stays at at' Letter x c d good l =
-    let s = x ∷ front is_bare_name_byte (c ++ d) in
+    let s = x ∷ leading is_bare_name_byte (c ++ d) in
     let moves = bare_moves at at' s good in
-    ap (λ r. bare at' (x ∷ r)) (front_stays is_bare_name_byte refl c d (omega (arith, l, moves.1))) ∙ moves.0
+    ap (λ r. bare at' (x ∷ r)) (leading_stays is_bare_name_byte refl c d (omega (arith, l, moves.1))) ∙ moves.0
 spelling_stays at at' Digit x c d good l = numbered_stays at at' at at' at at' pos 0 (x ∷ c) d good (omega (arith, l))
 spelling_stays at at' Dollar x c d good l = numbered_stays at at' at at' at at' pos 0 (x ∷ c) d good (omega (arith, l))
 spelling_stays at at' Sign x c d good l = signed_stays at at' x c d good l

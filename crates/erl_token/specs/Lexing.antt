@@ -2,7 +2,7 @@
 use Rattle.std.specs.Prelude.{ℕ, ℤ, zero, suc, pos, neg_ℤ, ◌+◌, ◌-◌, Bool, true, ◌||◌, List, [], ◌∷◌, ◌++◌, length, drop, codes, chars, nat_lt, nat_le, ◌==◌, if◌then◌else◌, Option, Some, None}
 use Rattle.std.specs.Str.{bytes_eq}
 pub use Rattle.erl_number.specs.Escapes.{is_in}
-use Rattle.erl_number.specs.Escapes.{front}
+use Rattle.erl_number.specs.Escapes.{leading}
 use Rattle.erl_number.specs.Texts.{sealed, is_bare_name_byte}
 use Rattle.erl_number.specs.Numbers.{Numeral, numeral, is_int}
 use Rattle.erl_number.specs.Numbers.Numeral.{whole, faulty as faulty_number, cut_off}
@@ -89,7 +89,7 @@ sign_of x n = if x == 45 then neg_ℤ (pos n) else pos n
 
 -- behind a sign: blanks, and a number
 abbrev pub signed : ℕ → ℕ → List ℕ → Spelling
-signed at x xs = let n = length (front (λ y. nat_le y 32) xs) in numbered at (sign_of x) (n + 1) (numeral at (at + 1 + n) (drop n xs))
+signed at x xs = let n = length (leading (λ y. nat_le y 32) xs) in numbered at (sign_of x) (n + 1) (numeral at (at + 1 + n) (drop n xs))
 
 -- two such bytes in a row are a token
 abbrev pub doubled : Token → ℕ → List ℕ → Spelling
@@ -111,7 +111,7 @@ spelling at CloseList x xs = alone close_list
 spelling at Less x xs = doubled open_binary x xs
 spelling at Greater x xs = doubled close_binary x xs
 spelling at Dot x xs = alone (if ends_a_term xs then dot else stray x)
-spelling at Letter x xs = bare at (x ∷ front is_bare_name_byte xs)
+spelling at Letter x xs = bare at (x ∷ leading is_bare_name_byte xs)
 spelling at Digit x xs = numbered at pos 0 (numeral at at (x ∷ xs))
 spelling at Dollar x xs = numbered at pos 0 (numeral at at (x ∷ xs))
 spelling at Sign x xs = signed at x xs

@@ -8,7 +8,7 @@ ghost use Rattle.erl_token.specs.Contents.{piece_bytes, content_bytes, IsAlone};
 use crate::content::{Content, Piece};
 use std::alloc::AllocError;
 
-/// Adds a text's characters to bytes, and tells whether all are bytes. Where one is none, what the bytes hold is of no use.
+/// Adds a text's characters to bytes, and reports whether all are bytes. Where one is none, what the bytes hold is of no use.
 pub fn push_characters(bytes: &mut Vec<u8>, text: &Content<'_>) -> Result<bool, AllocError>
     ensures { IfOk result
         (λ all. IsAdded all (chars (content_bytes text.now)) bytes.old.items bytes.new.items) }

@@ -70,12 +70,12 @@ impl<'a> Content<'a> {
     }
 
     /// As a text of its own.
-    pub fn into_string(self, alloc: Global) -> Result<String, AllocError>
-        ensures { IfOk result (λ s. string_bytes s ≡ content_bytes self.entry) }
+    pub fn to_text(&self, alloc: Global) -> Result<String, AllocError>
+        ensures { IfOk result (λ s. string_bytes s ≡ content_bytes self.now) }
     {
         match self {
             Content::Part(part) => String::from_str(alloc, part),
-            Content::Row(pieces) => written(alloc, &pieces),
+            Content::Row(pieces) => written(alloc, pieces),
         }
     }
 

@@ -7,7 +7,7 @@ ghost use Rattle.erl_token.specs.Lexing.Token.{text as text_token};
 ghost use Rattle.erl_number.specs.Numbers.{Numeral as NumeralSpelling, numeral as numeral_spelling};
 ghost use Rattle.erl_token.specs.Quotes.{quoted};
 ghost use Rattle.erl_number.specs.Scanned.{capped_numeral, numeral_value, signed_number, EndsAfter};
-ghost use Rattle.erl_number.specs.Escapes.{front};
+ghost use Rattle.erl_number.specs.Escapes.{leading};
 ghost use Rattle.erl_number.specs.Views.{text_bytes};
 ghost use Rattle.erl_token.specs.Views.{token_value, like_value, item_value, lexed, items_from, IsFirst, Yields};
 ghost use Rattle.erl_token.specs.Scanned.{IsSpelled};
@@ -215,7 +215,7 @@ fn bare_name(text: Text<'_>, from: usize) -> Item<'_>
     requires within { from < length (text_bytes text) }
     requires class { class_of (slice_index (text_bytes text) from) ≡ Letter }
     ensures { IsSpelled (bare from
-        (front is_bare_name_byte (drop from (text_bytes text.entry)))) from result }
+        (leading is_bare_name_byte (drop from (text_bytes text.entry)))) from result }
 {
     let to = run_end(text, Run::InName, from);
     let name = text.part(from, to);

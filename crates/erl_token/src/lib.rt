@@ -7,7 +7,7 @@
 //! spelled between quotes, and `erl_number` has the numbers and the escapes). Three are of no term: a byte that begins none,
 //! one that begins as another does and has a fault (`TermFault`), and one that the end of the text cuts off.
 //! What stands between quotes is not copied: it is kept in pieces (`Content`), and written out by
-//! `Content::into_string` as a text and by `push_characters` as bytes.
+//! `Content::to_text` as a text and by `push_characters` as bytes.
 //! The functions of `laws` say of the definitions that the items of a text tile it, and that a row of tokens that is cut
 //! out of its text, with a dot behind it, has the same tokens.
 //!

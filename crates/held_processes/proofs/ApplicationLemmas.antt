@@ -178,7 +178,7 @@ why_not AlreadyStarted name top tables s v room why = why
 why_not (NoTable m) name top tables s v room why = why
 why_not Unsupported name top tables s v room why = why
 why_not NoSlot name top tables s v room why = (why.0, why.1, subst (λ n. n < length (app_starts tables top)) room why.2)
-why_not NoMemory name top tables s v room why = tt
+why_not NoMemory name top tables s v room why = why
 
 pub starts_in : {X : Type 0} (followed : Followed) (hs : HeldSlots) (v : View) (apps : List App) (name : List ℕ) (top : Option (List ℕ)) (tables : Tables) (r : Result X StartError) (apps' : List App) (w : View)
     → AllFollow followed.first followed.courses hs v → AllLegal v → StartsApp name top tables apps v r apps' w

@@ -16,7 +16,7 @@ use Rattle.proc_history.proofs.ReleaseLemmas.{row_may_come}
 use Rattle.proc_table.specs.declared.view.View.{View}
 use Rattle.proc_table.specs.Holds.{Holding}
 use Rattle.proc_table.specs.Views.{seen}
-use Rattle.held_processes.specs.Course.{Hold, Course, Courses, Users, add, course_after, runs}
+use Rattle.held_processes.specs.Course.{Hold, Course, Courses, ModulesBySlot, add, course_after, runs}
 use Rattle.held_processes.specs.Course.Hold.{not_held, until_point, until_resumed}
 use Rattle.held_processes.specs.Course.Operation.{change}
 use Rattle.held_processes.specs.Following.{HeldForm, IsHeld, IsFree, Follows}
@@ -77,7 +77,7 @@ pub held_value : (p : ℕ) (c : Course) (x : Part) (h : HeldForm) → IsHeld p c
 held_value p c x h held = held.value ∙ replay-append nothing x.seen c.pending
 
 -- a change finds its row exactly where the process doesn't lack one
-pub found_is : (users : Users) (name : List ℕ) (cs : Courses) (p : ℕ) (v : View) (past : SlotPast) (place : Option HeldForm) (old : OldVersion) (extra : term.Value) (b : Bool) (next : Option HeldForm)
+pub found_is : (users : ModulesBySlot) (name : List ℕ) (cs : Courses) (p : ℕ) (v : View) (past : SlotPast) (place : Option HeldForm) (old : OldVersion) (extra : term.Value) (b : Bool) (next : Option HeldForm)
     → past.course ≡ cs p → runs name (users p) ≡ true → IsFollowed past p past.course v place → ChangesAt old extra place b next → lacks_row_at old extra (values_seen v) users name cs p ≡ not b
 found_is users name cs p v past None old extra b next is user f c =
     let free : IsFree past.course _ = f.follows.at in
@@ -88,5 +88,5 @@ found_is users name cs p v past (Some h) old extra b next is user f c =
     let value : now_in (values_seen v) cs p ≡ h.held.value = ap (λ (d : Course). replay_from (replay (seen v p)) d.pending) (sym is) ∙ sym (held_value p past.course _ h held) in
     ap₂ (λ (a k : Bool). a && not k) here (ap (finds_row old extra) value ∙ c.0)
 
-pub lacks_none : (users : Users) (name : List ℕ) (cs : Courses) (p : ℕ) (v : View) (old : OldVersion) (extra : term.Value) → runs name (users p) ≡ false → lacks_row_at old extra (values_seen v) users name cs p ≡ false
+pub lacks_none : (users : ModulesBySlot) (name : List ℕ) (cs : Courses) (p : ℕ) (v : View) (old : OldVersion) (extra : term.Value) → runs name (users p) ≡ false → lacks_row_at old extra (values_seen v) users name cs p ≡ false
 lacks_none users name cs p v old extra none = ap (λ (a : Bool). (a && is_held (cs p).hold) && not (finds_row old extra (now_in (values_seen v) cs p))) none

@@ -25,7 +25,7 @@ use Rattle.started_members.specs.Ends.{MemberEnded, stands}
 use Rattle.sup_tree.specs.Tree.{App}
 use Rattle.started_members.specs.Members.{pids_of, process_and, process_in, processes_among, state_process}
 use Rattle.held_processes.specs.Applications.{all_stopped, held_ended, known, scene_at}
-use Rattle.held_processes.specs.Children.{AreSeen, ChildEndsHeld, DeletesIn, IsStay, ProcessEndsHeld, StateEndsHeld, TellsStay, TerminatesIn, child_pids, held_stays, state_stays}
+use Rattle.held_processes.specs.Children.{AreSeen, ChildEndsHeld, DeletesIn, IsStay, ProcessEndsHeld, StateEndsHeld, ReportsStay, TerminatesIn, child_pids, held_stays, state_stays}
 use Rattle.held_processes.specs.declared.children.HeldEnd.{HeldEnd}
 use Rattle.held_processes.specs.declared.children.HeldEnd.TheVariants.{Stays, GivenUp, NotHeld}
 use Rattle.held_processes.specs.Course.{Course, Courses, Hold, add, add_alone, added, course_after, if_held, let_go}
@@ -49,9 +49,9 @@ terminates_in followed hs v apps name id (Err e) apps' w one f t = absurd (true�
 
 -- a process that is held, and one that isn't
 
--- whether it is held, and stays, is told
-pub tells_stay : (stay : Stay) (pid : Pid) (hs : HeldSlots) (o : Option Bool) → o ≡ option_map (process_stays stay pid) (option_map (λ (h : HeldForm). h.held.value) (slice_index_or hs pid.slot None)) → TellsStay stay pid hs o
-tells_stay stay pid hs o there first cs v f = by (slice_index_or hs pid.slot None) there (f.each pid.slot pid.inside).at
+-- whether it is held, and stays, is reported
+pub reports_stay : (stay : Stay) (pid : Pid) (hs : HeldSlots) (o : Option Bool) → o ≡ option_map (process_stays stay pid) (option_map (λ (h : HeldForm). h.held.value) (slice_index_or hs pid.slot None)) → ReportsStay stay pid hs o
+reports_stay stay pid hs o there first cs v f = by (slice_index_or hs pid.slot None) there (f.each pid.slot pid.inside).at
   where
     by : (place : Option HeldForm) → o ≡ option_map (process_stays stay pid) (option_map (λ (h : HeldForm). h.held.value) place)
         → IsAt pid.slot (cs pid.slot) (part_of v.parts pid.slot) place → o ≡ if_held (cs pid.slot).hold (Some (held_stays stay pid (values_seen v) cs)) None
@@ -150,7 +150,7 @@ StateEnded false m v w = MemberEnded (state_process m) v w
 record StateGiven (first : View) (stay : Stay) (cs : Courses) (m : MemberState) (stays : Bool) (hs : HeldSlots) (v w : View) : Type 0 where
   seen : View
   are_seen : AreSeen first cs seen
-  told : stays ≡ state_stays stay (now_in (values_seen seen) cs) m
+  reported : stays ≡ state_stays stay (now_in (values_seen seen) cs) m
   since : AreLonger v seen
   longer : AreLonger seen w
   follow : AllFollow first (if stays then cs else all_stopped (values_seen first) (pids_of (process_and (state_process m) [])) cs) hs w
@@ -159,13 +159,13 @@ record StateGiven (first : View) (stay : Stay) (cs : Courses) (m : MemberState) 
 quiet_given : (first : View) (stay : Stay) (cs : Courses) (m : MemberState) (hs : HeldSlots) (v u look w : View) → AreLonger v u → AllFollow first cs hs u → state_process m ≡ None → look ≡ u → (stays : Bool)
     → stays ≡ state_stays stay (now_in (values_seen u) cs) m → StateEnded stays m look w → StateGiven first stay cs m stays hs v w
 unfolding StateEnded
-quiet_given first stay cs m hs v u look w since f none same true told ended =
-    record { seen = u; are_seen = seen_where first cs hs u f; told = told; since = since; longer = same_longer u w (ended ∙ same); follow = subst (AllFollow first cs hs) (sym (ended ∙ same)) f }
-quiet_given first stay cs m hs v u look w since f none same false told ended =
+quiet_given first stay cs m hs v u look w since f none same true reported ended =
+    record { seen = u; are_seen = seen_where first cs hs u f; reported = reported; since = since; longer = same_longer u w (ended ∙ same); follow = subst (AllFollow first cs hs) (sym (ended ∙ same)) f }
+quiet_given first stay cs m hs v u look w since f none same false reported ended =
     let at : w ≡ look = subst (λ o. MemberEnded o look w) none ended in record {
       seen = u;
       are_seen = seen_where first cs hs u f;
-      told = told;
+      reported = reported;
       since = since;
       longer = same_longer u w (at ∙ same);
       follow = subst (λ o. AllFollow first (all_stopped (values_seen first) (pids_of (process_and o [])) cs) hs w) (sym none) (subst (AllFollow first cs hs) (sym (at ∙ same)) f);
@@ -178,13 +178,13 @@ unfolding StateEnded
 free_given first stay cs q hs v u look w before hold f true looked ended =
     let at = looked_follow first cs hs u stay q.pid true look f hold looked in
     let since = longer_both v u look before (look_longer stay (Process q) true u look looked) in
-    record { seen = look; are_seen = seen_where first cs hs look at.0; told = at.1; since = since; longer = same_longer look w ended; follow = subst (AllFollow first cs hs) (sym ended) at.0 }
+    record { seen = look; are_seen = seen_where first cs hs look at.0; reported = at.1; since = since; longer = same_longer look w ended; follow = subst (AllFollow first cs hs) (sym ended) at.0 }
 free_given first stay cs q hs v u look w before hold f false looked ended =
     let ds = give_up_at q.pid.slot cs in
     let at = looked_follow first cs hs u stay q.pid false look f hold looked in record {
       seen = look;
       are_seen = seen_where first cs hs look at.0;
-      told = at.1;
+      reported = at.1;
       since = longer_both v u look before (look_longer stay (Process q) false u look looked);
       longer = end_longer (Some q) look w ended;
       follow = ended_follow first ds hs look q.pid w (follow_same first cs ds hs look (λ p inside. sym (left_alone q.pid.slot cs hold p)) at.0) (free_there q.pid.slot cs) ended;
@@ -201,21 +201,21 @@ held_given first stay cs q hs hs' v u look w really before not_stays f longer fa
     let at = looked_follow first ds hs' u stay q.pid false look f (free_there q.pid.slot cs) looked in record {
       seen = v;
       are_seen = seen_where first cs hs v before;
-      told = sym not_stays;
+      reported = sym not_stays;
       since = longer_still v;
       longer = longer_both v u w longer (longer_both u look w (look_longer stay (Process q) false u look looked) (end_longer (Some q) look w ended));
       follow = ended_follow first ds hs' look q.pid w at.0 (free_there q.pid.slot cs) ended;
     }
 
--- it wasn't told to stay
+-- it wasn't reported to stay
 abbrev pub NotStaying : HeldEnd → Type 0
 NotStaying Stays = ⊥
 NotStaying e = Unit {0}
 
-pub told_not : (e : HeldEnd) → e ≢ Stays → NotStaying e
-told_not Stays not = absurd (not refl)
-told_not GivenUp not = tt
-told_not NotHeld not = tt
+pub reported_not : (e : HeldEnd) → e ≢ Stays → NotStaying e
+reported_not Stays not = absurd (not refl)
+reported_not GivenUp not = tt
+reported_not NotHeld not = tt
 
 process_given : (first : View) (stay : Stay) (cs : Courses) (q : StartedProcess) (hs hs' : HeldSlots) (v u look w : View) (e : HeldEnd) → NotStaying e → AllFollow first cs hs v
     → ProcessEndsHeld first stay q.pid cs v e hs' u → AreLonger v u → (stays : Bool) → LookedAt stay q.pid stays u look → StateEnded stays (Process q) look w
@@ -242,9 +242,9 @@ given first stay cs None hs hs' v u look w e not before f longer true looked end
     record { stay_is = (u, seen_where first cs hs' u f.1, refl, longer, same_longer u w (ended ∙ looked.1)); follow = subst (AllFollow first cs hs') (sym (ended ∙ looked.1)) f.1 }
 given first stay cs None hs hs' v u look w e not before f longer false looked ended = absurd (true≢false (sym looked.0))
 given first stay cs (Some p) hs hs' v u look w e not before f longer true looked ended =
-    let is = state_given first stay cs p.child.state hs hs' v u look w e not before f longer true looked ended in record { stay_is = (is.seen, is.are_seen, is.told, is.since, is.longer); follow = is.follow }
+    let is = state_given first stay cs p.child.state hs hs' v u look w e not before f longer true looked ended in record { stay_is = (is.seen, is.are_seen, is.reported, is.since, is.longer); follow = is.follow }
 given first stay cs (Some p) hs hs' v u look w e not before f longer false looked ended =
-    let is = state_given first stay cs p.child.state hs hs' v u look w e not before f longer false looked ended in record { stay_is = (is.seen, is.are_seen, is.told, is.since, is.longer); follow = is.follow }
+    let is = state_given first stay cs p.child.state hs hs' v u look w e not before f longer false looked ended in record { stay_is = (is.seen, is.are_seen, is.reported, is.since, is.longer); follow = is.follow }
 
 state_held_on : (first : View) (stay : Stay) (cs : Courses) (m : MemberState) (hs : HeldSlots) (v w : View) → StateEndsHeld first stay m cs v Stays hs w
     → (true ≡ state_stays stay (now_in (values_seen v) cs) m) × AllFollow first cs hs w

@@ -2,7 +2,7 @@
 use Rattle.std.proofs.Common.{◌≡◌, ℕ, Bool, true, false, if◌then◌else◌, nat_lt, List, ◌++◌, refl, ap, subst, ◌∙◌}
 use Rattle.proc_table.specs.Parts.{part_of}
 use Rattle.proc_table.specs.Views.{seen}
-use Rattle.held_processes.specs.Course.{Hold, Course, Courses, Operation, Users, added, course_after, if_held, on_module, runs}
+use Rattle.held_processes.specs.Course.{Hold, Course, Courses, Operation, ModulesBySlot, added, course_after, if_held, on_module, runs}
 use Rattle.held_processes.specs.Course.Hold.{not_held, until_point, until_resumed}
 use Rattle.held_processes.specs.Course.Operation.{suspend, load, change}
 use Rattle.held_processes.specs.Following.{Stand}
@@ -38,14 +38,14 @@ pending_adds_no_block (change old extra) c is = blocks_of_choice c.hold _ _ c.bl
 pending_adds_no_block op c is = absurd is
 
 -- neither on the processes of a module, nor on some of them
-pub module_adds_no_block : (users : Users) (name : List ℕ) (op : Operation) (cs : Courses) → IsPending op → (p : ℕ) → (on_module users name op cs p).blocks ≡ (cs p).blocks
+pub module_adds_no_block : (users : ModulesBySlot) (name : List ℕ) (op : Operation) (cs : Courses) → IsPending op → (p : ℕ) → (on_module users name op cs p).blocks ≡ (cs p).blocks
 module_adds_no_block users name op cs is p = go (runs name (users p))
   where
     go : (b : Bool) → (if b then course_after op (cs p) else cs p).blocks ≡ (cs p).blocks
     go true = pending_adds_no_block op (cs p) is
     go false = refl
 
-pub part_way_adds_no_block : (n : ℕ) (users : Users) (name : List ℕ) (op : Operation) (cs : Courses) → IsPending op → (p : ℕ) → (part_way n users name op cs p).blocks ≡ (cs p).blocks
+pub part_way_adds_no_block : (n : ℕ) (users : ModulesBySlot) (name : List ℕ) (op : Operation) (cs : Courses) → IsPending op → (p : ℕ) → (part_way n users name op cs p).blocks ≡ (cs p).blocks
 part_way_adds_no_block n users name op cs is p = go (nat_lt p n)
   where
     go : (b : Bool) → (if b then on_module users name op cs p else cs p).blocks ≡ (cs p).blocks

@@ -8,7 +8,7 @@ use mathlib.Core.Logic.{dite}
 use Rattle.proc_table.specs.declared.view.View.{View}
 use Rattle.proc_table.specs.Agrees.{slots}
 use Rattle.proc_table.specs.Parts.{part_of}
-use Rattle.held_processes.specs.Course.{Courses, Operation, Users, course_after, on_module, runs}
+use Rattle.held_processes.specs.Course.{Courses, Operation, ModulesBySlot, course_after, on_module, runs}
 use Rattle.held_processes.specs.Following.{HeldForm, HeldSlots, Follows, AllFollow}
 use Rattle.held_processes.specs.Operations.{up_to}
 use Rattle.held_processes.specs.Slots.{SlotPast, IsFollowed, Steps}
@@ -96,8 +96,8 @@ pub all_reached : (first : View) (ds cs : Courses) (hs : HeldSlots) (v : View) (
 all_reached first ds cs hs v n far f = follow_same first (up_to n ds cs) ds hs v (λ p inside. up_to_all n ds cs p (omega arith)) f
 
 -- whom an operation on a module is for
-pub on_user : (users : Users) (name : List ℕ) (op : Operation) (cs : Courses) (p : ℕ) → runs name (users p) ≡ true → course_after op (cs p) ≡ on_module users name op cs p
+pub on_user : (users : ModulesBySlot) (name : List ℕ) (op : Operation) (cs : Courses) (p : ℕ) → runs name (users p) ≡ true → course_after op (cs p) ≡ on_module users name op cs p
 on_user users name op cs p is = sym (ap (λ b. if b then course_after op (cs p) else cs p) is)
 
-pub on_other : (users : Users) (name : List ℕ) (op : Operation) (cs : Courses) (p : ℕ) → runs name (users p) ≡ false → on_module users name op cs p ≡ cs p
+pub on_other : (users : ModulesBySlot) (name : List ℕ) (op : Operation) (cs : Courses) (p : ℕ) → runs name (users p) ≡ false → on_module users name op cs p ≡ cs p
 on_other users name op cs p is = ap (λ b. if b then course_after op (cs p) else cs p) is

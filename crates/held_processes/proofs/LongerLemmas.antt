@@ -60,7 +60,7 @@ stop_longer name apps v (Err e) apps' w s = same_longer v w s.2
 -- a child is looked at, and what stands for it is given up
 pub look_longer : (stay : Stay) (m : MemberState) (b : Bool) (v w : View) → StateLookedAt stay m b v w → AreLonger v w
 look_longer stay Ended b v w is = same_longer v w is.1
-look_longer stay (Process q) b v w (h, u, at, told, r) = held_longer q.pid.slot [] v h u w at r
+look_longer stay (Process q) b v w (h, u, at, reported, r) = held_longer q.pid.slot [] v h u w at r
 look_longer stay (Supervisor m) b v w is = same_longer v w is.1
 
 pub end_longer : (o : Option StartedProcess) (v w : View) → MemberEnded o v w → AreLonger v w

@@ -7,7 +7,7 @@ use Rattle.proc_history.specs.Values.{up_at}
 use Rattle.proc_table.specs.declared.view.View.{View}
 use Rattle.proc_table.specs.Parts.{Part, part_of}
 use Rattle.proc_table.specs.Views.{seen}
-use Rattle.held_processes.specs.Course.{Courses, Users, runs}
+use Rattle.held_processes.specs.Course.{Courses, ModulesBySlot, runs}
 use Rattle.held_processes.specs.Following.{AllFollow, Follows, HeldForm, HeldSlots}
 use Rattle.held_processes.specs.Operations.{is_up_user, values_seen}
 use Rattle.held_processes.specs.Slots.{Steps, value_with}
@@ -28,12 +28,12 @@ looked_at first cs hs v w p place f there s = record {
 }
 
 -- none of the slots so far has one, as they are seen behind a look at another
-pub looked_none : (users : Users) (name : List ℕ) (cs : Courses) (v w : View) (n : ℕ) → ((q : ℕ) → q ≢ n → part_of w.parts q ≡ part_of v.parts q)
+pub looked_none : (users : ModulesBySlot) (name : List ℕ) (cs : Courses) (v w : View) (n : ℕ) → ((q : ℕ) → q ≢ n → part_of w.parts q ≡ part_of v.parts q)
     → ((p : ℕ) → p < n → is_up_user (values_seen v) users name cs p ≡ false) → is_up_user (values_seen w) users name cs n ≡ false
     → (p : ℕ) → p < n + 1 → is_up_user (values_seen w) users name cs p ≡ false
 looked_none users name cs v w n others none here p below = dite (ℕ_discrete p n)
     (λ is. subst (λ q. is_up_user (values_seen w) users name cs q ≡ false) (sym is) here)
     (λ ne. ap (λ (x : Part). runs name (users p) && is_some (up_at (replay_from (replay x.seen) (cs p).pending).now)) (others p ne) ∙ none p (omega (arith, below)))
 
-pub not_user : (users : Users) (name : List ℕ) (cs : Courses) (v : View) (p : ℕ) → runs name (users p) ≡ false → is_up_user (values_seen v) users name cs p ≡ false
+pub not_user : (users : ModulesBySlot) (name : List ℕ) (cs : Courses) (v : View) (p : ℕ) → runs name (users p) ≡ false → is_up_user (values_seen v) users name cs p ≡ false
 not_user users name cs v p none = ap (λ (a : Bool). a && is_some (up_at (value_with (seen v p) (cs p)).now)) none

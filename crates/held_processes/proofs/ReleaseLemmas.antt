@@ -13,7 +13,7 @@ use Rattle.held_processes.specs.Course.Hold.{not_held, until_point, until_resume
 use Rattle.held_processes.specs.Course.Operation.{finish, resume}
 use Rattle.held_processes.specs.Following.{HeldForm, HeldSlots, IsHeld, IsFree, Follows, AllFollow, IsLeft, AreLeft}
 use Rattle.held_processes.specs.InMemory.{behind_release, is_released, is_until_point}
-use Rattle.held_processes.specs.Operations.{users_of}
+use Rattle.held_processes.specs.Operations.{modules_by_slot}
 use Rattle.held_processes.specs.Slots.{IsFollowed, Steps, dropped}
 use Rattle.held_processes.proofs.SlotLemmas.{free_case, held_case}
 use Rattle.held_processes.proofs.FollowLemmas.{past_of, on_user, on_other}
@@ -31,14 +31,14 @@ not_at_point until_resumed c e = refl
 -- a process that is let go
 pub is_let_go : (which : Which) (cs : Courses) (lent : List ℕ) (p : ℕ) (first x : Part) (place : Option HeldForm) → Follows lent p first (cs p) x place → is_released which p place ≡ true
     → course_after resume (cs p) ≡ behind_release which cs p
-is_let_go (Of users) cs lent p first x place f e = on_user (users_of users.tree.now) users.module.now resume cs p e
+is_let_go (Of users) cs lent p first x place f e = on_user (modules_by_slot users.tree.now) users.module.now resume cs p e
 is_let_go UntilPoint cs lent p first x None f e = absurd (cc)
 is_let_go UntilPoint cs lent p first x (Some h) f e = let held : IsHeld p (cs p) x h = f.at in at_the_point (cs p).hold (cs p) (sym (ap is_until_point held.hold) ∙ e)
 
 -- one that isn't
 pub is_kept : (which : Which) (cs : Courses) (lent : List ℕ) (p : ℕ) (first x : Part) (place : Option HeldForm) → Follows lent p first (cs p) x place → is_released which p place ≡ false
     → behind_release which cs p ≡ cs p
-is_kept (Of users) cs lent p first x place f e = on_other (users_of users.tree.now) users.module.now resume cs p e
+is_kept (Of users) cs lent p first x place f e = on_other (modules_by_slot users.tree.now) users.module.now resume cs p e
 is_kept UntilPoint cs lent p first x None f e = let free : IsFree (cs p) x = f.at in ap (λ k. at_point k (cs p)) free.hold
 is_kept UntilPoint cs lent p first x (Some h) f e = let held : IsHeld p (cs p) x h = f.at in not_at_point (cs p).hold (cs p) (sym (ap is_until_point held.hold) ∙ e)
 

@@ -62,7 +62,7 @@ state_given_up first stay (Supervisor m) cs v e hs w not f = ap is_given_up f.0
 pub record Looked (first : View) (stay : Stay) (cs : Courses) (m : MemberState) (e : HeldEnd) (hs : HeldSlots) (v w : View) : Type 0 where
   pub seen : View
   pub are_seen : AreSeen first cs seen
-  pub told : false ≡ state_stays stay (now_in (values_seen seen) cs) m
+  pub reported : false ≡ state_stays stay (now_in (values_seen seen) cs) m
   pub since : AreLonger v seen
   pub longer : AreLonger seen w
   pub follow : AllFollow first (if is_given_up e then all_stopped (values_seen first) (pids_of (process_and (state_process m) [])) cs else cs) hs w
@@ -75,7 +75,7 @@ process_looked first stay cs q hs hs' v u look GivenUp not before f longer looke
     let at = looked_follow first ds hs' u stay q.pid false look f.2 (free_there q.pid.slot cs) looked in record {
       seen = v;
       are_seen = seen_where first cs hs v before;
-      told = sym f.0;
+      reported = sym f.0;
       since = longer_still v;
       longer = longer_both v u look longer (look_longer stay (Process q) false u look looked);
       follow = follow_same first ds (ended_at (values_seen first) q.pid ds) hs' look (λ p inside. sym (ended_nothing (values_seen first) q.pid ds (given_up_gone (values_seen first) q.pid cs f.1) p)) at.0;
@@ -83,14 +83,14 @@ process_looked first stay cs q hs hs' v u look GivenUp not before f longer looke
 process_looked first stay cs q hs hs' v u look NotHeld not before f longer looked =
     let at = looked_follow first cs hs' u stay q.pid false look f.1 f.0 looked in
     let since = longer_both v u look longer (look_longer stay (Process q) false u look looked) in
-    record { seen = look; are_seen = seen_where first cs hs' look at.0; told = at.1; since = since; longer = longer_still look; follow = at.0 }
+    record { seen = look; are_seen = seen_where first cs hs' look at.0; reported = at.1; since = since; longer = longer_still look; follow = at.0 }
 
 state_looked : (first : View) (stay : Stay) (cs : Courses) (m : MemberState) (hs hs' : HeldSlots) (v u look : View) (e : HeldEnd) → NotStaying e → AllFollow first cs hs v
     → StateEndsHeld first stay m cs v e hs' u → AreLonger v u → StateLookedAt stay m false u look → Looked first stay cs m e hs' v look
 state_looked first stay cs Ended hs hs' v u look e not before f longer looked = record {
   seen = u;
   are_seen = seen_where first cs hs' u f.1;
-  told = refl;
+  reported = refl;
   since = longer;
   longer = look_longer stay Ended false u look looked;
   follow = subst (λ x. AllFollow first (if is_given_up x then cs else cs) hs' look) (sym f.0) (subst (AllFollow first cs hs') (sym looked.1) f.1);
@@ -101,7 +101,7 @@ state_looked first stay cs (Supervisor m) hs hs' v u look e not before f longer 
 -- what was seen stays legal behind a look and an end
 legal_look : (stay : Stay) (m : MemberState) (b : Bool) (v w : View) → AllLegal v → StateLookedAt stay m b v w → AllLegal w
 legal_look stay Ended b v w legal is = subst AllLegal (sym is.1) legal
-legal_look stay (Process q) b v w legal (h, u, at, told, r) = legal_behind q.pid.slot [] v h u w legal at r
+legal_look stay (Process q) b v w legal (h, u, at, reported, r) = legal_behind q.pid.slot [] v h u w legal at r
 legal_look stay (Supervisor m) b v w legal is = subst AllLegal (sym is.1) legal
 
 legal_end : (o : Option StartedProcess) (v w : View) → AllLegal v → MemberEnded o v w → AllLegal w
@@ -187,7 +187,7 @@ faulty_in followed hs hs' v u look w apps apps' name id tables p e x not one the
       one = one;
       place = p;
       there = there;
-      stay = (is.seen, is.are_seen, is.told, is.since, subst (AreLonger is.seen) (sym ended) is.longer);
+      stay = (is.seen, is.are_seen, is.reported, is.since, subst (AreLonger is.seen) (sym ended) is.longer);
       why = why;
       tree = same;
       given_up = given_so ∙ (state_given_up first UpOrTemporary p.child.state followed.courses v e hs' u not f ∙ sym as_held);
@@ -209,16 +209,16 @@ given_alike NotHeld NoSlot other = absurd (other refl)
 given_alike NotHeld NoMemory other = refl
 
 -- the answer, with what was given up
-abbrev pub told_of : HeldEnd → Result Bool RestartError → Result Bool NotRestarted
-told_of e (Ok b) = Ok b
-told_of e (Err x) = Err (record { error = x; given_up = was_given_up e x })
+abbrev pub reported_of : HeldEnd → Result Bool RestartError → Result Bool NotRestarted
+reported_of e (Ok b) = Ok b
+reported_of e (Err x) = Err (record { error = x; given_up = was_given_up e x })
 
 module _ (followed : Followed) (hs hs' : HeldSlots) (v u w : View) (apps apps' : List App) (name id : List ℕ) (tables : Tables) (e : HeldEnd) (not : NotStaying e) (one : has_one_supervisor name apps ≡ true)
     (before : AllFollow followed.first followed.courses hs v) (legal : AllLegal u) (longer : AreLonger v u) where
   outcome_in : (o : Option Place) (stays : Bool) (look : View) (r : Result Bool RestartError) → child_place name id apps ≡ o → ChildEndsHeld followed.first UpOrTemporary o followed.courses v e hs' u
       → ChildLookedAt UpOrTemporary o stays u look
       → RestartsUnless stays tables (super_app name apps) o (λ (ms : List Member). apps_with (in_place ms) name id apps) apps look r apps' w
-      → RestartsIn followed.first name id tables (scene_at followed apps) (told_of e r) apps' hs' v w
+      → RestartsIn followed.first name id tables (scene_at followed apps) (reported_of e r) apps' hs' v w
   outcome_in o true look (Ok true) there f looked is =
       kept_in followed hs hs' v u look w apps apps' name id e not one before (subst (λ q. ChildEndsHeld followed.first UpOrTemporary q followed.courses v e hs' u) (sym there) f) longer
       (subst (λ q. ChildLookedAt UpOrTemporary q true u look) (sym there) looked) is.2 is.1
@@ -237,7 +237,7 @@ module _ (followed : Followed) (hs hs' : HeldSlots) (v u w : View) (apps apps' :
       faulty_in followed hs hs' v u look w apps apps' name id tables p e NoMemory not one there before f longer looked (given_alike e NoMemory (λ no. cc no)) refl is.0.0 is.0.1 is.1
 
   pub restarts_in : (r : Result Bool RestartError) → ChildEndsHeld followed.first UpOrTemporary (child_place name id apps) followed.courses v e hs' u → RestartsChild name id tables apps u r apps' w
-      → RestartsIn followed.first name id tables (scene_at followed apps) (told_of e r) apps' hs' v w
+      → RestartsIn followed.first name id tables (scene_at followed apps) (reported_of e r) apps' hs' v w
   restarts_in (Ok b) f t = outcome_in (child_place name id apps) t.1.stays t.1.look (Ok b) refl f t.1.looked t.1.outcome
   restarts_in (Err NoSuper) f t = absurd (true≢false (sym one ∙ t.0))
   restarts_in (Err NoTable) f t = outcome_in (child_place name id apps) t.1.stays t.1.look (Err NoTable) refl f t.1.looked t.1.outcome

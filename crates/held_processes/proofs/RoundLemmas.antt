@@ -1,4 +1,4 @@
--- The handler's own entries tell with which round a process can begin in each slot, whatever calls of others came meanwhile.
+-- The handler's own entries report with which round a process can begin in each slot, whatever calls of others came meanwhile.
 use Rattle.std.proofs.Common.{◌≡◌, ℕ, zero, suc, ◌+◌, ◌<◌, ◌≤◌, Bool, if◌then◌else◌, List, [], ◌∷◌, ◌++◌, Option, Some, None, is_some, option_map, slice_index_or, refl, ap, sym, subst, subst₂, ◌∙◌, arith, append_assoc}
 use Rattle.std.specs.Option.{option_or}
 use native.Mathlib.Bridge.{le_prop}

@@ -25,7 +25,7 @@ stand_more lent first (b ∷ bs) h e s a =
 pub stand_block : (lent : List ℕ) (first : List HistoryEntry) (bs : List (List HistoryEntry)) (h b : List HistoryEntry) → Stand lent first bs h → Stand lent first (b ∷ bs) (h ++ b)
 stand_block lent first bs h b s = (h, [], s, no_strangers lent, sym (append-nil (h ++ b)))
 
--- where no pass is lent, the history is told exactly
+-- where no pass is lent, the history is reported exactly
 pub stand_alone : (lent : List ℕ) (first : List HistoryEntry) (bs : List (List HistoryEntry)) (h : List HistoryEntry) → lent ≡ [] → Stand lent first bs h → h ≡ first ++ added bs
 stand_alone lent first [] h none s = s.2 ∙ ap (λ l. first ++ l) (s.1.alone none)
 stand_alone lent first (b ∷ bs) h none s =

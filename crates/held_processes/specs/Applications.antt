@@ -137,14 +137,14 @@ pub record IsStartedIn (first : View) (name : List ℕ) (top : Option (List ℕ)
   pub tree : apps ≡ (with_started name top tables s).apps
   pub follow : AllFollow first (with_started name top tables s).courses hs w
 
--- why an application isn't started
+-- why an application isn't started; memory is asked for only where it isn't yet
 abbrev pub IsWhyNot : StartError → List ℕ → Option (List ℕ) → Tables → Scene → Type 0
 IsWhyNot AlreadyStarted name top tables s = IsSome (app_named name s.apps)
 IsWhyNot (NoTable m) name top tables s = (app_named name s.apps ≡ None) × (app_fault tables top ≡ Some (no_table m.now))
 IsWhyNot Unsupported name top tables s = (app_named name s.apps ≡ None) × (app_fault tables top ≡ Some unsupported)
 IsWhyNot NoSlot name top tables s =
     (app_named name s.apps ≡ None) × (app_fault tables top ≡ None) × (room_in s.values s.courses < length (app_starts tables top))
-IsWhyNot NoMemory name top tables s = Unit {0}
+IsWhyNot NoMemory name top tables s = app_named name s.apps ≡ None
 
 -- The application is started, or nothing was done.
 abbrev pub StartsIn : {X : Type 0} → View → List ℕ → Option (List ℕ) → Tables → Scene → Result X StartError → List App → HeldSlots → View → Type 0

@@ -56,7 +56,8 @@ child_stays stay values (Some p) = state_stays stay values p.child.state
 abbrev pub AreSeen : View → Courses → View → Type 0
 AreSeen first cs v = (p : ℕ) → p < slots → Stand first.lent (seen first p) (cs p).blocks (seen v p)
 
--- So it is in histories that the handler has seen: behind those that it had seen before, and in front of those that it has seen now.
+-- Whether a child stays, by histories that the handler has seen: behind those that it had seen before, and in front of those that
+-- it has seen now.
 abbrev pub IsStay : View → Stay → Courses → Option Place → Bool → View → View → Type 0
 IsStay first stay cs o stays v w =
     (u : View) × AreSeen first cs u × (stays ≡ child_stays stay (now_in (values_seen u) cs) o) × AreLonger v u × AreLonger u w
@@ -88,9 +89,9 @@ DeletesIn first name id s (Err e) apps hs v w = (has_one_supervisor name s.apps 
 abbrev pub held_stays : Stay → Pid → Values → Courses → Bool
 held_stays stay pid seen cs = process_stays stay pid (now_in seen cs pid.slot)
 
--- Whether it is held, and stays then, is told of each start and courses that were followed.
-abbrev pub TellsStay : Stay → Pid → HeldSlots → Option Bool → Type 0
-TellsStay stay pid hs o = (first : View) (cs : Courses) (v : View) → AllFollow first cs hs v → o ≡ if_held (cs pid.slot).hold (Some (held_stays stay pid (values_seen v) cs)) None
+-- Whether it is held, and stays then, is reported of each start and courses that were followed.
+abbrev pub ReportsStay : Stay → Pid → HeldSlots → Option Bool → Type 0
+ReportsStay stay pid hs o = (first : View) (cs : Courses) (v : View) → AllFollow first cs hs v → o ≡ if_held (cs pid.slot).hold (Some (held_stays stay pid (values_seen v) cs)) None
 
 -- What became of a process that may be held: it is held and stays, or it was held and is given up and let go, or it isn't held.
 abbrev pub ProcessEndsHeld : View → Stay → Pid → Courses → View → HeldEnd → HeldSlots → View → Type 0

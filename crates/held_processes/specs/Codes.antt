@@ -1,4 +1,4 @@
--- By what proofs tell the processes that are held apart.
+-- By what proofs distinguish the processes that are held.
 use Rattle.std.proofs.Common.{◌≡◌, refl}
 use Rattle.std.specs.Coded.{Coded, coded×, coded_list, coded_option, code_by}
 use base.Stored.{Gv, gnum}

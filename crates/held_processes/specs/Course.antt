@@ -83,15 +83,15 @@ abbrev pub Courses : Type 0
 Courses = ℕ → Course
 
 -- the module that the process in a slot runs, where one stands there
-abbrev pub Users : Type 0
-Users = ℕ → Option (List ℕ)
+abbrev pub ModulesBySlot : Type 0
+ModulesBySlot = ℕ → Option (List ℕ)
 
 -- the process runs this module
 abbrev pub runs : List ℕ → Option (List ℕ) → Bool
 runs name user = option_map_or (bytes_eq name) user false
 
 -- the courses behind an operation on each process of a module, and on every process
-abbrev pub on_module : Users → List ℕ → Operation → Courses → Courses
+abbrev pub on_module : ModulesBySlot → List ℕ → Operation → Courses → Courses
 on_module users name op cs p = if runs name (users p) then course_after op (cs p) else cs p
 
 abbrev pub on_all : Operation → Courses → Courses

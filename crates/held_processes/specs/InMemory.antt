@@ -12,7 +12,7 @@ use Rattle.sup_tree.specs.Tree.{module_in}
 use Rattle.std.specs.Option.{option_map_or}
 use Rattle.held_processes.specs.Following.{HeldForm}
 use Rattle.held_processes.specs.Course.Operation.{suspend, load, resume, stop, start, pass_point}
-use Rattle.held_processes.specs.Operations.{users_of}
+use Rattle.held_processes.specs.Operations.{modules_by_slot}
 use Rattle.held_processes.specs.Course.Hold.{until_point, until_resumed}
 
 abbrev pub hold_of : Hold → course.Hold
@@ -34,7 +34,7 @@ takes_memory s = false
 
 -- the courses where some processes were let go
 abbrev pub behind_release : Which → Courses → Courses
-behind_release (which.Of users) cs = on_module (users_of users.tree.now) users.module.now resume cs
+behind_release (which.Of users) cs = on_module (modules_by_slot users.tree.now) users.module.now resume cs
 behind_release which.UntilPoint cs = on_all pass_point cs
 
 abbrev pub is_until_point : course.Hold → Bool

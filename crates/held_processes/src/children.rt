@@ -1,7 +1,7 @@
 //! Children of supervisors that end or go while processes are held.
 ghost use Rattle.std.specs.Prelude.{◌≡◌, [], Option};
 ghost use Rattle.held_processes.specs.Applications.{scene_at};
-ghost use Rattle.held_processes.specs.Children.{ChildEndsHeld, DeletesIn, TellsStay, TerminatesIn};
+ghost use Rattle.held_processes.specs.Children.{ChildEndsHeld, DeletesIn, ReportsStay, TerminatesIn};
 ghost use Rattle.held_processes.specs.Following.{AllFollow, AreLonger, Followed};
 ghost use Rattle.started_members.specs.Places.{Place, with_below};
 ghost use Rattle.std.specs.Option.{option_map_or};
@@ -50,7 +50,7 @@ impl HeldProcesses {
     }
 
     /// Takes away a child of the one supervisor of its module, unless it is up, and answers whether nothing was done (OTP:
-    /// supervisor:delete_child/2). Where its process is held, it is told up or not by what was done to it. One that isn't up is
+    /// supervisor:delete_child/2). Where its process is held, it counts as up or not by what was done to it. One that isn't up is
     /// given up, and let go. It waits for the slot of one that isn't held, and takes no memory.
     pub fn delete_child<R: Wait>(
         &mut self,
@@ -114,7 +114,7 @@ impl HeldProcesses {
 
     // Whether the process stays, where it is held.
     fn held_stays(&self, pid: Pid, stay: Stay) -> Option<bool>
-        ensures { TellsStay stay pid self.now result }
+        ensures { ReportsStay stay pid self.now result }
     {
         let value = self.held_value(pid.slot)?;
         Some(stay.keeps(value, pid))

@@ -11,7 +11,8 @@
 //! Applications and children of supervisors start, stop, end and begin again meanwhile (specs/Applications, Children, Restarts):
 //! by the courses alone where a process begins, and whether a child is up by what the handler has seen, since others may have
 //! ended it.
-//! The functions of `laws` say what courses are while no pass is lent, and that before the point of no return there is no block.
+//! The functions of `laws` say that while no pass is lent a history is that from before and the blocks, that without a block
+//! nothing was added, that what is pending adds none, and that starts and stops of applications leave nothing held.
 //! Only tested: that an operation is done where memory is there. Trusted: the toolchain alone.
 #![tactic(auto)]
 

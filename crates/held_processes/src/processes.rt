@@ -9,7 +9,7 @@ ghost use Rattle.held_processes.specs.Course.{Courses, on_all, on_module, openin
 ghost use Rattle.held_processes.specs.Course.Operation.{suspend, load, resume, stop, start, pass_point, finish};
 ghost use Rattle.held_processes.specs.Following.{AllFollow, AreLeft, AreLonger, Followed, HoldsNothing};
 ghost use Rattle.held_processes.specs.InMemory.{behind_release, is_released, operation_of, takes_memory};
-ghost use Rattle.held_processes.specs.Operations.{Changes, IsDone, TellsHeldUser, give_up_at, users_of, uses_up, values_seen};
+ghost use Rattle.held_processes.specs.Operations.{Changes, IsDone, ReportsHeldUser, give_up_at, modules_by_slot, uses_up, values_seen};
 
 use crate::Users;
 use crate::held_process::HeldProcess;
@@ -75,8 +75,8 @@ impl HeldProcesses {
         requires table { seat.old.table ≡ table.now }
         requires follow { AllFollow followed.first followed.courses self.old seat.old.view }
         ensures table { seat.new.table ≡ seat.old.table }
-        ensures done { IsDone followed.first (users_of users.now.tree.now) users.now.module.now
-            suspend followed.courses result self.new seat.new.view }
+        ensures done { IsDone followed.first (modules_by_slot users.now.tree.now)
+            users.now.module.now suspend followed.courses result self.new seat.new.view }
         ensures longer { AreLonger seat.old.view seat.new.view }
     {
         self.perform(rt, table, seat, users, Step::Suspend(alloc))
@@ -98,8 +98,9 @@ impl HeldProcesses {
         requires table { seat.old.table ≡ table.now }
         requires follow { AllFollow followed.first followed.courses self.old seat.old.view }
         ensures table { seat.new.table ≡ seat.old.table }
-        ensures done { IsDone followed.first (users_of users.now.tree.now) users.now.module.now
-            (load keep worker.now) followed.courses result self.new seat.new.view }
+        ensures done { IsDone followed.first (modules_by_slot users.now.tree.now)
+            users.now.module.now (load keep worker.now) followed.courses result self.new
+            seat.new.view }
         ensures longer { AreLonger seat.old.view seat.new.view }
     {
         self.perform(rt, table, seat, users, Step::Load(alloc, worker, keep))
@@ -108,7 +109,7 @@ impl HeldProcesses {
     /// The code of the processes of the module that are held and up is changed. Where one of them has no row for that, those in
     /// higher slots aren't changed. It takes no memory.
     pub fn change(&mut self, users: &Users<'_>, old: &Old, extra: &Term) -> Result<(), Undone>
-        ensures { Changes (users_of users.now.tree.now) users.now.module.now
+        ensures { Changes (modules_by_slot users.now.tree.now) users.now.module.now
             (old_of old.now) (value_of extra.now) self.old result self.new }
     {
         for slot in 0..self.places.len() {
@@ -121,7 +122,8 @@ impl HeldProcesses {
 
     /// Whether a process of the module is held.
     pub fn holds(&self, users: &Users<'_>) -> bool
-        ensures { TellsHeldUser (users_of users.now.tree.now) users.now.module.now self.now result }
+        ensures { ReportsHeldUser (modules_by_slot users.now.tree.now) users.now.module.now
+            self.now result }
     {
         for slot in 0..self.places.len() {
             if self.places[slot].is_some() && users.include(slot) {
@@ -144,8 +146,8 @@ impl HeldProcesses {
         requires follow { AllFollow followed.first followed.courses self.now seat.old.view }
         ensures table { seat.new.table ≡ seat.old.table }
         ensures follow { AllFollow followed.first followed.courses self.now seat.new.view }
-        ensures told { result ≡ uses_up (values_seen seat.new.view)
-            (users_of users.now.tree.now) users.now.module.now followed.courses }
+        ensures reported { result ≡ uses_up (values_seen seat.new.view)
+            (modules_by_slot users.now.tree.now) users.now.module.now followed.courses }
         ensures longer { AreLonger seat.old.view seat.new.view }
     {
         for slot in 0..self.places.len() {
@@ -165,7 +167,7 @@ impl HeldProcesses {
         requires table { seat.old.table ≡ table.now }
         requires follow { AllFollow followed.first followed.courses self.old seat.old.view }
         ensures table { seat.new.table ≡ seat.old.table }
-        ensures done { AllFollow followed.first (on_module (users_of users.now.tree.now)
+        ensures done { AllFollow followed.first (on_module (modules_by_slot users.now.tree.now)
             users.now.module.now resume followed.courses) self.new seat.new.view }
         ensures longer { AreLonger seat.old.view seat.new.view }
     {
@@ -197,7 +199,7 @@ impl HeldProcesses {
         requires table { seat.old.table ≡ table.now }
         requires follow { AllFollow followed.first followed.courses self.old seat.old.view }
         ensures table { seat.new.table ≡ seat.old.table }
-        ensures done { AllFollow followed.first (on_module (users_of users.now.tree.now)
+        ensures done { AllFollow followed.first (on_module (modules_by_slot users.now.tree.now)
             users.now.module.now stop followed.courses) self.new seat.new.view }
         ensures longer { AreLonger seat.old.view seat.new.view }
     {
@@ -218,7 +220,7 @@ impl HeldProcesses {
         requires table { seat.old.table ≡ table.now }
         requires follow { AllFollow followed.first followed.courses self.old seat.old.view }
         ensures table { seat.new.table ≡ seat.old.table }
-        ensures done { AllFollow followed.first (on_module (users_of users.now.tree.now)
+        ensures done { AllFollow followed.first (on_module (modules_by_slot users.now.tree.now)
             users.now.module.now start followed.courses) self.new seat.new.view }
         ensures longer { AreLonger seat.old.view seat.new.view }
     {
@@ -304,8 +306,9 @@ impl HeldProcesses {
         requires table { seat.old.table ≡ table.now }
         requires follow { AllFollow followed.first followed.courses self.old seat.old.view }
         ensures table { seat.new.table ≡ seat.old.table }
-        ensures done { IsDone followed.first (users_of users.now.tree.now) users.now.module.now
-            (operation_of step.entry) followed.courses result self.new seat.new.view }
+        ensures done { IsDone followed.first (modules_by_slot users.now.tree.now)
+            users.now.module.now (operation_of step.entry) followed.courses result self.new
+            seat.new.view }
         ensures failed { OnErr result (takes_memory step.entry ≡ true) }
         ensures longer { AreLonger seat.old.view seat.new.view }
     {

@@ -21,9 +21,9 @@ pub struct NotRestarted {
 }
 
 impl HeldProcesses {
-    /// Begins a child of the one supervisor of its module again, beside the processes that are held, and answers whether nothing was
-    /// done (OTP: supervisor:restart_child/2). Where its process is held, it is told up or not by what was done to it; one that
-    /// doesn't stay is given up and let go, also where the child doesn't begin then. It waits for the slots.
+    /// Begins a child of the one supervisor of its module again, beside the processes that are held, and answers whether nothing
+    /// was done (OTP: supervisor:restart_child/2). Where its process is held, it counts as up or not by what was done to it; one
+    /// that doesn't stay is given up and let go, also where the child doesn't begin then. It waits for the slots.
     pub fn restart_child<R: Wait>(
         &mut self,
         rt: &R,

@@ -214,7 +214,7 @@ pub(crate) fn is_up<R: Wait>(
     requires followed { IsFollowed past pid.slot past.course seat.old.view place.now }
     ensures table { seat.new.table ≡ seat.old.table }
     ensures followed { Steps past pid.slot past.course seat.old.view place.now seat.new.view }
-    ensures told { result ≡ is_some
+    ensures reported { result ≡ is_some
         (up_at (value_with (seen seat.new.view pid.slot) past.course).now) }
     ensures longer { AreLonger seat.old.view seat.new.view }
 {

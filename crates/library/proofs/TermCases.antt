@@ -9,7 +9,7 @@ use Rattle.rel_files.proofs.Distinct.{distinct_or_twice, never_both}
 use Rattle.app_file.specs.File.{Specification, IsAppTerm, app_files}
 use Rattle.mod_table.specs.File.{mod_files}
 use Rattle.library.specs.Library.{Library, TableTerm, IsLibrary, term_parts}
-use Rattle.library.specs.Reading.{AreTables, AreOfLibraries, SaysLibrary, SaysTable, placed}
+use Rattle.library.specs.Reading.{AreTables, AreOfLibraries, SaysLibrary, SaysTableTerm, placed}
 use Rattle.library.proofs.TermRows.{RowOrNot, row_or_not, says_one_row, tables_unique}
 use Rattle.library.proofs.Terms.{NonePlaced, is_library, no_app, no_parts, not_placed, says_one_library}
 
@@ -36,7 +36,7 @@ module _ {X : Type 0} (k : Kind X) where
       by_shape None is = inr (λ x says. let lost : None ≡ Some x = sym is ∙ says.shape in cc)
       by_shape (Some x) is = by_names x is (distinct_or_twice (k.names x))
 
-table_or_not : (v : Value) → ((t : TableTerm) × SaysTable v t) ⊎ ((t : TableTerm) → SaysTable v t → ⊥)
+table_or_not : (v : Value) → ((t : TableTerm) × SaysTableTerm v t) ⊎ ((t : TableTerm) → SaysTableTerm v t → ⊥)
 table_or_not v = elim (says_or_not mod_files v) [
   | inl says ↦ inl (record { term = v; table = says.0 }, (refl, says.1))
   | inr never ↦ inr (λ t is. never t.table is.1)
@@ -57,12 +57,12 @@ library_or_not v = by_parts (term_parts v) refl
         inr (not_placed v w ws a parts says none)
     by_places w ws a us parts says are (Some ts) is = inl (record { app = a; tables = ts }, is_library v w ws a us ts parts says are is)
 
-    by_tables : (w : Value) (ws : Values) (a : Specification) → term_parts v ≡ Some (w, ws) → IsAppTerm w a → RowOrNot SaysTable ws → LibraryOrNot v
+    by_tables : (w : Value) (ws : Values) (a : Specification) → term_parts v ≡ Some (w, ws) → IsAppTerm w a → RowOrNot SaysTableTerm ws → LibraryOrNot v
     by_tables w ws a parts says (inl (us, are)) = by_places w ws a us parts says are (placed a.modules us) refl
     by_tables w ws a parts says (inr never) = inr (not_placed v w ws a parts says (λ us ts are found. never us are))
 
     by_app : (w : Value) (ws : Values) → term_parts v ≡ Some (w, ws) → ((a : Specification) × IsAppTerm w a) ⊎ ((a : Specification) → IsAppTerm w a → ⊥) → LibraryOrNot v
-    by_app w ws parts (inl (a, says)) = by_tables w ws a parts says (row_or_not SaysTable table_or_not ws)
+    by_app w ws parts (inl (a, says)) = by_tables w ws a parts says (row_or_not SaysTableTerm table_or_not ws)
     by_app w ws parts (inr never) = inr (no_app v w ws parts never)
 
     by_parts : (o : Option (Value × Values)) → term_parts v ≡ o → LibraryOrNot v

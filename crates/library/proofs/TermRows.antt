@@ -7,7 +7,7 @@ use Rattle.erl_term.specs.Value.Values.{no_values, value}
 use Rattle.mod_table.specs.declared.table.Table.{Table}
 use Rattle.mod_table.specs.File.{table_in, IsTableTerm}
 use Rattle.library.specs.Library.{TableTerm}
-use Rattle.library.specs.Reading.{AreTables, EachSays, SaysTable}
+use Rattle.library.specs.Reading.{AreTables, EachSays, SaysTableTerm}
 
 -- What has been read of the terms from this place on, where this was read before it.
 pub record AreReadTo {X : Type 0} (says : Value → X → Type 0) (terms : List Term) (i : ℕ) (done : List X) : Type 0 where
@@ -81,14 +81,14 @@ module _ {X : Type 0} (says : Value → X → Type 0) where
 pub one_table : (v w : Value) (t u : Table) → v ≡ w → IsTableTerm v t → IsTableTerm w u → t ≡ u
 one_table v w t u e a b = let same : Some t ≡ Some u = sym a.shape ∙ ap table_in e ∙ b.shape in cc
 
-one_table_term : (v : Value) (t u : TableTerm) → SaysTable v t → SaysTable v u → t ≡ u
+one_table_term : (v : Value) (t u : TableTerm) → SaysTableTerm v t → SaysTableTerm v u → t ≡ u
 one_table_term v t u a b =
     let terms : t.term ≡ u.term = a.0 ∙ sym b.0 in
     let tables : t.table ≡ u.table = one_table v v t.table u.table refl a.1 b.1 in
     λ j. record { term = terms j; table = tables j }
 
 pub tables_unique : (vs : Values) (ts us : List TableTerm) → AreTables vs ts → AreTables vs us → ts ≡ us
-tables_unique vs ts us a b = says_one_row SaysTable one_table_term vs ts us a b
+tables_unique vs ts us a b = says_one_row SaysTableTerm one_table_term vs ts us a b
 
 -- the terms are those of their tables
 pub are_terms : (vs : Values) (ts : List TableTerm) → AreTables vs ts → values_of (map (λ (t : TableTerm). t.term) ts) ≡ vs

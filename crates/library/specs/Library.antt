@@ -1,4 +1,4 @@
--- Libraries: an application with the tables of its modules; docs/RULES.md tells the formats.
+-- Libraries: an application with the tables of its modules; docs/RULES.md gives the formats.
 use Rattle.std.specs.Prelude.{◌≡◌, ℕ, Bool, true, false, ◌&&◌, List, [], ◌∷◌, map, find, codes, Option, None, Some, if◌then◌else◌}
 use Rattle.std.specs.Option.{option_map, option_and_then}
 use Rattle.std.specs.Str.{bytes_eq}
@@ -9,7 +9,7 @@ use Rattle.rel_files.specs.Release.{Application}
 use Rattle.app_file.specs.File.{Specification, IsAppTerm}
 use Rattle.mod_table.specs.declared.table.Table.{Table}
 use Rattle.mod_table.specs.File.{IsTableTerm, name_of}
-use Rattle.rel_files.specs.Terms.{tuple_of, list_of}
+use Rattle.rel_files.specs.Terms.{triple_term, list_of}
 use Rattle.worker_table.specs.Same.{is_same}
 
 -- what a `.mod` file says, and its whole term
@@ -42,7 +42,7 @@ tables_there (Some t ∷ ts) = t ∷ tables_there ts
 
 -- {lib, AppTerm, [ModTerm]}: the term by which a record carries it
 abbrev pub library_term : Library → Value
-library_term l = tuple_of (atom (codes "lib") ∷ l.app.whole ∷ list_of (map (λ (t : TableTerm). t.term) (tables_there l.tables)) ∷ [])
+library_term l = triple_term (atom (codes "lib")) l.app.whole (list_of (map (λ (t : TableTerm). t.term) (tables_there l.tables)))
 
 -- AppTerm and the ModTerms of such a term
 abbrev pub term_parts : Value → Option (Value × Values)

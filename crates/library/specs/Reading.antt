@@ -14,12 +14,12 @@ EachSays says (value v vs) (x ∷ xs) = says v x × EachSays says vs xs
 EachSays says vs xs = ⊥
 
 -- The term says this table.
-abbrev pub SaysTable : Value → TableTerm → Type 0
-SaysTable v t = (t.term ≡ v) × IsTableTerm v t.table
+abbrev pub SaysTableTerm : Value → TableTerm → Type 0
+SaysTableTerm v t = (t.term ≡ v) × IsTableTerm v t.table
 
 -- The terms are those of these tables, in their order.
 abbrev pub AreTables : Values → List TableTerm → Type 0
-AreTables vs ts = EachSays SaysTable vs ts
+AreTables vs ts = EachSays SaysTableTerm vs ts
 
 -- The term is that of this library.
 abbrev pub SaysLibrary : Value → Library → Type 0

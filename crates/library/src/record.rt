@@ -14,6 +14,7 @@ use app_file::{App, app_of_term};
 use erl_term::Term;
 use mod_table::ModFile;
 use rel_files::parts::{is_word, list_in, triple_in};
+use rel_files::terms::{atom_term, list_term, triple_term};
 use std::alloc::{AllocError, Global};
 use std::rc::Rc;
 
@@ -22,11 +23,10 @@ impl Library {
     pub fn term(&self, alloc: Global) -> Result<Term, AllocError>
         ensures { IfOk result (λ term. value_of term ≡ library_term (library_of self.now)) }
     {
-        let mut members = Vec::with_capacity(alloc, 3)?;
-        members.push(Term::Atom(String::from_str(alloc, "lib")?))?;
-        members.push(self.app.whole.clone()?)?;
-        members.push(Term::List(table_terms(alloc, self.tables.as_slice())?))?;
-        Ok(Term::Tuple(members))
+        let word = atom_term(alloc, "lib")?;
+        let whole = self.app.whole.clone()?;
+        let tables = list_term(table_terms(alloc, self.tables.as_slice())?);
+        triple_term(alloc, word, whole, tables)
     }
 }
 

@@ -13,8 +13,8 @@ use text_cases::Answer;
 /// `rel`: the release of a file. `term`: the same, read again from the file's term. `apps`: the release of a file with
 /// these applications. `app`, `app_term`, `app_whole`: the application of a file, the same from its term, and this term.
 ///
-/// `events`: what a list that is empty at first answers to these events, and the list then with its libraries. `readers`: what each reader of
-/// such a list gives before the first event, and behind the answer to each.
+/// `events`: what a list that is empty at first answers to these events, and the list then with its libraries. `readers`: what each
+/// reader of such a list gives before the first event, and behind the answer to each.
 ///
 /// `bodies`: the list that the bodies of records make, each on a line of its own, or which one is bad. `written`: the body
 /// that the event on the first line writes behind the list of the other lines. `kept`: the bodies of the records that bring

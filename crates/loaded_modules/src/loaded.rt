@@ -116,10 +116,7 @@ impl Loaded {
         ensures { option_map (λ v. v.now) result
             ≡ option_map (λ (m : Module). m.vsn) (modules_in self.now name.now) }
     {
-        match self.modules.get(name) {
-            Some(module) => Some(module.vsn()),
-            None => None,
-        }
+        Some(self.modules.get(name)?.vsn())
     }
 
     /// The loaded modules with their versions, by the bytes of their names.
@@ -138,10 +135,7 @@ impl Loaded {
     pub fn table(&self, name: &str) -> Option<&Table>
         ensures { option_map (λ t. t.now) result ≡ tables_of (modules_in self.now) name.now }
     {
-        match self.modules.get(name) {
-            Some(module) => module.table(),
-            None => None,
-        }
+        self.modules.get(name)?.table()
     }
 }
 

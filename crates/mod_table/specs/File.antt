@@ -1,4 +1,4 @@
--- What a `.mod` file says, or which fault it has; docs/RULES.md tells the format.
+-- What a `.mod` file says, or which fault it has; docs/RULES.md gives the format.
 use Rattle.std.specs.Prelude.{ℕ, Bool, List, [], Option, None, codes, if◌then◌else◌}
 use Rattle.std.specs.Option.{option_map, option_and_then}
 use Rattle.std.specs.Str.{bytes_eq}

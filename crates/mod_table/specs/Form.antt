@@ -1,4 +1,4 @@
--- The terms of modules' tables (OTP: supervisor, child_spec() as a tuple); docs/RULES.md tells the format.
+-- The terms of modules' tables (OTP: supervisor, child_spec() as a tuple); docs/RULES.md gives the format.
 use Rattle.std.specs.Prelude.{◌≡◌, ◌⊎◌, ℕ, pos, List, [], ◌∷◌, codes}
 use Rattle.erl_term.specs.Value.{Value}
 use Rattle.erl_term.specs.Value.Value.{int, atom}

@@ -1,4 +1,4 @@
--- The lines that tell what was done.
+-- The lines that report what was done.
 use Rattle.std.proofs.Common.{◌≡◌, ℕ, ◌+◌, ◌<◌, List, [], ◌∷◌, length, map, take, get_or, Result, Ok, Err, sym, ap, ◌∙◌, ◌++◌, append_assoc}
 use Rattle.std.specs.Prelude.{IfOk, String, string_bytes, codes}
 use Rattle.std.specs.declared.alloc.Global.{Global}
@@ -19,15 +19,15 @@ term_more f all i a old new term within at made grown so_far =
     (ap (map value_of) grown ∙ map-append value_of old (term ∷ [])) ∙ ((λ j. so_far j ++ made j ∷ []) ∙ sym spelled)
 
 -- the line of a script
-pub tells_found : (line : Result (String Global) AllocError) (other descr : List ℕ) (f : FoundForm) → IfOk line (λ s. string_bytes s ≡ codes "ok " ++ (other ++ (codes " " ++ (descr ++ codes "\n"))))
+pub reports_found : (line : Result (String Global) AllocError) (other descr : List ℕ) (f : FoundForm) → IfOk line (λ s. string_bytes s ≡ codes "ok " ++ (other ++ (codes " " ++ (descr ++ codes "\n"))))
     → other ≡ text_of (text_term f.other) → descr ≡ text_of f.descr → IfOk line (λ s. string_bytes s ≡ checked_line (Ok f))
-tells_found (Err e) other descr f told is has = tt
-tells_found (Ok s) other descr f told is has =
-    told ∙ ap (λ t. codes "ok " ++ t) (sym (append_assoc other (codes " " ++ descr) (codes "\n"))) ∙ ap (λ t. codes "ok " ++ ((t ++ (codes " " ++ descr)) ++ codes "\n")) is
+reports_found (Err e) other descr f reported is has = tt
+reports_found (Ok s) other descr f reported is has =
+    reported ∙ ap (λ t. codes "ok " ++ t) (sym (append_assoc other (codes " " ++ descr) (codes "\n"))) ∙ ap (λ t. codes "ok " ++ ((t ++ (codes " " ++ descr)) ++ codes "\n")) is
     ∙ ap (λ t. codes "ok " ++ ((text_of (text_term f.other) ++ (codes " " ++ t)) ++ codes "\n")) has
 
 -- the line of a start
-pub tells_versions : (line : Result (String Global) AllocError) (erts vsn : List ℕ) → IfOk line (λ s. string_bytes s ≡ codes "ok " ++ (erts ++ (codes " " ++ (vsn ++ codes "\n"))))
+pub reports_versions : (line : Result (String Global) AllocError) (erts vsn : List ℕ) → IfOk line (λ s. string_bytes s ≡ codes "ok " ++ (erts ++ (codes " " ++ (vsn ++ codes "\n"))))
     → IfOk line (λ s. string_bytes s ≡ ok_line (erts ++ (codes " " ++ vsn)))
-tells_versions (Err e) erts vsn told = tt
-tells_versions (Ok s) erts vsn told = told ∙ ap (λ t. codes "ok " ++ t) (sym (append_assoc erts (codes " " ++ vsn) (codes "\n")))
+reports_versions (Err e) erts vsn reported = tt
+reports_versions (Ok s) erts vsn reported = reported ∙ ap (λ t. codes "ok " ++ t) (sym (append_assoc erts (codes " " ++ vsn) (codes "\n")))

@@ -1,4 +1,4 @@
--- The lines that tell what was done (OTP: release_handler:check_install_release/1, install_release/1).
+-- The lines that report what was done (OTP: release_handler:check_install_release/1, install_release/1).
 use Rattle.std.specs.Prelude.{ℕ, List, ◌++◌, codes, Result, Ok, Err}
 use Rattle.erl_term.specs.Printing.{text_of}
 use Rattle.erl_term.specs.Value.{Value}

@@ -1,4 +1,4 @@
--- Why a command is refused, and how that is told.
+-- Why a command is refused, and how that is reported.
 use Rattle.std.specs.Prelude.{ℕ, List, ◌++◌, codes, string_bytes}
 use Rattle.node_upgrade.specs.Failure.{Failure, failure_text}
 use Rattle.rel_list.specs.declared.status.Status.{Status}
@@ -31,7 +31,7 @@ pub data NodeRefusal : Type 0 where
   no_memory : NodeRefusal
   exists : NodeRefusal
 
--- the line that tells a refusal: its number, its name and its detail
+-- the line that reports a refusal: its number, its name and its detail
 abbrev pub refusal_line : NodeRefusal → List ℕ
 refusal_line no_such_release = codes "error handler 1 NoSuchRelease\n"
 refusal_line existing_release = codes "error handler 2 ExistingRelease\n"
@@ -75,7 +75,7 @@ refusal_of handler.Dead = dead
 refusal_of handler.NoMemory = no_memory
 refusal_of handler.Exists = exists
 
--- what is told of a release that isn't taken for its files
+-- what is reported of a release that isn't taken for its files
 abbrev pub refusal_for : of_files.Refusal → NodeRefusal
 refusal_for (of_files.missing_file path) = missing_file path
 refusal_for (of_files.bad_file path trouble) = bad_file path trouble

@@ -1,8 +1,8 @@
 //! The lines that a node answers, of which a session writes one for each command.
 //!
-//! [`ok_line`] tells the version that a command names, [`start_line`] what a node starts, [`found_line`] a script that is found
-//! for an installation, and [`installed_line`] a release that was installed (specs/Lines). [`refusal_line`] tells why a command is
-//! refused: the refusal's number, its name and its detail. [`refused_line`] and [`broken_line`] tell of a script that isn't
+//! [`ok_line`] reports the version that a command names, [`start_line`] what a node starts, [`found_line`] a script that is found
+//! for an installation, and [`installed_line`] a release that was installed (specs/Lines). [`refusal_line`] reports why a command
+//! is refused: the refusal's number, its name and its detail. [`refused_line`] and [`broken_line`] are of a script that isn't
 //! carried out to its end, before and behind its point of no return (specs/Refusals). Each answers exactly its text, or that no
 //! memory was left. The listings are those of `node_listing`.
 //!

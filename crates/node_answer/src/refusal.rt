@@ -1,11 +1,11 @@
-// The lines that tell why a node refuses a command.
+// The lines that report why a node refuses a command.
 ghost use Rattle.std.specs.Prelude.{◌≡◌, ◌++◌, codes, string_bytes, IfOk};
 ghost use Rattle.node_answer.specs.Refusals.{refusal_line, refusal_of};
 
 use node_command::HandlerError;
 use std::alloc::{AllocError, Global};
 
-/// The line that tells a refusal: its number, its name and its detail.
+/// The line that reports a refusal: its number, its name and its detail.
 pub fn refusal_line(alloc: Global, why: &HandlerError) -> Result<String, AllocError>
     ensures { IfOk result (λ s. string_bytes s ≡ refusal_line (refusal_of why.now)) }
 {

@@ -1,4 +1,4 @@
-// The lines that tell of scripts (OTP: release_handler:check_install_release/1, install_release/1).
+// The lines of scripts (OTP: release_handler:check_install_release/1, install_release/1).
 ghost use Rattle.std.specs.Prelude.{◌≡◌, map, string_bytes, Ok, IfOk, IsErr};
 ghost use Rattle.erl_term.specs.Value.{value_of};
 ghost use Rattle.erl_term.specs.Value.Value.{atom};
@@ -71,7 +71,7 @@ pub fn refused_line(alloc: Global, failure: &ScriptFailure) -> Result<String, Al
 
 /// The line of a script that fails behind its point of no return. Out of memory is no answer.
 pub fn broken_line(alloc: Global, failure: &ScriptFailure) -> Result<String, AllocError>
-    ensures told { IfOk result (λ text. string_bytes text
+    ensures reported { IfOk result (λ text. string_bytes text
         ≡ refusal_line (must_reboot (failure_of failure.now))) }
     ensures memory { (failure_of failure.now).why ≡ fails no_memory → IsErr result }
 {

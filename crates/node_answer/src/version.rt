@@ -1,18 +1,18 @@
-// The lines that tell versions.
+// The lines that report versions.
 ghost use Rattle.std.specs.Prelude.{◌≡◌, ◌++◌, codes, string_bytes, IfOk};
 ghost use Rattle.node_answer.specs.Lines.{ok_line};
 
 use start_record::Start;
 use std::alloc::{AllocError, Global};
 
-/// The line that tells a version.
+/// The line that reports a version.
 pub fn ok_line(alloc: Global, vsn: &str) -> Result<String, AllocError>
     ensures { IfOk result (λ text. string_bytes text ≡ ok_line vsn.now) }
 {
     format!(in alloc; "ok {vsn}\n")
 }
 
-/// The line that tells a start.
+/// The line that reports a start.
 pub fn start_line(alloc: Global, start: &Start) -> Result<String, AllocError>
     ensures { IfOk result (λ text. string_bytes text
         ≡ ok_line (string_bytes start.now.erts ++ (codes " " ++ string_bytes start.now.vsn))) }

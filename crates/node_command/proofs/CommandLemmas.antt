@@ -16,7 +16,7 @@ use Rattle.rel_records.specs.Writing.{IsOfListed}
 use Rattle.node_command.specs.Taking.{list_refusal, refused_or, kept_short, commanded}
 use Rattle.node_command.specs.declared.error.HandlerError.{HandlerError}
 use Rattle.node_command.specs.declared.error.HandlerError.TheVariants.{ExistingRelease, TooMany}
-use Rattle.node_command.specs.declared.error.HandlerError.TheVariants as told
+use Rattle.node_command.specs.declared.error.HandlerError.TheVariants as reported
 
 -- no refusal, and this list
 abbrev IsTaken : Option ListError → Option Releases → Releases → Type 0
@@ -157,16 +157,16 @@ module _ (p : Bundle) (es : Releases) (free : has_one_shot es ≡ false) where
 
 -- a refusal by the list and its limits
 abbrev pub IsListRefusal : HandlerError → Type 0
-IsListRefusal told.Dead = ⊥
-IsListRefusal told.Full = ⊥
-IsListRefusal told.Device = ⊥
-IsListRefusal told.Exists = ⊥
-IsListRefusal told.NoMatchingRelup = ⊥
-IsListRefusal (told.LibDiffers app) = ⊥
-IsListRefusal (told.NoTable app) = ⊥
-IsListRefusal (told.BadFile path trouble) = ⊥
-IsListRefusal (told.MissingFile path) = ⊥
-IsListRefusal (told.VsnMismatch path) = ⊥
+IsListRefusal reported.Dead = ⊥
+IsListRefusal reported.Full = ⊥
+IsListRefusal reported.Device = ⊥
+IsListRefusal reported.Exists = ⊥
+IsListRefusal reported.NoMatchingRelup = ⊥
+IsListRefusal (reported.LibDiffers app) = ⊥
+IsListRefusal (reported.NoTable app) = ⊥
+IsListRefusal (reported.BadFile path trouble) = ⊥
+IsListRefusal (reported.MissingFile path) = ⊥
+IsListRefusal (reported.VsnMismatch path) = ⊥
 IsListRefusal e = Unit {0}
 
 of_list_error : (why : ListError) → IsListRefusal (list_refusal why)

@@ -36,14 +36,14 @@ use Rattle.rel_list.specs.Event.Event.{unpacked}
 use Rattle.library.specs.Library.{Library, AreLibrariesOf, IsLibrary, library_term}
 use Rattle.node_command.proofs.CommandLemmas.{with_it, comes_in}
 use Rattle.node_command.specs.Taking.{commanded}
-use Rattle.node_command.specs.Files.{HasFileTerms, bundle_brought, terms_brought, unpacked_size, IsWhole, Brings, IsOfFiles, IsToldAs, told_files}
+use Rattle.node_command.specs.Files.{HasFileTerms, bundle_brought, terms_brought, unpacked_size, IsWhole, Brings, IsOfFiles, IsReportedAs, reported_files}
 use Rattle.node_command.specs.Place.{difference, files_refusal, has_room, own_refusal, refusal_with}
 use Rattle.node_command.specs.declared.error.HandlerError.{HandlerError}
 use Rattle.node_command.specs.declared.error.HandlerError.TheVariants as command
 
--- what is told of a library that differs
-abbrev pub told_library : Library → of_files.Refusal
-told_library l = of_files.Refusal.lib_differs l.app.name
+-- what is reported of a library that differs
+abbrev pub reported_library : Library → of_files.Refusal
+reported_library l = of_files.Refusal.lib_differs l.app.name
 
 -- a release that was read has few enough applications, and its term says it
 abbrev IsUsable : Found → Type 0
@@ -167,10 +167,10 @@ pub still_free : (room : Bool) (r s : ReleaseFiles) → s ≡ r → refusal_with
 still_free room r s same free = ap (λ (g : ReleaseFiles). refusal_with room (brought_of g)) same ∙ free
 
 -- Where its applications aren't why, a node without room for it is.
-pub told_no_room : (room : Bool) (b : Brought) → room ≡ false → b.refusal ≡ None → IsToldAs (refusal_with room b) command.TooMany
-told_no_room room b none free = record {
+pub reported_no_room : (room : Bool) (b : Brought) → room ≡ false → b.refusal ≡ None → IsReportedAs (refusal_with room b) command.TooMany
+reported_no_room room b none free = record {
   error = of_memory.TooMany;
-  told = refl;
+  reported = refl;
   refused = ap (λ (o : Option of_files.Refusal). option_or o (if room then b.relup_refusal else Some of_files.Refusal.too_many)) free
       ∙ ap (λ (r : Bool). if r then b.relup_refusal else Some of_files.Refusal.too_many) none;
 }
@@ -193,21 +193,21 @@ none_listed None is = refl
 none_listed (Some s) is = absurd cc
 
 -- what became of a refusal of a release for its file
-pub refused_as : {X : Type 0} (source : Source) (path : List ℕ) (r : Result X HandlerError) (e : UnpackError) → IsErrAnd r (λ w. w ≡ told_files e)
+pub refused_as : {X : Type 0} (source : Source) (path : List ℕ) (r : Result X HandlerError) (e : UnpackError) → IsErrAnd r (λ w. w ≡ reported_files e)
     → (e ≢ NoMemory → Brings source path (Err (of_files.refusal_of e))) → IfErr r (IsOfFiles source path)
 refused_as source path (Ok x) e never found = absurd never
-refused_as source path (Err w) e is found = record { error = e; told = is; read = found }
+refused_as source path (Err w) e is found = record { error = e; reported = is; read = found }
 
 -- memory was refused, whatever the files
 pub no_memory : (source : Source) (path : List ℕ) → IsOfFiles source path command.NoMemory
-no_memory source path = record { error = NoMemory; told = refl; read = λ known. absurd (known refl) }
+no_memory source path = record { error = NoMemory; reported = refl; read = λ known. absurd (known refl) }
 
 -- A version that is listed is not refused for its files, and neither is what isn't, and agrees with the list.
 pub listed_free : (b : Brought) (es : Releases) → is_some (status_of b.found.release.vsn es) ≡ true → files_refusal b es ≡ None
 listed_free b es listed = ap (λ (there : Bool). if there then None else option_or (difference b.libraries es) (refusal_with (has_room es) b)) listed
 
 pub brought_free : (b : Brought) (es : Releases) → first_different es b.libraries ≡ None → refusal_with (has_room es) b ≡ None → files_refusal b es ≡ None
-brought_free b es agree free = either (is_some (status_of b.found.release.vsn es)) (option_or (difference b.libraries es) why) ((λ k. option_or (option_map told_library (agree k)) why) ∙ free)
+brought_free b es agree free = either (is_some (status_of b.found.release.vsn es)) (option_or (difference b.libraries es) why) ((λ k. option_or (option_map reported_library (agree k)) why) ∙ free)
   where
     why : Option of_files.Refusal
     why = refusal_with (has_room es) b
@@ -220,16 +220,16 @@ brought_free b es agree free = either (is_some (status_of b.found.release.vsn es
 pub fresh_refusal : (b : Brought) (es : Releases) → is_some (status_of b.found.release.vsn es) ≡ false → files_refusal b es ≡ option_or (difference b.libraries es) (refusal_with (has_room es) b)
 fresh_refusal b es fresh = ap (λ (there : Bool). if there then None else option_or (difference b.libraries es) (refusal_with (has_room es) b)) fresh
 
-pub differs_so : (ls : List Library) (es : Releases) (l : Library) → first_different es ls ≡ Some l → difference ls es ≡ Some (told_library l)
-differs_so ls es l found = ap (option_map told_library) found
+pub differs_so : (ls : List Library) (es : Releases) (l : Library) → first_different es ls ≡ Some l → difference ls es ≡ Some (reported_library l)
+differs_so ls es l found = ap (option_map reported_library) found
 
 -- a library that differs bars a release whose version isn't listed, whatever is wrong behind it
-pub barred_so : (b : Brought) (es : Releases) (e : HandlerError) → status_of b.found.release.vsn es ≡ None → IsToldAs (difference b.libraries es) e → IsToldAs (files_refusal b es) e
+pub barred_so : (b : Brought) (es : Releases) (e : HandlerError) → status_of b.found.release.vsn es ≡ None → IsReportedAs (difference b.libraries es) e → IsReportedAs (files_refusal b es) e
 barred_so b es e fresh barred = record {
   error = barred.error;
-  told = barred.told;
+  reported = barred.reported;
   refused = fresh_refusal b es (ap is_some fresh) ∙ ap (λ d. option_or d (refusal_with (has_room es) b)) barred.refused;
 }
 
 pub agrees_so : (b : Brought) (es : Releases) → status_of b.found.release.vsn es ≡ None → first_different es b.libraries ≡ None → files_refusal b es ≡ refusal_with (has_room es) b
-agrees_so b es fresh agree = fresh_refusal b es (ap is_some fresh) ∙ ap (λ o. option_or (option_map told_library o) (refusal_with (has_room es) b)) agree
+agrees_so b es fresh agree = fresh_refusal b es (ap is_some fresh) ∙ ap (λ o. option_or (option_map reported_library o) (refusal_with (has_room es) b)) agree

@@ -1,4 +1,4 @@
--- What a command is given of a release, and what is told of its files.
+-- What a command is given of a release, and what is reported of its files.
 use Rattle.std.specs.Prelude.{◌≡◌, ◌≢◌, ℕ, List, length, Option, Some, Result, Err}
 use Rattle.std.specs.Option.{option_map, ForSome}
 use Rattle.erl_term.specs.Within.{IsWithin}
@@ -41,15 +41,15 @@ made_size b = let p = bundle_brought b in length (body_of (terms_brought b) (mak
 abbrev pub unpacked_size : Brought → Releases → ℕ
 unpacked_size b es = let p = bundle_brought b in length (body_of (terms_brought b) (adds p.release (new_libraries es p.libraries) p.relup))
 
--- what is told of a release that isn't taken for its files
-abbrev pub told_files : UnpackError → HandlerError
-told_files (files.MissingFile path) = MissingFile path
-told_files (files.BadFile path trouble) = BadFile path trouble
-told_files (files.VsnMismatch path) = VsnMismatch path
-told_files (files.LibDiffers app) = LibDiffers app
-told_files (files.NoTable name) = NoTable name
-told_files files.TooMany = TooMany
-told_files files.NoMemory = NoMemory
+-- what is reported of a release that isn't taken for its files
+abbrev pub reported_files : UnpackError → HandlerError
+reported_files (files.MissingFile path) = MissingFile path
+reported_files (files.BadFile path trouble) = BadFile path trouble
+reported_files (files.VsnMismatch path) = VsnMismatch path
+reported_files (files.LibDiffers app) = LibDiffers app
+reported_files (files.NoTable name) = NoTable name
+reported_files files.TooMany = TooMany
+reported_files files.NoMemory = NoMemory
 
 -- what the path of a release brings to a node
 abbrev pub Brings : Source → List ℕ → Result Brought Refusal → Type 0
@@ -58,11 +58,11 @@ Brings source path = BroughtAt source path
 -- The release's file is why: of this path it gives that refusal and no release, or memory was refused in reading.
 pub record IsOfFiles (source : Source) (path : List ℕ) (e : HandlerError) : Type 0 where
   pub error : UnpackError
-  pub told : e ≡ told_files error
+  pub reported : e ≡ reported_files error
   pub read : error ≢ files.NoMemory → Brings source path (Err (refusal_of error))
 
--- This refusal of a release for its other files is told so.
-pub record IsToldAs (refusal : Option Refusal) (e : HandlerError) : Type 0 where
+-- This refusal of a release for its other files is reported so.
+pub record IsReportedAs (refusal : Option Refusal) (e : HandlerError) : Type 0 where
   pub error : UnpackError
-  pub told : e ≡ told_files error
+  pub reported : e ≡ reported_files error
   pub refused : refusal ≡ Some (refusal_of error)

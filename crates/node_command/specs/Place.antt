@@ -7,7 +7,7 @@ use Rattle.rel_records.specs.Limits.{most_releases}
 use Rattle.rel_unpack.specs.Refusal.{Refusal}
 use Rattle.rel_unpack.specs.Refusal.Refusal.{lib_differs, too_many}
 use Rattle.rel_unpack.specs.Unpacking.{Brought}
-use Rattle.node_command.specs.Files.{IsToldAs}
+use Rattle.node_command.specs.Files.{IsReportedAs}
 use Rattle.node_command.specs.declared.error.HandlerError.{HandlerError}
 use Rattle.node_command.specs.declared.error.HandlerError.TheVariants.{ExistingRelease, NoMemory}
 
@@ -41,4 +41,4 @@ abbrev pub HasNoPlace : Brought → Releases → HandlerError → Type 0
 HasNoPlace b es e =
     (e ≡ NoMemory)
     ⊎ (((e ≡ ExistingRelease) × (is_some (status_of b.found.release.vsn es) ≡ true))
-    ⊎ ((status_of b.found.release.vsn es ≡ None) × IsToldAs (difference b.libraries es) e))
+    ⊎ ((status_of b.found.release.vsn es ≡ None) × IsReportedAs (difference b.libraries es) e))

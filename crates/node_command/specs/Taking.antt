@@ -13,7 +13,7 @@ use Rattle.node_command.specs.declared.error.HandlerError.{HandlerError}
 use Rattle.node_command.specs.declared.error.HandlerError.TheVariants.{NoSuchRelease, ExistingRelease, AlreadyInstalled, BadStatus, Permanent, Running, TooMany, NoMemory}
 use Rattle.rel_files.specs.Terms.{tuple_of}
 
--- What a node answers for a refusal of its list. Libraries that differ are told before, with the files of the release
+-- What a node answers for a refusal of its list. Libraries that differ are reported before, with the files of the release
 -- (`files_refusal`), so NoMemory stands for nothing there.
 abbrev pub list_refusal : ListError → HandlerError
 list_refusal list.NoSuchRelease = NoSuchRelease

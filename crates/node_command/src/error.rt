@@ -1,7 +1,7 @@
 // Why a command was refused.
 ghost use Rattle.std.specs.Prelude.{◌≡◌};
 ghost use Rattle.node_command.specs.declared.error.HandlerError.TheVariants as command;
-ghost use Rattle.node_command.specs.Files.{told_files};
+ghost use Rattle.node_command.specs.Files.{reported_files};
 ghost use Rattle.node_command.specs.Taking.{list_refusal};
 
 use rel_disk::DeviceFault;
@@ -151,14 +151,14 @@ impl From<ListError> for HandlerError {
             ListError::BadStatus(status) => HandlerError::BadStatus(status),
             ListError::Permanent => HandlerError::Permanent,
             ListError::Running => HandlerError::Running,
-            // Libraries that differ are asked before the event is, and told by name.
+            // Libraries that differ are asked before the event is, and reported by name.
             ListError::LibDiffers | ListError::NoMemory => HandlerError::NoMemory,
         }
     }
 }
 
 impl From<UnpackError> for HandlerError {
-    ghost from_gives = { λ e h. h ≡ told_files e };
+    ghost from_gives = { λ e h. h ≡ reported_files e };
 
     fn from(error: UnpackError) -> HandlerError {
         match error {

@@ -3,8 +3,8 @@
 //! A release comes from the file of a path and the files of its applications, in a source of files: [`bring_release`] takes
 //! what `rel_unpack` says that the path brings (`Brings`), or is refused for the release's own file (`IsOfFiles`). For its
 //! applications it is refused where the node would take it: [`new_version`] asks a list for its version and its libraries
-//! (`HasNoPlace`), [`unless_refused`] tells what is wrong with its other files, or that the node has too many releases
-//! (`IsToldAs`).
+//! (`HasNoPlace`), [`unless_refused`] reports what is wrong with its other files, or that the node has too many releases
+//! (`IsReportedAs`).
 //!
 //! [`find_installation`] gives the script by which a release is installed (`installation`).
 //!

@@ -9,7 +9,7 @@ ghost use Rattle.rel_records.specs.Limits.{is_small};
 ghost use Rattle.rel_records.specs.Parts.{files_of};
 ghost use Rattle.rel_unpack.specs.Unpacking.{brought_of, libraries_of};
 ghost use Rattle.relup_file.specs.Relup.{relup_of};
-ghost use Rattle.node_command.specs.Files.{Brings, HasFileTerms, IsOfFiles, IsToldAs, IsWhole, bundle_brought, terms_brought};
+ghost use Rattle.node_command.specs.Files.{Brings, HasFileTerms, IsOfFiles, IsReportedAs, IsWhole, bundle_brought, terms_brought};
 ghost use Rattle.node_command.specs.Place.{HasNoPlace, has_room, own_refusal, refusal_with};
 
 use crate::HandlerError;
@@ -76,7 +76,7 @@ pub fn new_version(
 pub fn unless_refused(brought: ReleaseFiles, has_room: bool) -> Result<ReleaseFiles, HandlerError>
     ensures brought { IfOk result (λ r. r ≡ brought) }
     ensures free { OnOk result (refusal_with has_room (brought_of brought) ≡ None) }
-    ensures refused { IfErr result (IsToldAs (refusal_with has_room (brought_of brought))) }
+    ensures refused { IfErr result (IsReportedAs (refusal_with has_room (brought_of brought))) }
 {
     let ReleaseFiles {
         file,

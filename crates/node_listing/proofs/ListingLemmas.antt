@@ -21,8 +21,8 @@ map-twice f g (x ∷ xs) = ap (λ ys. f (g x) ∷ ys) (map-twice f g xs)
 pub application_more : (all : List RelApp) (i : ℕ) (a : RelApp) (old new : List Term) (term : Term) → i < length all → a ≡ get_or all i a → value_of term ≡ application_value (application_of a) → new ≡ old ++ term ∷ []
     → map value_of old ≡ map (λ b. application_value (application_of b)) (take i all) → map value_of new ≡ map (λ b. application_value (application_of b)) (take (i + 1) all)
 application_more all i a old new term within at made grown so_far =
-    let told : RelApp → Value = λ b. application_value (application_of b) in
-    let spelled : map told (take (i + 1) all) ≡ map told (take i all) ++ told a ∷ [] = map_more told all i a within ∙ ap (λ b. map told (take i all) ++ told b ∷ []) (sym at) in
+    let reported : RelApp → Value = λ b. application_value (application_of b) in
+    let spelled : map reported (take (i + 1) all) ≡ map reported (take i all) ++ reported a ∷ [] = map_more reported all i a within ∙ ap (λ b. map reported (take i all) ++ reported b ∷ []) (sym at) in
     (ap (map value_of) grown ∙ map-append value_of old (term ∷ [])) ∙ ((λ j. so_far j ++ made j ∷ []) ∙ sym spelled)
 
 -- the applications are there
@@ -34,8 +34,8 @@ whole_applications vs applications all e same =
 -- all four parts are there
 pub whole_release : {E : Type 0} (r : Result Term E) (n v applications s : Value) (n' v' applications' s' : Value) → n ≡ n' → v ≡ v' → applications ≡ applications' → s ≡ s'
     → IfOk r (λ t. value_of t ≡ tuple (values_of (n ∷ v ∷ applications ∷ s ∷ []))) → IfOk r (λ t. value_of t ≡ tuple (values_of (n' ∷ v' ∷ applications' ∷ s' ∷ [])))
-whole_release (Err e) n v applications s n' v' applications' s' en ev ea es told = tt
-whole_release (Ok t) n v applications s n' v' applications' s' en ev ea es told = told ∙ (λ i. tuple (values_of (en i ∷ ev i ∷ ea i ∷ es i ∷ [])))
+whole_release (Err e) n v applications s n' v' applications' s' en ev ea es reported = tt
+whole_release (Ok t) n v applications s n' v' applications' s' en ev ea es reported = reported ∙ (λ i. tuple (values_of (en i ∷ ev i ∷ ea i ∷ es i ∷ [])))
 
 -- one more line, of the release in its place
 pub line_more : (listed : List ListedRelease) (i : ℕ) (l : ListedRelease) (old new : List ℕ) → i < length listed → l ≡ get_or listed i l → new ≡ old ++ release_line (entry_of l)
@@ -45,7 +45,7 @@ line_more listed i l old new within at grown so_far =
     let entries : map entry_of (take (i + 1) listed) ≡ before ++ entry_of l ∷ [] = map_more entry_of listed i l within ∙ ap (λ m. before ++ entry_of m ∷ []) (sym at) in
     grown ∙ ap (λ t. t ++ release_line (entry_of l)) so_far ∙ flat_map_more release_line [] before (entry_of l) ∙ ap (flat_map release_line) (sym entries)
 
--- all lines are there, and the last one, which tells how many there are
+-- all lines are there, and the last one, which reports how many there are
 pub whole_listing : (listed : List ListedRelease) (i count : ℕ) (releases : Releases) (lines text : List ℕ) → length listed ≤ i → map entry_of listed ≡ releases → lines ≡ flat_map release_line (map entry_of (take i listed))
     → count ≡ length releases → text ≡ lines ++ count_line count → text ≡ listing releases
 whole_listing listed i count releases lines text end entries so_far counted grown =

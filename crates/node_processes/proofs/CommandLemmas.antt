@@ -43,31 +43,31 @@ pub call_of_none : (app id : List ℕ) (input : ℕ) (v : View) (apps : List App
     → (call_line app id input (node v apps modules) ≡ no_process_line) × (called app id input (node v apps modules) ≡ node v apps modules)
 call_of_none app id input v apps modules is = (ap (called_line input (node v apps modules)) is, ap (called_at input (node v apps modules)) is)
 
--- what a call of a process tells, and leaves
+-- what a call of a process reports, and leaves
 pub record IsCalled (app id : List ℕ) (input : ℕ) (v w : View) (apps : List App) (modules : NamedModules) (t : Tried) : Type 0 where
-  pub told : call_line app id input (node v apps modules) ≡ tried_line t
+  pub reported : call_line app id input (node v apps modules) ≡ tried_line t
   pub leaves : called app id input (node v apps modules) ≡ node w apps modules
 
 -- by what the process was at
 of_process : (app id : List ℕ) (input : ℕ) (v w : View) (apps : List App) (modules : NamedModules) (pid : Pid) (t : Tried) (o : Option Now)
     → find_process app id apps ≡ Some pid → up_in pid.round (value_of v pid.slot) ≡ o → reply_line input o ≡ tried_line t
     → behind_call input (node v apps modules) pid o ≡ node w apps modules → IsCalled app id input v w apps modules t
-of_process app id input v w apps modules pid t o found up told leaves =
+of_process app id input v w apps modules pid t o found up reported leaves =
     let at : up_in pid.round (value_at (node v apps modules) pid) ≡ o = ap (up_in pid.round) (value_there v pid.slot pid.inside) ∙ up in record {
-      told = ap (called_line input (node v apps modules)) found ∙ (ap (reply_line input) at ∙ told);
+      reported = ap (called_line input (node v apps modules)) found ∙ (ap (reply_line input) at ∙ reported);
       leaves = ap (called_at input (node v apps modules)) found ∙ (ap (behind_call input (node v apps modules) pid) at ∙ leaves);
     }
 
 -- a call that reached the process
 reached : (app id : List ℕ) (input : ℕ) (v w : View) (apps : List App) (modules : NamedModules) (pid : Pid) (t : Tried) (o : Outcome) → find_process app id apps ≡ Some pid
     → CalledAlone pid.slot pid.round input o v w → outcome_line o ≡ tried_line t → IsCalled app id input v w apps modules t
-reached app id input v w apps modules pid t o found alone told =
+reached app id input v w apps modules pid t o found alone reported =
     let n = alone.up.0 in
     let there : value_at (node v apps modules) pid ≡ value_of v pid.slot = value_there v pid.slot pid.inside in
     let here : value_of w pid.slot ≡ after (value_at (node v apps modules) pid) (call input (outcome_at n input)) =
     ap replay alone.seen_is ∙ (replay-append nothing (seen v pid.slot) (entry (v.count + 1) (call input o) ∷ [])
     ∙ (λ i. after (sym there i) (call input (alone.up.2 i)))) in
-    of_process app id input v w apps modules pid t (Some n) found alone.up.1 (ap outcome_line (sym alone.up.2) ∙ told)
+    of_process app id input v w apps modules pid t (Some n) found alone.up.1 (ap outcome_line (sym alone.up.2) ∙ reported)
     (ap (λ (vs : List Value). record { values = vs; apps = apps; modules = modules })
     (sym (value_set v w pid.slot (after (value_at (node v apps modules) pid) (call input (outcome_at n input))) pid.inside here (λ q ne. ap replay (alone.rest.others q ne)))))
 

@@ -24,7 +24,7 @@ use Rattle.relup_instruction.specs.Instruction.{ChangeForm}
 use Rattle.proc_history.specs.Histories.{replay_from}
 use Rattle.started_members.specs.Ends.{stands}
 use Rattle.held_processes.specs.Applications.{all_begun, all_ended, begun_at, ended_at, held_ended, known}
-use Rattle.held_processes.specs.Course.{Course, Courses, Hold, Operation, Users, add, add_alone, added, at_point, course_after, if_held, let_go, load_free, on_module, runs}
+use Rattle.held_processes.specs.Course.{Course, Courses, Hold, Operation, ModulesBySlot, add, add_alone, added, at_point, course_after, if_held, let_go, load_free, on_module, runs}
 use Rattle.held_processes.specs.Course.Hold.{not_held, until_point, until_resumed}
 use Rattle.held_processes.specs.Course as course
 use Rattle.held_processes.specs.Operations.{Values, give_up_at}
@@ -160,18 +160,18 @@ either_versions : (b : Bool) (c d : Course) → CourseVersions c → CourseVersi
 either_versions true c d one other = one
 either_versions false c d one other = other
 
-module_courses : (users : Users) (name : List ℕ) (op : Operation) (cs : Courses) → GivesVersion op → AllVersions cs → AllVersions (on_module users name op cs)
+module_courses : (users : ModulesBySlot) (name : List ℕ) (op : Operation) (cs : Courses) → GivesVersion op → AllVersions cs → AllVersions (on_module users name op cs)
 module_courses users name op cs gives all p = either_versions (runs name (users p)) (course_after op (cs p)) (cs p) (course_versions op (cs p) gives (all p)) (all p)
 
-pub each_courses : (op : Operation) (names : List (List ℕ)) (users : Users) (cs : Courses) → GivesVersion op → AllVersions cs → AllVersions (on_each op names users cs)
+pub each_courses : (op : Operation) (names : List (List ℕ)) (users : ModulesBySlot) (cs : Courses) → GivesVersion op → AllVersions cs → AllVersions (on_each op names users cs)
 each_courses op [] users cs gives all = all
 each_courses op (n ∷ ns) users cs gives all = each_courses op ns users (on_module users n op cs) gives (module_courses users n op cs gives all)
 
-pub load_versions : (keep : Bool) (name : List ℕ) (o : Option WorkerTable) (users : Users) (cs : Courses) → OrNone IsWorkerVersion o → AllVersions cs → AllVersions (load_courses keep name o users cs)
+pub load_versions : (keep : Bool) (name : List ℕ) (o : Option WorkerTable) (users : ModulesBySlot) (cs : Courses) → OrNone IsWorkerVersion o → AllVersions cs → AllVersions (load_courses keep name o users cs)
 load_versions keep name None users cs version all = all
 load_versions keep name (Some w) users cs version all = module_courses users name (course.Operation.load keep w) cs version all
 
-pub change_versions : (name : List ℕ) (o : Option OldVersion) (c : ChangeForm) (users : Users) (cs : Courses) → AllVersions cs → AllVersions (change_courses name o c users cs)
+pub change_versions : (name : List ℕ) (o : Option OldVersion) (c : ChangeForm) (users : ModulesBySlot) (cs : Courses) → AllVersions cs → AllVersions (change_courses name o c users cs)
 change_versions name None c users cs all = all
 change_versions name (Some old) c users cs all = module_courses users name (course.Operation.change old c.extra) cs tt all
 

@@ -26,7 +26,7 @@ replay_calls : (k input : ℕ) (os : List Outcome) (v : Value) → replay_from v
 replay_calls k input [] v = refl
 replay_calls k input (o ∷ os) v = replay_calls k input os (after v (call input o))
 
--- what is counted is told
+-- what is counted is reported
 counted_line : (times : ℕ) (os : List Outcome) (f : FloodCounts) → Counts times os f → outcomes_line times os ≡ counts_line f.done f.crashed f.ended f.down
 counted_line times os f c =
     let down : times - length os ≡ f.down = let all = c.down in omega (arith, all) in
@@ -41,9 +41,9 @@ value_flooded input times v w apps modules pid f flood =
     ap replay flood.seen_is ∙ (replay-append nothing (seen v pid.slot) (calls_with (v.count + 1) input os)
     ∙ (replay_calls (v.count + 1) input os x ∙ ap (λ (y : Value). after_calls input (outcomes_of pid.round input times y) y) (sym (value_there v pid.slot pid.inside))))
 
--- what a flood of a process tells, and leaves
+-- what a flood of a process reports, and leaves
 pub record IsFloodOf (app id : List ℕ) (input times : ℕ) (v w : View) (apps : List App) (modules : NamedModules) (f : FloodCounts) : Type 0 where
-  pub told : flood_line app id input times (node v apps modules) ≡ counts_line f.done f.crashed f.ended f.down
+  pub reported : flood_line app id input times (node v apps modules) ≡ counts_line f.done f.crashed f.ended f.down
   pub leaves : flooded app id input times (node v apps modules) ≡ node w apps modules
 
 pub is_flood_of : (app id : List ℕ) (input times : ℕ) (v w : View) (apps : List App) (modules : NamedModules) (pid : Pid) (f : FloodCounts) → find_process app id apps ≡ Some pid
@@ -53,7 +53,7 @@ is_flood_of app id input times v w apps modules pid f found flood =
     let os = outcomes_of pid.round input times (value_of v pid.slot) in
     let behind : Value = after_calls input (outcomes_at input times ps pid) (value_at ps pid) in
     record {
-      told = ap (flooded_line input times ps) found
+      reported = ap (flooded_line input times ps) found
           ∙ (ap (λ (x : Value). outcomes_line times (outcomes_of pid.round input times x)) (value_there v pid.slot pid.inside) ∙ counted_line times os f flood.counts);
       leaves = ap (flooded_at input times ps) found
           ∙ ap (λ (vs : List Value). record { values = vs; apps = apps; modules = modules })
@@ -93,7 +93,7 @@ left_by_inputs app id apps modules v w pid inputs found here others =
     let values = value_set v w pid.slot (after_inputs pid.round inputs (value_at ps pid)) pid.inside here (λ q ne. ap replay (others q ne)) in
     subst (λ o. LeftByCalls o ps (node w apps modules)) (sym found) (inputs, ap (λ (vs : List Value). record { values = vs; apps = apps; modules = modules }) values)
 
--- a flood that was done, but can't be told
+-- a flood that was done, but can't be reported
 pub left_by_flood : (app id : List ℕ) (input times : ℕ) (v w : View) (apps : List App) (modules : NamedModules) (pid : Pid) (f : FloodCounts) → find_process app id apps ≡ Some pid
     → IsFlooded pid input times v f w → LeftByCalls (process_named app id (node v apps modules)) (node v apps modules) (node w apps modules)
 left_by_flood app id input times v w apps modules pid f found flood =

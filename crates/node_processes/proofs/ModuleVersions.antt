@@ -39,7 +39,7 @@ use Rattle.held_processes.specs.Restarts.{child_ended, restart_pids, restart_sta
 use Rattle.held_processes.specs.Course.{Courses, added, course_after}
 use Rattle.held_processes.specs.Course as course
 use Rattle.script_progress.specs.Fault.{Cause, fault}
-use Rattle.script_progress.specs.Script.{Run, Site, call_after, called_after, changed, changed_once, child_after, library_for, mode_of, old_version, restarted_at, run_after, scene_of, started_from, stays_at, suspended_in, tables_among, target_library, users_in, with_scene, worker_in}
+use Rattle.script_progress.specs.Script.{Run, Site, call_after, called_after, changed, changed_once, child_after, library_for, mode_of, old_version, restarted_at, run_after, scene_of, started_from, stays_at, suspended_in, tables_among, target_library, modules_by_slot_in, with_scene, worker_in}
 use Rattle.script_progress.specs.Calls.{AppCall, ChildCall, app_call, child_call, is_on_child}
 use Rattle.script_progress.specs.Calls.AppCall.{starts, stops, idle}
 use Rattle.script_progress.specs.Calls.ChildCall.{terminates, deletes, restarts, nothing as no_end}
@@ -135,7 +135,7 @@ changed_versions s mode (c ∷ cs) r v =
       fetched = v.fetched;
       modules = v.modules;
       values = v.values;
-      courses = change_versions c.name (old_version s mode c.name r) c (users_in r) r.courses v.courses;
+      courses = change_versions c.name (old_version s mode c.name r) c (modules_by_slot_in r) r.courses v.courses;
     })
 
 among_versions : (ms : NamedModules) → HaveVersions ms → HaveTableVersions (tables_among ms)
@@ -204,21 +204,21 @@ step_versions : (s : Site) (early b : Bool) (i : Instruction) (r : Run) → AreW
 step_versions s early b (relup.Instruction.load_object_code f) r libraries v =
     record { fetched = from_versions (library_for s f) f.modules r.fetched (library_is s.releases f.app f.vsn libraries) v.fetched; modules = v.modules; values = v.values; courses = v.courses }
 step_versions s early b relup.Instruction.point_of_no_return r libraries v = with_courses_versions r _ v (λ p. course_versions course.Operation.pass_point (r.courses p) tt (v.courses p))
-step_versions s early b (relup.Instruction.suspend ss) r libraries v = with_courses_versions r _ v (each_courses course.Operation.suspend (suspended_in ss) (users_in r) r.courses tt v.courses)
+step_versions s early b (relup.Instruction.suspend ss) r libraries v = with_courses_versions r _ v (each_courses course.Operation.suspend (suspended_in ss) (modules_by_slot_in r) r.courses tt v.courses)
 step_versions s early b (relup.Instruction.load p) r libraries v =
     let m = module_named p.name r.fetched in
     let version = found_version p.name r.fetched v.fetched in record {
       fetched = v.fetched;
       modules = with_versions m p.name r.modules version v.modules;
       values = v.values;
-      courses = load_versions early p.name (worker_in m) (users_in r) r.courses (worker_version _ (module_table m version)) v.courses;
+      courses = load_versions early p.name (worker_in m) (modules_by_slot_in r) r.courses (worker_version _ (module_table m version)) v.courses;
     }
 step_versions s early b (relup.Instruction.code_change c) r libraries v = changed_versions s (mode_of c.mode) c.changes r v
-step_versions s early b (relup.Instruction.resume names) r libraries v = with_courses_versions r _ v (each_courses course.Operation.resume names (users_in r) r.courses tt v.courses)
+step_versions s early b (relup.Instruction.resume names) r libraries v = with_courses_versions r _ v (each_courses course.Operation.resume names (modules_by_slot_in r) r.courses tt v.courses)
 step_versions s early b (relup.Instruction.remove p) r libraries v =
     record { fetched = v.fetched; modules = each_kept HasNamedVersion (λ (m : List ℕ × Module). not (bytes_eq p.name m.0)) r.modules v.modules; values = v.values; courses = v.courses }
-step_versions s early b (relup.Instruction.stop names) r libraries v = with_courses_versions r _ v (each_courses course.Operation.stop names (users_in r) r.courses tt v.courses)
-step_versions s early b (relup.Instruction.start names) r libraries v = with_courses_versions r _ v (each_courses course.Operation.start names (users_in r) r.courses tt v.courses)
+step_versions s early b (relup.Instruction.stop names) r libraries v = with_courses_versions r _ v (each_courses course.Operation.stop names (modules_by_slot_in r) r.courses tt v.courses)
+step_versions s early b (relup.Instruction.start names) r libraries v = with_courses_versions r _ v (each_courses course.Operation.start names (modules_by_slot_in r) r.courses tt v.courses)
 step_versions s early b (relup.Instruction.apply c) r libraries v = call_run s c b r v
 step_versions s early b i r libraries v = v
 

@@ -42,7 +42,7 @@ use Rattle.held_processes.specs.Operations.{Values, is_held_user, now_in, values
 use Rattle.held_processes.specs.Restarts.{child_ended, restart_pids, restart_starts}
 use Rattle.held_processes.proofs.AnyLemmas.{any_alike}
 use Rattle.held_processes.proofs.CourseLemmas.{blocks_alone}
-use Rattle.script_progress.specs.Script.{Run, Site, began, call_after, called_after, changed, changed_once, child_after, child_stays_at, mode_of, old_version, restarted_at, run_after, scene_of, started_from, stays_at, tables_among, target_library, users_in, with_scene}
+use Rattle.script_progress.specs.Script.{Run, Site, began, call_after, called_after, changed, changed_once, child_after, child_stays_at, mode_of, old_version, restarted_at, run_after, scene_of, started_from, stays_at, tables_among, target_library, modules_by_slot_in, with_scene}
 use Rattle.script_progress.specs.Calls.{AppCall, ChildCall, app_call, child_call, is_on_child}
 use Rattle.script_progress.specs.Calls.AppCall.{starts, stops, idle}
 use Rattle.script_progress.specs.Calls.ChildCall.{terminates, deletes, restarts, nothing as no_end}
@@ -212,26 +212,26 @@ module _ (g : Values) (r : Run) (same : Alike r.values g) where
   left_alike p inside = ap (λ (v : Value). replay_from v (added (r.courses p).blocks)) (same p inside)
 
   -- whether it leaves a child as it is
-  child_told_alike : (x y : Values) (c : ChildCall) → Alike x y → child_stays_at x c r ≡ child_stays_at y c (with_values g r)
-  child_told_alike x y (terminates super id) left = refl
-  child_told_alike x y (deletes super id) left = place_alike stay.Up (now_in x r.courses) (now_in y r.courses) (child_place super id r.apps) (now_alike x y r.courses left)
-  child_told_alike x y (restarts super id) left = place_alike stay.UpOrTemporary (now_in x r.courses) (now_in y r.courses) (child_place super id r.apps) (now_alike x y r.courses left)
-  child_told_alike x y no_end left = refl
+  child_reported_alike : (x y : Values) (c : ChildCall) → Alike x y → child_stays_at x c r ≡ child_stays_at y c (with_values g r)
+  child_reported_alike x y (terminates super id) left = refl
+  child_reported_alike x y (deletes super id) left = place_alike stay.Up (now_in x r.courses) (now_in y r.courses) (child_place super id r.apps) (now_alike x y r.courses left)
+  child_reported_alike x y (restarts super id) left = place_alike stay.UpOrTemporary (now_in x r.courses) (now_in y r.courses) (child_place super id r.apps) (now_alike x y r.courses left)
+  child_reported_alike x y no_end left = refl
 
-  told_alike : (x y : Values) (i : Instruction) → Alike x y → stays_at x i r ≡ stays_at y i (with_values g r)
-  told_alike x y (apply c) left = ap (λ (b : Bool). if is_on_child c then b else false) (child_told_alike x y (child_call c) left)
-  told_alike x y i left = refl
+  reported_alike : (x y : Values) (i : Instruction) → Alike x y → stays_at x i r ≡ stays_at y i (with_values g r)
+  reported_alike x y (apply c) left = ap (λ (b : Bool). if is_on_child c then b else false) (child_reported_alike x y (child_call c) left)
+  reported_alike x y i left = refl
 
   step_alike : (s : Site) (early : Bool) (i : Instruction) → step_alone s early i (with_values g r) ≡ with_values g (step_alone s early i r)
   step_alike s early i =
-      ap (λ (b : Bool). run_after s early b i (with_values g r)) (sym (told_alike (values_alone r) (values_alone (with_values g r)) i left_alike))
+      ap (λ (b : Bool). run_after s early b i (with_values g r)) (sym (reported_alike (values_alone r) (values_alone (with_values g r)) i left_alike))
       ∙ run_alike s early (stays_at (values_alone r) i r) i
 
 -- why it fails, where this is left in the slots
 stuck_alike : (old : Option OldVersion) (c : ChangeForm) (x y : Values) (g : Values) (r : Run) → Alike x y → is_stuck old c x r ≡ is_stuck old c y (with_values g r)
 stuck_alike None c x y g r left = refl
 stuck_alike (Some old) c x y g r left =
-    any_alike _ _ slots (λ p inside. ap (λ (v : Value). is_held_user (users_in r) c.name r.courses p && not (finds_row old c.extra (replay_from v (r.courses p).pending))) (left p inside))
+    any_alike _ _ slots (λ p inside. ap (λ (v : Value). is_held_user (modules_by_slot_in r) c.name r.courses p && not (finds_row old c.extra (replay_from v (r.courses p).pending))) (left p inside))
 
 change_alike : (s : Site) (mode : Direction) (cs : List ChangeForm) (x y : Values) (g : Values) (r : Run) → Alike x y → change_fault s mode cs x r ≡ change_fault s mode cs y (with_values g r)
 change_alike s Up [] x y g r left = refl
@@ -267,7 +267,7 @@ module _ (g : Values) (r : Run) (same : Alike r.values g) where
   child_fault_alike x y (terminates super id) left = refl
   child_fault_alike x y (deletes super id) left = refl
   child_fault_alike x y (restarts super id) left =
-      ap₂ (λ (b : Bool) (o : Option Cause). super_fault_or super r (if b then None else o)) (child_told_alike g r same x y (restarts super id) left)
+      ap₂ (λ (b : Bool) (o : Option Cause). super_fault_or super r (if b then None else o)) (child_reported_alike g r same x y (restarts super id) left)
       (restart_fault_alike (child_place super id r.apps))
   child_fault_alike x y no_end left = refl
 
@@ -332,7 +332,7 @@ pub script_ends : (s : Site) (v : View) (apps : List App) (modules : NamedModule
     → v.lent ≡ [] → IsFinished s (start v apps) script loaded' apps' w
     → (r : Run) × (outcome s (run_on s (node v apps modules)) script ≡ ends r) × (behind_run r ≡ node w apps' loaded')
 script_ends s v apps modules script loaded' apps' w none done =
-    let q = run_behind s (start v apps) done.told script in
+    let q = run_behind s (start v apps) done.reported script in
     let g = values_of (node v apps modules) in
     let r = with_values g q in
     let values : map (values_alone (ended_run r)) (range_with_len 0 slots) ≡ values_in w =

@@ -79,7 +79,7 @@ value_set v w p x inside here others =
     (λ e. ap (λ k. get_or (values_in w) k nothing) e ∙ (value_there w p inside ∙ (here ∙ sym (get_or-set_at (values_in v) p q x nothing e (omega (arith, inside, before))))))
     (λ ne. value_there w q there ∙ (others q ne ∙ (sym (value_there v q there) ∙ sym (get_or-set_other (values_in v) p q x nothing ne)))))
 
--- all lines are there, and the last one, which tells how many there are
+-- all lines are there, and the last one, which reports how many there are
 pub all_slots : (v : View) (n count : ℕ) (lines text : List ℕ) → n ≡ slots → lines ≡ flat_map process_line (first_of v n) → count ≡ length (filter stands (first_of v n))
     → text ≡ lines ++ count_line count → text ≡ process_listing (values_in v)
 all_slots v n count lines text all so_far counted grown =

@@ -28,7 +28,7 @@ pub record AreSound (ps : ProcessesInMemory) : Type 0 where
   pub alone : ps.seat.view.lent ≡ []
   pub free : HoldsNothing ps.seat.view
 
--- what a call that was answered tells
+-- what a call that was answered reports
 abbrev pub tried_line : Tried → List ℕ
 tried_line (Done r) = outcome_line (outcome.Done r)
 tried_line Crashed = outcome_line outcome.Crashed

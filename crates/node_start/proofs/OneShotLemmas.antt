@@ -20,7 +20,7 @@ use Rattle.node_start.specs.Running.{IsRunOut, IsSettledStatus, RunsOnce}
 abbrev as_recorded : Entry → Entry
 as_recorded e = record e { status = recorded_status e.status }
 
--- the first release whose status passes a test, in the list as records tell it
+-- the first release whose status passes a test, in the list as records report it
 found_recorded : (test : Status → Bool) (es : Releases) (e : Entry) → find (λ (f : Entry). test f.status) es ≡ Some e → Contains (recorded es) (as_recorded e) × (test e.status ≡ true)
 found_recorded test [] e is = cc is
 found_recorded test (f ∷ es) e is = go (test f.status) refl is (found_recorded test es e)

@@ -30,7 +30,7 @@ pub record IsRunOut (r : Release) (es : Releases) : Type 0 where
   pub of_release : entry.release ≡ r
   pub settled : IsSettledStatus entry.status
 
--- These bytes stand for such a list, as records tell it.
+-- These bytes stand for such a list, as records report it.
 abbrev pub StartsNoOneShot : Release → List ℕ → Type 0
 StartsNoOneShot r image = (es : Releases) × IsImageOf image es × (recorded es ≡ es) × IsRunOut r es
 

@@ -22,7 +22,7 @@ use Rattle.node_store.specs.Refusals.{CommandRefused}
 use Rattle.node_store.specs.State.{list_in, is_dead, IsSame}
 use Rattle.node_command.specs.Taking.{commanded}
 use Rattle.node_command.specs.declared.error.HandlerError.{HandlerError}
-use Rattle.node_command.specs.declared.error.HandlerError.TheVariants as told
+use Rattle.node_command.specs.declared.error.HandlerError.TheVariants as reported
 use Rattle.node_store.specs.declared.node_store.NodeStore.{NodeStore}
 use Rattle.node_command.proofs.CommandLemmas.{IsListRefusal, IsListAnswer, list_refuses, of_command}
 use Rattle.rel_files.proofs.Options.{passed}
@@ -36,27 +36,27 @@ refused_by_list failures h e size why alive barred = by_why why (subst IsListAns
     same = record { disk = refl; list = refl; dead = refl; extent = refl }
 
     by_why : (why : HandlerError) → IsListRefusal why → commanded e (list_in h) ≡ Err why → CommandRefused failures e size h h why
-    by_why told.Dead of barred = absurd of
-    by_why told.Full of barred = absurd of
-    by_why told.Device of barred = absurd of
-    by_why told.Exists of barred = absurd of
-    by_why told.NoMatchingRelup of barred = absurd of
-    by_why told.NoMemory of barred = (alive, same)
-    by_why told.NoSuchRelease of barred = ((alive, barred), same)
-    by_why told.ExistingRelease of barred = ((alive, barred), same)
-    by_why told.AlreadyInstalled of barred = ((alive, barred), same)
-    by_why (told.BadStatus s) of barred = ((alive, barred), same)
-    by_why told.Permanent of barred = ((alive, barred), same)
-    by_why told.Running of barred = ((alive, barred), same)
-    by_why told.TooMany of barred = ((alive, barred), same)
-    by_why (told.LibDiffers app) of barred = absurd of
-    by_why (told.NoTable app) of barred = absurd of
-    by_why (told.BadFile path trouble) of barred = absurd of
-    by_why (told.MissingFile path) of barred = absurd of
-    by_why (told.VsnMismatch path) of barred = absurd of
+    by_why reported.Dead of barred = absurd of
+    by_why reported.Full of barred = absurd of
+    by_why reported.Device of barred = absurd of
+    by_why reported.Exists of barred = absurd of
+    by_why reported.NoMatchingRelup of barred = absurd of
+    by_why reported.NoMemory of barred = (alive, same)
+    by_why reported.NoSuchRelease of barred = ((alive, barred), same)
+    by_why reported.ExistingRelease of barred = ((alive, barred), same)
+    by_why reported.AlreadyInstalled of barred = ((alive, barred), same)
+    by_why (reported.BadStatus s) of barred = ((alive, barred), same)
+    by_why reported.Permanent of barred = ((alive, barred), same)
+    by_why reported.Running of barred = ((alive, barred), same)
+    by_why reported.TooMany of barred = ((alive, barred), same)
+    by_why (reported.LibDiffers app) of barred = absurd of
+    by_why (reported.NoTable app) of barred = absurd of
+    by_why (reported.BadFile path trouble) of barred = absurd of
+    by_why (reported.MissingFile path) of barred = absurd of
+    by_why (reported.VsnMismatch path) of barred = absurd of
 
 -- A release that isn't listed isn't made permanent.
-pub unlisted : (v : List ℕ) (e : Event) (es : Releases) → has_one_shot es ≡ false → MakesPermanent v e → release_at v es ≡ None → commanded e es ≡ Err told.NoSuchRelease
+pub unlisted : (v : List ℕ) (e : Event) (es : Releases) → has_one_shot es ≡ false → MakesPermanent v e → release_at v es ≡ None → commanded e es ≡ Err reported.NoSuchRelease
 unlisted v e es free moves none = go moves
   where
     no_status : (by_status : Status → Option ListError) (o : Option Entry) → option_map (λ (e : Entry). e.release) o ≡ None
@@ -64,12 +64,12 @@ unlisted v e es free moves none = go moves
     no_status by_status None none = refl
     no_status by_status (Some e) none = absurd cc
 
-    refused : (e : Event) → IsOfListed e → refusal e es ≡ Some list.NoSuchRelease → commanded e es ≡ Err told.NoSuchRelease
+    refused : (e : Event) → IsOfListed e → refusal e es ≡ Some list.NoSuchRelease → commanded e es ≡ Err reported.NoSuchRelease
     refused e listed is = list_refuses e es list.NoSuchRelease listed is
 
-    go : MakesPermanent v e → commanded e es ≡ Err told.NoSuchRelease
-    go (inl is) = subst (λ e. commanded e es ≡ Err told.NoSuchRelease) (sym is) (refused (made_permanent v) tt (rw free (no_status _ (find (λ (e : Entry). bytes_eq v e.release.vsn) es) none)))
-    go (inr is) = subst (λ e. commanded e es ≡ Err told.NoSuchRelease) (sym is) (refused (reboot_old v) tt (rw free (no_status _ (find (λ (e : Entry). bytes_eq v e.release.vsn) es) none)))
+    go : MakesPermanent v e → commanded e es ≡ Err reported.NoSuchRelease
+    go (inl is) = subst (λ e. commanded e es ≡ Err reported.NoSuchRelease) (sym is) (refused (made_permanent v) tt (rw free (no_status _ (find (λ (e : Entry). bytes_eq v e.release.vsn) es) none)))
+    go (inr is) = subst (λ e. commanded e es ≡ Err reported.NoSuchRelease) (sym is) (refused (reboot_old v) tt (rw free (no_status _ (find (λ (e : Entry). bytes_eq v e.release.vsn) es) none)))
 
 -- The release that was made permanent is the permanent one.
 permanent_now : (v : List ℕ) (es : Releases) → permanent (list_made_permanent v es) ≡ release_at v es

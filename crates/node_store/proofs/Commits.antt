@@ -18,7 +18,7 @@ use Rattle.rel_records.specs.Reading.{Spells}
 use Rattle.rel_records.specs.Startable.{AreStartable}
 use Rattle.rel_records.specs.Writing.{record_of, IsComplete}
 use Rattle.rel_records.proofs.EachRelease.{each-of_recorded}
-use Rattle.rel_records.proofs.EventRecords.{unpacked_tells}
+use Rattle.rel_records.proofs.EventRecords.{unpacked_reports}
 use Rattle.rel_records.proofs.RecordLaws.{make_libraries, make_versions}
 use Rattle.rel_records.proofs.StartableLemmas.{make_startable, startable-of_recorded}
 use Rattle.rel_store.specs.Contents.{HasOnlyRead}
@@ -32,7 +32,7 @@ use Rattle.rel_store.specs.declared.error.StoreError.TheVariants as fault
 use Rattle.rel_store.specs.declared.store.Store.{Store}
 use Rattle.node_store.specs.Commits.{Commits, IsAppended, IsRecordFor, Keeps, HasOldStartOr}
 use Rattle.node_store.specs.Events.{Events, uncertain, IsStoredAs}
-use Rattle.node_store.specs.Image.{AreRecordsOf, extent_behind, HasBootSpace, HasSpace, IsImageAt, IsStarted, start_slot}
+use Rattle.node_store.specs.Image.{AreRecordsOf, extent_behind, HasBootSpace, HasSpace, IsImageAt, IsStarted, start_bytes}
 use Rattle.node_store.specs.Refusals.{CommandRefused, HasNoRoom, IsAllowed}
 use Rattle.node_store.specs.State.{disk_in, extent_in, list_in, is_dead, start_in, store_extent, HasStarted, IsReady, IsSound, IsSame}
 use Rattle.node_command.specs.Taking.{commanded}
@@ -93,10 +93,10 @@ pub releases_startable : {D : Type 0} {seen : D → List ℕ} {may_leave : D →
 releases_startable h ready = startable-of_recorded (list_in h) (make_startable h.store.format (store.records_in h.store) (recorded (list_in h)) ready.list.makes)
 
 -- the record of a release that may come in
-pub unpacked_told : (p : Bundle) (es next : Releases) (body : List ℕ) → Spells body (record_of (unpacked p) es) → HaveLibraries es → IsComplete p → commanded (unpacked p) es ≡ Ok next → IsRecordFor body (unpacked p) es
-unpacked_told p es next body spelled have complete is =
+pub unpacked_reported : (p : Bundle) (es next : Releases) (body : List ℕ) → Spells body (record_of (unpacked p) es) → HaveLibraries es → IsComplete p → commanded (unpacked p) es ≡ Ok next → IsRecordFor body (unpacked p) es
+unpacked_reported p es next body spelled have complete is =
     let (small, few) = small_and_few p es next is in
-    record { spells = spelled; tells = unpacked_tells p es have (small, few, complete) }
+    record { spells = spelled; reports = unpacked_reports p es have (small, few, complete) }
 
 -- an append that fails where there is room failed by the device
 pub failed_so : {D : Type 0} (failures : D → ℕ) (old new : Store D) (n : ℕ) (r : Result (Unit {0}) StoreError) → true ≡ is_err r
@@ -175,13 +175,13 @@ module _ {D : Type 0} (v : Ghosts D) (h : NodeStore D) (ready : IsReady v.seen v
     records_stay c (inl stands) = stands.records
     records_stay c (inr stands) = stands.records
 
-    either_slot : (c : List ℕ) → StandsWithEither (store.records_in h.store) (start_in v.seen h) (slot_with words) c → (start_slot c ≡ start_in v.seen h) ⊎ (start_slot c ≡ slot_with words)
+    either_slot : (c : List ℕ) → StandsWithEither (store.records_in h.store) (start_in v.seen h) (slot_with words) c → (start_bytes c ≡ start_in v.seen h) ⊎ (start_bytes c ≡ slot_with words)
     either_slot c (inl stands) = inl stands.start
     either_slot c (inr stands) = inr stands.start
 
-    starting : LeavesOnly v.moment v.left_since (disk_in h) (store.disk_in new) (HasOldStartOr v.seen h (λ c. start_slot c ≡ slot_with words))
+    starting : LeavesOnly v.moment v.left_since (disk_in h) (store.disk_in new) (HasOldStartOr v.seen h (λ c. start_bytes c ≡ slot_with words))
     starting =
-        weakened v.moment v.left_since (disk_in h) (store.disk_in new) _ (HasOldStartOr v.seen h (λ c. start_slot c ≡ slot_with words))
+        weakened v.moment v.left_since (disk_in h) (store.disk_in new) _ (HasOldStartOr v.seen h (λ c. start_bytes c ≡ slot_with words))
         (λ c either. (
           image_at c (store.records_in h.store) (list_in h) (extent_in h) (records_stay c either.0)
               (in_same_format c h.store.format (store.records_in h.store) (list_in h) (stores.format_kept_by_start v.moment v.left_since v.seen v.may_leave h.store ready.store c either.1) ready.list) ready.room
@@ -205,8 +205,8 @@ module _ {D : Type 0} (v : Ghosts D) (h : NodeStore D) (ready : IsReady v.seen v
       room = subst (λ x. HasBootSpace x h.list) (sym (same_extent (store_extent new) (extent_in h) base end (ap (λ bodies. length bodies) records))) ready.room;
     }
 
-    pub images_still : (words : List ℕ) → store.text_in v.seen new ≡ slot_with words → (c : List ℕ) → v.may_leave (store.disk_in new) c → IsImageAt c h.list (store_extent new) × (start_slot c ≡ slot_with words)
-    images_still words written c now = (each_image v.seen v.may_leave new h.list settled ready_still.list ready_still.room c now, ap (λ l. start_slot l) (settled.durable c now) ∙ written)
+    pub images_still : (words : List ℕ) → store.text_in v.seen new ≡ slot_with words → (c : List ℕ) → v.may_leave (store.disk_in new) c → IsImageAt c h.list (store_extent new) × (start_bytes c ≡ slot_with words)
+    images_still words written c now = (each_image v.seen v.may_leave new h.list settled ready_still.list ready_still.room c now, ap (λ l. start_bytes l) (settled.durable c now) ∙ written)
 
 module _ {D : Type 0} (v : Ghosts D) (h : NodeStore D) (s : IsSound v.seen v.may_leave h) where
   module _ (only_now : (c : List ℕ) → v.left_since (disk_in h) (v.moment (disk_in h)) c → v.may_leave (disk_in h) c) (e : Event) (size : ℕ) where
@@ -240,7 +240,7 @@ module _ {D : Type 0} (v : Ghosts D) (h : NodeStore D) (s : IsSound v.seen v.may
       }
 
   -- A record is appended behind a reservation.
-  module _ (alive : is_dead h ≡ false) (reserved : Store D) (same : store.IsSame h.store reserved) (e : Event) (next : Releases) (body : List ℕ) (told : IsRecordFor body e (list_in h)) (needs : makes_one_shot e ≡ true → store.format_in h.store ≡ 2) (is : step e (list_in h) ≡ Some next) (room_then : HasBootSpace (extent_behind (extent_in h) (length body)) next) where
+  module _ (alive : is_dead h ≡ false) (reserved : Store D) (same : store.IsSame h.store reserved) (e : Event) (next : Releases) (body : List ℕ) (reported : IsRecordFor body e (list_in h)) (needs : makes_one_shot e ≡ true → store.format_in h.store ≡ 2) (is : step e (list_in h) ≡ Some next) (room_then : HasBootSpace (extent_behind (extent_in h) (length body)) next) where
     pub reserved_works : store.has_failed reserved ≡ false
     reserved_works = same.failed ∙ (s.ready alive).store.works
 
@@ -250,7 +250,7 @@ module _ {D : Type 0} (v : Ghosts D) (h : NodeStore D) (s : IsSound v.seen v.may
       committing events after =
           subst (λ d. LeavesOnly v.moment v.left_since d (store.disk_in new) (IsStoredAs (uncertain events (extent_in h) e (length body)))) same.disk
           (weakened v.moment v.left_since (store.disk_in reserved) (store.disk_in new) _ (IsStoredAs (uncertain events (extent_in h) e (length body)))
-          (λ c either. while_committing h.store.format e (list_in h) next (store.records_in h.store) body text events (s.ready alive).list told needs is after (base_of (v.seen (disk_in h))) (extent_in h) (settled_so v.seen v.may_leave h.store (s.ready alive).store) (s.ready alive).room room_then
+          (λ c either. while_committing h.store.format e (list_in h) next (store.records_in h.store) body text events (s.ready alive).list reported needs is after (base_of (v.seen (disk_in h))) (extent_in h) (settled_so v.seen v.may_leave h.store (s.ready alive).store) (s.ready alive).room room_then
           (v.seen (disk_in h)) (sym slot) (s.started alive (v.seen (disk_in h)) (reads (disk_in h))) c
           (either_behind v h.store reserved (s.ready alive).store same body text c either.0 either.1))
           (both v.moment v.left_since (store.disk_in reserved) (store.disk_in new) _ _ leaves kept))
@@ -275,7 +275,7 @@ module _ {D : Type 0} (v : Ghosts D) (h : NodeStore D) (s : IsSound v.seen v.may
         store = settled;
         list =
             same_records h.store.format new.format (store.records_in h.store ++ body ∷ []) (store.records_in new) next (format ∙ same.format) (added ∙ ap (λ bodies. bodies ++ body ∷ []) same.records)
-            (with_record h.store.format e (list_in h) next (store.records_in h.store) body (s.ready alive).list told needs is);
+            (with_record h.store.format e (list_in h) next (store.records_in h.store) body (s.ready alive).list reported needs is);
         room = subst (λ x. HasBootSpace x next) (sym reaches_behind) room_then;
       }
 
@@ -299,12 +299,12 @@ module _ {D : Type 0} (v : Ghosts D) (h : NodeStore D) (s : IsSound v.seen v.may
     -- The permanent release is the one that it was, so that the node may work again.
     module _ (leaves : leaves_permanent e ≡ true) where
       pub start_is_right : HasStarted v.may_leave mid
-      start_is_right c now = started_by (list_in h) (list_in mid) (v.seen (disk_in h)) c (permanent_stays e (list_in h) (list_in mid) leaves stepped) (ap (λ l. start_slot l) (ready.store.durable c now) ∙ stays) old_start
+      start_is_right c now = started_by (list_in h) (list_in mid) (v.seen (disk_in h)) c (permanent_stays e (list_in h) (list_in mid) leaves stepped) (ap (λ l. start_bytes l) (ready.store.durable c now) ∙ stays) old_start
 
     -- The start record is written behind it.
     module _ (versions : Versions) (release : Release) (are : AreVersions versions) (of : versions ≡ start_versions release) (listed : permanent (list_in mid) ≡ Some release)
         (new : NodeStore D) (keeps : Keeps v (text_of_start versions) mid new) where
-      either_started : (c : List ℕ) → (start_slot c ≡ start_in v.seen mid) ⊎ (start_slot c ≡ slot_with (text_of_start versions)) → IsStarted (list_in h) c ⊎ IsStarted (list_in mid) c
+      either_started : (c : List ℕ) → (start_bytes c ≡ start_in v.seen mid) ⊎ (start_bytes c ≡ slot_with (text_of_start versions)) → IsStarted (list_in h) c ⊎ IsStarted (list_in mid) c
       either_started c (inl old) = inl (started_by (list_in h) (list_in h) (v.seen (disk_in h)) c refl (old ∙ stays) old_start)
       either_started c (inr slot) = inr (started_by_text (list_in mid) release versions c are of listed slot)
 
@@ -319,10 +319,10 @@ module _ {D : Type 0} (v : Ghosts D) (h : NodeStore D) (s : IsSound v.seen v.may
         counted = omega (arith, commits.counted, keeps.counted);
       }
 
-      pub is_started_then : ((c : List ℕ) → v.may_leave (disk_in new) c → IsImageAt c (list_in new) (extent_in new) × (start_slot c ≡ slot_with (text_of_start versions))) → HasStarted v.may_leave new
+      pub is_started_then : ((c : List ℕ) → v.may_leave (disk_in new) c → IsImageAt c (list_in new) (extent_in new) × (start_bytes c ≡ slot_with (text_of_start versions))) → HasStarted v.may_leave new
       is_started_then images c now = started_by_text (list_in new) release versions c are of (ap permanent keeps.list ∙ listed) (images c now).1
 
-      pub is_appended_then : ((c : List ℕ) → v.may_leave (disk_in new) c → IsImageAt c (list_in new) (extent_in new) × (start_slot c ≡ slot_with (text_of_start versions))) → IsAppended v e size h new
+      pub is_appended_then : ((c : List ℕ) → v.may_leave (disk_in new) c → IsImageAt c (list_in new) (extent_in new) × (start_bytes c ≡ slot_with (text_of_start versions))) → IsAppended v e size h new
       is_appended_then images = record {
         worked = alive;
         accepted = appended.accepted ∙ ap (λ l. Ok l) (sym keeps.list);

@@ -28,8 +28,8 @@ use Rattle.node_command.proofs.CommandLemmas.{commanded_step}
 use Rattle.node_store.specs.Commits.{Commits, Compacts, IsAppended, IsCompacted, IsDone, IsOldOrCompacted}
 use Rattle.node_store.specs.Compaction.{compacted, extent_with, fits_image, is_long, may_be_compacted, with_image, MayReach}
 use Rattle.node_store.specs.Events.{Events, uncertain, IsStoredAs}
-use Rattle.node_store.specs.Image.{AreRecordsOf, Extent, extent_behind, extent_of, HasBootSpace, start_slot}
-use Rattle.node_store.specs.Refusals.{CommandRefused, told_compaction}
+use Rattle.node_store.specs.Image.{AreRecordsOf, Extent, extent_behind, extent_of, HasBootSpace, start_bytes}
+use Rattle.node_store.specs.Refusals.{CommandRefused, reported_compaction}
 use Rattle.node_store.specs.State.{disk_in, extent_in, list_in, is_dead, start_in, store_extent, HasStarted, IsReady, IsSound}
 use Rattle.node_store.specs.declared.node_store.NodeStore.{NodeStore}
 use Rattle.node_store.proofs.Commits.{dead_is_sound, extent_kept, image_now, lost_commits, none_behind, revived, revived_is_sound, start_is_right}
@@ -76,7 +76,7 @@ module _ {D : Type 0} (v : Ghosts D) (h : NodeStore D) (ready : IsReady v.seen v
   old_now : (c : List ℕ) → v.may_leave (disk_in h) c → IsOldOrCompacted v.seen h c
   old_now c now =
       let image = image_now v h ready c now in
-      (image.image_of, inl image.reaches, ap (λ l. start_slot l) (ready.store.durable c now))
+      (image.image_of, inl image.reaches, ap (λ l. start_bytes l) (ready.store.durable c now))
 
   -- A compaction that has changed nothing, or has taken memory alone.
   module _ (kept : Store D) (same : store.IsSame h.store kept) where
@@ -97,7 +97,7 @@ module _ {D : Type 0} (v : Ghosts D) (h : NodeStore D) (ready : IsReady v.seen v
         list = same_records h.store.format kept.format (store.records_in h.store) (store.records_in kept) h.list same.format same.records ready.list;
         room = subst (λ x. HasBootSpace x (list_in h)) (sym (extent_kept h.store kept same)) ready.room;
       };
-      start = ap (λ d. start_slot (v.seen d)) same.disk;
+      start = ap (λ d. start_bytes (v.seen d)) same.disk;
       reaches = subst (λ x. MayReach (extent_in h) (list_in h) x) (sym (extent_kept h.store kept same)) reaches;
     }
 
@@ -147,8 +147,8 @@ module _ {D : Type 0} (v : Ghosts D) (h : NodeStore D) (ready : IsReady v.seen v
 
     kept_as_full : (r : Result (Unit {0}) StoreError) → AnswersFull r → IfErr r Refuses → fits_image (extent_in h) (length image) ≡ false → store.IsSame h.store new
     kept_as_full r full refused unfit =
-        let told : r ≡ Err fault.Full = full.1 (ready.store.works, fits_not (extent_in h) (length image) unfit) in
-        (subst (λ a. IfErr a Refuses) told refused).2
+        let reported : r ≡ Err fault.Full = full.1 (ready.store.works, fits_not (extent_in h) (length image) unfit) in
+        (subst (λ a. IfErr a Refuses) reported refused).2
 
     -- no bytes but its own change
     abbrev KeepsOtherBytes : List ℕ → Type 0
@@ -183,11 +183,11 @@ module _ {D : Type 0} (v : Ghosts D) (h : NodeStore D) (ready : IsReady v.seen v
         go true fits =
             same_extent (store_extent new) (extent_with (extent_in h) (length image)) base end (ap (λ bodies. length bodies) records)
             ∙ sym (image_reaches (extent_in h) (list_in h) image may is fits)
-        go false unfit = let told = full.1 (ready.store.works, fits_not (extent_in h) (length image) unfit) in absurd cc
+        go false unfit = let reported = full.1 (ready.store.works, fits_not (extent_in h) (length image) unfit) in absurd cc
 
     pub done_so : (r : Result (Unit {0}) StoreError) → AnswersFull r → IfErr r Refuses → store.IsSoundStore v.seen v.may_leave new → OnOk r (store.IsSettled v.seen v.may_leave new)
         → OnOk r (store.records_in new ≡ image ∷ []) → OnOk r (store.text_in v.seen new ≡ start_in v.seen h) → OnOk r (store.base_in new ≡ image_place (store.base_in h.store) (store.end_in h.store) (length image))
-        → OnOk r (store.end_in new ≡ image_end (store.base_in h.store) (store.end_in h.store) (length image)) → store.format_in new ≡ store.format_in h.store → OnOk (told_compaction r) (IsCompacted v h (record { store = new; list = h.list; dead = h.dead }))
+        → OnOk r (store.end_in new ≡ image_end (store.base_in h.store) (store.end_in h.store) (length image)) → store.format_in new ≡ store.format_in h.store → OnOk (reported_compaction r) (IsCompacted v h (record { store = new; list = h.list; dead = h.dead }))
     done_so (Ok u) full refused sound settled records start base end format = record {
       ready = record { store = settled; list = same_records h.store.format new.format (image ∷ []) (store.records_in new) h.list format records by_the_image; room = no_boot_space (store_extent new) (list_in h) free };
       start = start;
@@ -200,14 +200,14 @@ module _ {D : Type 0} (v : Ghosts D) (h : NodeStore D) (ready : IsReady v.seen v
     done_so (Err e) full refused sound settled records start base end format = absurd refused
 
     -- or the device failed
-    pub failed_told : (r : Result (Unit {0}) StoreError) → IfErr r Refuses → IfErr (told_compaction r) (λ _. HasFailed (v.failures (disk_in h)) (v.failures (store.disk_in new)))
-    failed_told (Err fault.Device) refused = refused.0
-    failed_told r refused = tt
+    pub failed_reported : (r : Result (Unit {0}) StoreError) → IfErr r Refuses → IfErr (reported_compaction r) (λ _. HasFailed (v.failures (disk_in h)) (v.failures (store.disk_in new)))
+    failed_reported (Err fault.Device) refused = refused.0
+    failed_reported r refused = tt
 
--- nothing else is told of it
-pub device_told : (r : Result (Unit {0}) StoreError) → IfErr (told_compaction r) (λ e. e ≡ Device)
-device_told (Err fault.Device) = refl
-device_told r = tt
+-- nothing else is reported of it
+pub device_reported : (r : Result (Unit {0}) StoreError) → IfErr (reported_compaction r) (λ e. e ≡ Device)
+device_reported (Err fault.Device) = refl
+device_reported r = tt
 
 -- what holds behind a compaction holds of a command that ends with it
 pub done_then : {T E : Type 0} (r : Result T E) (P Q : Type 0) → (P → Q) → OnOk r P → OnOk r Q
@@ -257,7 +257,7 @@ module _ {D : Type 0} (v : Ghosts D) (h : NodeStore D) (e : Event) (size : ℕ) 
   module _ (done : IsCompacted v mid new) where
     pub right_still : HasStarted v.may_leave new
     right_still c now =
-        started_by (list_in mid) (list_in new) (v.seen (disk_in mid)) c (ap permanent compacts.list) (ap (λ l. start_slot l) (done.ready.store.durable c now) ∙ done.start) (committed.right (v.seen (disk_in mid)) (reads (disk_in mid)))
+        started_by (list_in mid) (list_in new) (v.seen (disk_in mid)) c (ap permanent compacts.list) (ap (λ l. start_bytes l) (done.ready.store.durable c now) ∙ done.start) (committed.right (v.seen (disk_in mid)) (reads (disk_in mid)))
 
     -- The node works again, where the event makes no release a one-shot.
     module _ (other : makes_one_shot e ≡ false) where

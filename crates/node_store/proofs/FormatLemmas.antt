@@ -19,7 +19,7 @@ use Rattle.node_command.specs.declared.error.HandlerError.{HandlerError}
 use Rattle.node_command.specs.declared.error.HandlerError.TheVariants.{Device}
 use Rattle.node_store.specs.Commits.{Commits, Reformats}
 use Rattle.node_store.specs.Events.{Events, uncertain, IsStoredAs}
-use Rattle.node_store.specs.Image.{AreRecordsOf, HasBootSpace, IsImageAt, IsStarted, start_slot}
+use Rattle.node_store.specs.Image.{AreRecordsOf, HasBootSpace, IsImageAt, IsStarted, start_bytes}
 use Rattle.node_store.specs.Refusals.{CommandRefused}
 use Rattle.node_store.specs.State.{disk_in, extent_in, list_in, is_dead, start_in, store_extent, IsReady, IsSound}
 use Rattle.node_store.specs.declared.node_store.NodeStore.{NodeStore}
@@ -60,7 +60,7 @@ module _ {D : Type 0} (v : Ghosts D) (h : NodeStore D) (ready : IsReady v.seen v
   in_either_format c (inl same) = in_same_format c h.store.format (store.records_in h.store) (list_in h) same ready.list
   in_either_format c (inr two) = in_same_format c 2 (store.records_in h.store) (list_in h) two (in_format_2 h.store.format (store.records_in h.store) (list_in h) ready.list)
 
-  unchanged_image : (c : List ℕ) → Stands (store.records_in h.store) (start_in v.seen h) c × LeavesOthers (IsFormat h.store.format) (v.seen (disk_in h)) c → IsImageAt c (list_in h) (extent_in h) × (start_slot c ≡ start_in v.seen h)
+  unchanged_image : (c : List ℕ) → Stands (store.records_in h.store) (start_in v.seen h) c × LeavesOthers (IsFormat h.store.format) (v.seen (disk_in h)) c → IsImageAt c (list_in h) (extent_in h) × (start_bytes c ≡ start_in v.seen h)
   unchanged_image c (stands, leaves) = (
     image_at c (store.records_in h.store) (list_in h) (extent_in h) stands.records (in_either_format c (stores.format_kept_or_2 v.moment v.left_since v.seen v.may_leave h.store ready.store c leaves)) ready.room
         (extent_so c (store.records_in h.store) (base_of (v.seen (disk_in h))) stands.records (stores.base_kept_by_format v.moment v.left_since v.seen v.may_leave h.store ready.store c leaves)
@@ -109,7 +109,7 @@ module _ {D : Type 0} (v : Ghosts D) (h mid : NodeStore D) (changed : Reformats 
     pub sound_in_format_2 : IsSound v.seen v.may_leave mid
     sound_in_format_2 = record {
       ready = λ living. ready;
-      started = λ living c now. started_by (list_in h) (list_in mid) (v.seen (disk_in h)) c (ap permanent changed.list) (ap (λ l. start_slot l) (ready.store.durable c now) ∙ start) old_start;
+      started = λ living c now. started_by (list_in h) (list_in mid) (v.seen (disk_in h)) c (ap permanent changed.list) (ap (λ l. start_bytes l) (ready.store.durable c now) ∙ start) old_start;
       free = λ living. ap has_one_shot changed.list ∙ s.free alive;
     }
 

@@ -25,7 +25,7 @@ use Rattle.node_store.specs.Commits.{IsRecordFor}
 use Rattle.node_store.specs.Events.{compacted_or_same, uncertain, IsStoredAs}
 use Rattle.node_store.specs.Start.{started}
 use Rattle.node_store.specs.Compaction.{compacted}
-use Rattle.node_store.specs.Image.{AreRecordsOf, Extent, extent_behind, extent_of, HasBootSpace, LeavesBootSpace, IsImageOf, IsImageAt, IsStarted, start_slot}
+use Rattle.node_store.specs.Image.{AreRecordsOf, Extent, extent_behind, extent_of, HasBootSpace, LeavesBootSpace, IsImageOf, IsImageAt, IsStarted, start_bytes}
 use Rattle.node_store.specs.State.{store_extent}
 use Rattle.start_record.specs.Text.{Versions, AreVersions, SpellsStart, start_text as text_of_start}
 use Rattle.start_record.proofs.StartMoments.{reads_back}
@@ -51,8 +51,8 @@ extent_so bytes bodies base read at =
 -- It reaches so far too where it is known to end there.
 pub extent_by_end : (bytes : List ℕ) (bodies : List (List ℕ)) (base end : ℕ) → records_of bytes ≡ Ok bodies → end_of bytes ≡ end → end ≡ (base + space bodies) + 1 → extent_of bytes ≡ extent_with_records base bodies
 extent_by_end bytes bodies base end read ends is =
-    let told = ends_so bytes bodies (base_of bytes) read refl in
-    let at : base_of bytes ≡ base = omega (arith, told, ends, is) in
+    let reported = ends_so bytes bodies (base_of bytes) read refl in
+    let at : base_of bytes ≡ base = omega (arith, reported, ends, is) in
     extent_so bytes bodies base read at
 
 -- with one record more it reaches further
@@ -142,8 +142,8 @@ stored_after events x e size es next c after is image reaches started = record {
     all : list_after (events ++ e ∷ []) ≡ Some next
     all = list_after-push events e es next after is
 
--- a start record is told by the start slot and the permanent release
-pub started_by : (es fs : Releases) (c d : List ℕ) → permanent fs ≡ permanent es → start_slot d ≡ start_slot c → IsStarted es c → IsStarted fs d
+-- a start record is reported by the start slot and the permanent release
+pub started_by : (es fs : Releases) (c d : List ℕ) → permanent fs ≡ permanent es → start_bytes d ≡ start_bytes c → IsStarted es c → IsStarted fs d
 started_by es fs c d same slot s = record { release = s.release; listed = same ∙ s.listed; spells = subst (λ l. SpellsStart l (started s.release)) (sym slot) s.spells }
 
 -- Beside a one-shot that an event made no release is current.
@@ -162,17 +162,17 @@ may_have format e es needs = go (makes_one_shot e) refl
 -- With the record of an event the store has the records of the list behind it.
 pub with_record : (format : ℕ) (e : Event) (es next : Releases) (bodies : List (List ℕ)) (body : List ℕ) → AreRecordsOf format bodies es → IsRecordFor body e es → (makes_one_shot e ≡ true → format ≡ 2) → step e es ≡ Some next
     → AreRecordsOf format (bodies ++ body ∷ []) next
-with_record format e es next bodies body are told needs is =
-    let behind : assigned (record_of e es) (recorded es) ≡ Some (recorded next) = told.tells next is (sym (one-recorded es) ∙ are.makes.1) in
+with_record format e es next bodies body are reported needs is =
+    let behind : assigned (record_of e es) (recorded es) ≡ Some (recorded next) = reported.reports next is (sym (one-recorded es) ∙ are.makes.1) in
     record {
-      makes = (makes-push format [] bodies (recorded es) body (record_of e es) (recorded next) are.makes.0 told.spells (stands_so format (record_of e es) (recorded es) (recorded next) (may_have format e es needs) behind), one_behind (record_of e es) (recorded es) (recorded next) behind);
+      makes = (makes-push format [] bodies (recorded es) body (record_of e es) (recorded next) are.makes.0 reported.spells (stands_so format (record_of e es) (recorded es) (recorded next) (may_have format e es needs) behind), one_behind (record_of e es) (recorded es) (recorded next) behind);
       alone = alone_behind e es next is;
     }
 
 -- A record is being appended: the store has the records of the list from before it, or those of the one behind it.
 pub either_image : (format : ℕ) (es next : Releases) (bodies : List (List ℕ)) (body text : List ℕ) → AreRecordsOf format bodies es → AreRecordsOf format (bodies ++ body ∷ []) next
     → (base : ℕ) (x : Extent) → extent_with_records base bodies ≡ x → HasBootSpace x es → HasBootSpace (extent_behind x (length body)) next
-    → (c : List ℕ) → StandsEither bodies body text c × (base_of c ≡ base) × (format_of c ≡ format) → (IsImageAt c es x ⊎ IsImageAt c next (extent_behind x (length body))) × (start_slot c ≡ text)
+    → (c : List ℕ) → StandsEither bodies body text c × (base_of c ≡ base) × (format_of c ≡ format) → (IsImageAt c es x ⊎ IsImageAt c next (extent_behind x (length body))) × (start_bytes c ≡ text)
 either_image format es next bodies body text are behind base x at room room_then c (inl stands, kept, same) =
     (inl (image_at c bodies es x stands.records (in_same_format c format bodies es same are) room (extent_so c bodies base stands.records kept ∙ at)), stands.start)
 either_image format es next bodies body text are behind base x at room room_then c (inr stands, kept, same) = (
@@ -190,23 +190,23 @@ leaves_boot_space e other size x es next is = no_boot_space (extent_behind x siz
 -- So it is while a command appends the record of its event.
 pub while_committing : (format : ℕ) (e : Event) (es next : Releases) (bodies : List (List ℕ)) (body text : List ℕ) (events : List Event)
     → AreRecordsOf format bodies es → IsRecordFor body e es → (makes_one_shot e ≡ true → format ≡ 2) → step e es ≡ Some next → list_after events ≡ Some es
-    → (base : ℕ) (x : Extent) → extent_with_records base bodies ≡ x → HasBootSpace x es → HasBootSpace (extent_behind x (length body)) next → (old : List ℕ) → start_slot old ≡ text → IsStarted es old
+    → (base : ℕ) (x : Extent) → extent_with_records base bodies ≡ x → HasBootSpace x es → HasBootSpace (extent_behind x (length body)) next → (old : List ℕ) → start_bytes old ≡ text → IsStarted es old
     → (c : List ℕ) → StandsEither bodies body text c × (base_of c ≡ base) × (format_of c ≡ format) → IsStoredAs (uncertain events x e (length body)) c
-while_committing format e es next bodies body text events makes_it told needs is after base x at room room_then old slot started c either = go (either_image format es next bodies body text makes_it behind base x at room room_then c either)
+while_committing format e es next bodies body text events makes_it reported needs is after base x at room room_then old slot started c either = go (either_image format es next bodies body text makes_it behind base x at room room_then c either)
   where
     behind : AreRecordsOf format (bodies ++ body ∷ []) next
-    behind = with_record format e es next bodies body makes_it told needs is
+    behind = with_record format e es next bodies body makes_it reported needs is
 
-    go : (IsImageAt c es x ⊎ IsImageAt c next (extent_behind x (length body))) × (start_slot c ≡ text) → IsStoredAs (uncertain events x e (length body)) c
+    go : (IsImageAt c es x ⊎ IsImageAt c next (extent_behind x (length body))) × (start_bytes c ≡ text) → IsStoredAs (uncertain events x e (length body)) c
     go (inl image, same) = stored_before events x e (length body) es c after image (started_by es es old c refl (same ∙ sym slot) started)
     go (inr image, same) = stored_after events x e (length body) es next c after is image.image_of (inl image.reaches) (inl (started_by es es old c refl (same ∙ sym slot) started))
 
 -- A start slot with the text of a release's start is that release's start record.
-pub started_by_text : (es : Releases) (r : Release) (versions : Versions) (c : List ℕ) → AreVersions versions → versions ≡ started r → permanent es ≡ Some r → start_slot c ≡ slot_with (text_of_start versions) → IsStarted es c
+pub started_by_text : (es : Releases) (r : Release) (versions : Versions) (c : List ℕ) → AreVersions versions → versions ≡ started r → permanent es ≡ Some r → start_bytes c ≡ slot_with (text_of_start versions) → IsStarted es c
 started_by_text es r versions c are of listed slot =
-    record { release = r; listed = listed; spells = subst (λ w. SpellsStart (start_slot c) w) of (subst (λ l. SpellsStart l versions) (sym slot) (reads_back versions are)) }
+    record { release = r; listed = listed; spells = subst (λ w. SpellsStart (start_bytes c) w) of (subst (λ l. SpellsStart l versions) (sym slot) (reads_back versions are)) }
 
--- A list that was read from the records of bytes is that for which they stand, as records tell it.
+-- A list that was read from the records of bytes is that for which they stand, as records report it.
 pub recorded_image : (c : List ℕ) (bodies : List (List ℕ)) (found es : Releases) → records_of c ≡ Ok bodies → Makes (format_of c) bodies found → IsImageOf c es → found ≡ recorded es
 recorded_image c bodies found es read makes_it image =
     let same : bodies ≡ image.bodies = cc (read, image.store) in

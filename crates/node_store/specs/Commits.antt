@@ -6,11 +6,11 @@ use Rattle.rel_list.specs.Releases.{Releases}
 use Rattle.rel_list.specs.Event.{Event, list_after}
 use Rattle.rel_list.specs.Event.Event.{made_permanent, reboot_old}
 use Rattle.rel_records.specs.Reading.{Spells}
-use Rattle.rel_records.specs.Writing.{record_of, Tells}
+use Rattle.rel_records.specs.Writing.{record_of, Reports}
 use Rattle.node_store.specs.Events.{Events, IsStoredAs, uncertain}
 use Rattle.rel_store.specs.Layout.{slot_with}
 use Rattle.node_store.specs.Compaction.{compacted, MayReach}
-use Rattle.node_store.specs.Image.{Extent, extent_behind, extent_of, HasSpace, IsImageAt, IsImageOf, start_slot}
+use Rattle.node_store.specs.Image.{Extent, extent_behind, extent_of, HasSpace, IsImageAt, IsImageOf, start_bytes}
 use Rattle.node_store.specs.State.{disk_in, extent_in, list_in, is_dead, start_in, IsReady, IsSound}
 use Rattle.node_command.specs.Taking.{commanded}
 use Rattle.node_store.specs.declared.node_store.NodeStore.{NodeStore}
@@ -18,7 +18,7 @@ use Rattle.node_store.specs.declared.node_store.NodeStore.{NodeStore}
 -- This body is that of the event's record, of which a boot makes what the event makes of the list.
 pub record IsRecordFor (body : List ℕ) (e : Event) (es : Releases) : Type 0 where
   pub spells : Spells body (record_of e es)
-  pub tells : Tells e es
+  pub reports : Reports e es
 
 -- Whatever a command with this event, and a record with a body of so many bytes, answers. Whatever the events so far, a
 -- crash at any moment of it leaves the store of their list, or of the list with this one, which is in doubt, compacted or not.
@@ -49,7 +49,7 @@ IsDone v e size old new = IsTaken v e size (MayReach (extent_behind (extent_in o
 -- holds of them.
 abbrev pub HasOldStartOr : {D : Type 0} → (D → List ℕ) → NodeStore D → (List ℕ → Type 0) → List ℕ → Type 0
 HasOldStartOr seen node P c =
-    IsImageAt c (list_in node) (extent_in node) × ((start_slot c ≡ start_in seen node) ⊎ P c)
+    IsImageAt c (list_in node) (extent_in node) × ((start_bytes c ≡ start_in seen node) ⊎ P c)
 
 -- Whatever a write of this text as the start record answers: a crash at any moment of it leaves the old one or the new. The
 -- node is dead behind it.
@@ -58,7 +58,7 @@ pub record Keeps {D : Type 0} (v : Ghosts D) (text : List ℕ) (old new : NodeSt
   pub list : list_in new ≡ list_in old
   pub extent : extent_in new ≡ extent_in old
   pub any_moment : LeavesOnly v.moment v.left_since (disk_in old) (disk_in new)
-      (HasOldStartOr v.seen old (λ c. start_slot c ≡ slot_with text))
+      (HasOldStartOr v.seen old (λ c. start_bytes c ≡ slot_with text))
   pub counted : v.failures (disk_in old) ≤ v.failures (disk_in new)
 
 -- Whatever a change of the store's format answers: a crash at any moment of it leaves the list and the start slot.
@@ -66,7 +66,7 @@ pub record Reformats {D : Type 0} (v : Ghosts D) (old new : NodeStore D) : Type 
   pub list : list_in new ≡ list_in old
   pub extent : extent_in new ≡ extent_in old
   pub any_moment : LeavesOnly v.moment v.left_since (disk_in old) (disk_in new)
-      (λ c. IsImageAt c (list_in old) (extent_in old) × (start_slot c ≡ start_in v.seen old))
+      (λ c. IsImageAt c (list_in old) (extent_in old) × (start_bytes c ≡ start_in v.seen old))
   pub counted : v.failures (disk_in old) ≤ v.failures (disk_in new)
 
 -- These bytes stand for the node's list and have its start slot, in a store that reaches as far as its store does, or as far
@@ -75,7 +75,7 @@ abbrev pub IsOldOrCompacted : {D : Type 0} → (D → List ℕ) → NodeStore D 
 IsOldOrCompacted seen node c =
     IsImageOf c (list_in node)
     × ((extent_of c ≡ extent_in node) ⊎ (extent_of c ≡ compacted (extent_in node) (list_in node)))
-    × (start_slot c ≡ start_in seen node)
+    × (start_bytes c ≡ start_in seen node)
 
 -- Whatever a compaction answers: a crash at any moment of it leaves the store that was there or the compacted one. The node is
 -- dead behind it.

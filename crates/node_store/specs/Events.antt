@@ -12,8 +12,8 @@ abbrev pub Events : Type 0
 Events = List Event
 
 -- What is known of a node's events: those whose commands were answered Ok, in order, and the one that is in doubt, if
--- there is one, since its command wasn't answered yet or the device failed in it. And the events behind which the start record was last
--- sure to be that of the permanent release, as it is wherever a node runs, and behind each command that was Ok.
+-- there is one, since its command wasn't answered yet or the device failed in it. And the events behind which the start record was
+-- last sure to be that of the permanent release, as it is wherever a node runs, and behind each command that was Ok.
 pub record Known : Type 0 where
   pub ran : Events
   pub acknowledged : Events

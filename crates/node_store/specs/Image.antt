@@ -51,7 +51,7 @@ abbrev pub LeavesBootSpace : Event → ℕ → Extent → Releases → Type 0
 LeavesBootSpace e size x es =
     (next : Releases) → step e es ≡ Some next → HasBootSpace (extent_behind x size) next
 
--- These bodies are the records of a list in a store of this format: they make it as records tell it. Beside a one-shot no
+-- These bodies are the records of a list in a store of this format: they make it as records report it. Beside a one-shot no
 -- release is current.
 pub record AreRecordsOf (format : ℕ) (bodies : List (List ℕ)) (es : Releases) : Type 0 where
   pub makes : Makes format bodies (recorded es)
@@ -69,24 +69,24 @@ pub record IsImageAt (image : List ℕ) (es : Releases) (extent : Extent) : Type
   pub image_of : IsImageOf image es
   pub reaches : extent_of image ≡ extent
 
--- the start slot that counts in these bytes
-abbrev pub start_slot : List ℕ → List ℕ
-start_slot image = text_of image
+-- the bytes of the start slot that counts in these bytes
+abbrev pub start_bytes : List ℕ → List ℕ
+start_bytes image = text_of image
 
 -- The start record in these bytes is that of the list's permanent release.
 pub record IsStarted (es : Releases) (image : List ℕ) : Type 0 where
   pub release : Release
   pub listed : permanent es ≡ Some release
-  pub spells : SpellsStart (start_slot image) (started release)
+  pub spells : SpellsStart (start_bytes image) (started release)
 
 -- A boot of these bytes has written so much: nothing; or the record that takes a one-shot away, if there was one, and the start
 -- record or not.
 pub record IsLeftByBoot (bytes image : List ℕ) : Type 0 where
   pub list : Releases
   pub was : IsImageOf bytes list
-  pub left : (IsImageAt image list (extent_of bytes) × (start_slot image ≡ start_slot bytes))
+  pub left : (IsImageAt image list (extent_of bytes) × (start_bytes image ≡ start_bytes bytes))
       ⊎ (IsImageAt image (booted list) (booted_extent (extent_of bytes) list)
-      × ((start_slot image ≡ start_slot bytes) ⊎ IsStarted list image))
+      × ((start_bytes image ≡ start_bytes bytes) ⊎ IsStarted list image))
 
 -- The bytes begin as those of a store do, whole or damaged. No node is made on such a disk.
 abbrev pub holds_a_store : List ℕ → Bool

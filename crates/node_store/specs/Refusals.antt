@@ -47,7 +47,7 @@ abbrev pub IsStartRefusal : List ℕ → Releases → HandlerError → Type 0
 IsStartRefusal vsn es NoMemory = (r : Release) × (release_at vsn es ≡ Some r)
 IsStartRefusal vsn es why = (release_at vsn es ≡ None) × (why ≡ NoSuchRelease)
 
--- what a command is told of a compaction of its store: that the device failed, and nothing else
-abbrev pub told_compaction : Result (Unit {0}) StoreError → Result (Unit {0}) HandlerError
-told_compaction (Err store.Device) = Err Device
-told_compaction compaction = Ok tt
+-- what is reported to a command of a compaction of its store: that the device failed, and nothing else
+abbrev pub reported_compaction : Result (Unit {0}) StoreError → Result (Unit {0}) HandlerError
+reported_compaction (Err store.Device) = Err Device
+reported_compaction compaction = Ok tt

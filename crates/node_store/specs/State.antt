@@ -64,7 +64,7 @@ pub record IsSame {D : Type 0} (old new : NodeStore D) : Type 0 where
   pub dead : is_dead new ≡ is_dead old
   pub extent : extent_in new ≡ extent_in old
 
--- the version of a release that a node has, as of the permanent one
+-- the version of the release, and nothing where there is none
 abbrev pub version_of : Option Release → List ℕ
 version_of None = []
 version_of (Some r) = r.vsn

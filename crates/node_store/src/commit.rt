@@ -55,7 +55,7 @@ impl<D: Disk> NodeStore<D> {
     ) -> Result<(), HandlerError>
         requires sound { IsSound D.seen D.may_leave self.old }
         requires allowed { IsAllowed (event_of event) self.old }
-        requires told { IsRecordFor body.now (event_of event) (list_in self.old) }
+        requires reported { IsRecordFor body.now (event_of event) (list_in self.old) }
         requires format { makes_one_shot (event_of event) ≡ true → format_in self.old ≡ 2 }
         requires behind { LeavesBootSpace (event_of event) (length body.now)
             (extent_in self.old) (list_in self.old) }
@@ -87,7 +87,7 @@ impl<D: Disk> NodeStore<D> {
     fn append(&mut self, alloc: Global, event: Event, body: &str) -> Result<(), HandlerError>
         requires sound { IsSound D.seen D.may_leave self.old }
         requires allowed { IsAllowed (event_of event) self.old }
-        requires told { IsRecordFor body.now (event_of event) (list_in self.old) }
+        requires reported { IsRecordFor body.now (event_of event) (list_in self.old) }
         requires other { makes_one_shot (event_of event) ≡ false }
         ensures commits { Commits D.Disk (event_of event) (length body.now) self.old self.new }
         ensures appended { OnOk result
@@ -131,7 +131,7 @@ impl<D: Disk> NodeStore<D> {
     pub fn commit(&mut self, alloc: Global, event: Event, body: &str) -> Result<(), HandlerError>
         requires sound { IsSound D.seen D.may_leave self.old }
         requires allowed { IsAllowed (event_of event) self.old }
-        requires told { IsRecordFor body.now (event_of event) (list_in self.old) }
+        requires reported { IsRecordFor body.now (event_of event) (list_in self.old) }
         requires other { makes_one_shot (event_of event) ≡ false }
         requires stays { leaves_permanent (event_of event) ≡ true }
         ensures commits { Commits D.Disk (event_of event) (length body.now) self.old self.new }

@@ -6,7 +6,7 @@ ghost use Rattle.rel_records.specs.Image.{image_of};
 ghost use Rattle.rel_records.specs.Lists.{Makes};
 ghost use Rattle.node_store.specs.Commits.{Compacts, IsCompacted};
 ghost use Rattle.node_store.specs.Compaction.{is_long, may_be_compacted};
-ghost use Rattle.node_store.specs.Refusals.{told_compaction};
+ghost use Rattle.node_store.specs.Refusals.{reported_compaction};
 ghost use Rattle.node_store.specs.State.{disk_in, extent_in, format_in, list_in, is_dead, IsReady};
 
 use crate::NodeStore;
@@ -76,9 +76,9 @@ impl<D: Disk> NodeStore<D> {
     }
 }
 
-// What the command is told of a compaction: that the device failed, and nothing else.
+// What is reported to the command of a compaction: that the device failed, and nothing else.
 fn unless_failed(compaction: Result<(), StoreError>) -> Result<(), HandlerError>
-    ensures { result ≡ told_compaction compaction }
+    ensures { result ≡ reported_compaction compaction }
 {
     match compaction {
         Err(StoreError::Device) => Err(HandlerError::Device),

@@ -27,7 +27,7 @@ impl<D: Disk> NodeStore<D> {
     ) -> Result<(), HandlerError>
         requires sound { IsSound D.seen D.may_leave self.old }
         requires allowed { IsAllowed (event_of event) self.old }
-        requires told { IsRecordFor body.now (event_of event) (list_in self.old) }
+        requires reported { IsRecordFor body.now (event_of event) (list_in self.old) }
         requires behind { LeavesBootSpace (event_of event) (length body.now)
             (extent_in self.old) (list_in self.old) }
         requires space { HasSpace (extent_in self.old) (length body.now) }
@@ -65,7 +65,7 @@ impl<D: Disk> NodeStore<D> {
     ) -> Result<(), HandlerError>
         requires sound { IsSound D.seen D.may_leave self.old }
         requires allowed { IsAllowed (event_of event) self.old }
-        requires told { IsRecordFor body.now (event_of event) (list_in self.old) }
+        requires reported { IsRecordFor body.now (event_of event) (list_in self.old) }
         requires behind { LeavesBootSpace (event_of event) (length body.now)
             (extent_in self.old) (list_in self.old) }
         requires space { HasSpace (extent_in self.old) (length body.now) }

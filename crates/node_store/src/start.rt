@@ -6,7 +6,7 @@ ghost use Rattle.rel_list.specs.Event.{event_of};
 ghost use Rattle.rel_list.specs.Releases.{release_at};
 ghost use Rattle.node_store.specs.Commits.{Commits, IsAppended, Keeps, MakesPermanent};
 ghost use Rattle.node_store.specs.Start.{started};
-ghost use Rattle.node_store.specs.Image.{IsImageAt, start_slot};
+ghost use Rattle.node_store.specs.Image.{IsImageAt, start_bytes};
 ghost use Rattle.node_store.specs.Refusals.{CommandRefused, IsStartRefusal};
 ghost use Rattle.node_store.specs.State.{disk_in, extent_in, format_in, list_in, is_dead, HasStarted, IsReady, IsSound};
 ghost use Rattle.node_command.specs.Taking.{change_size};
@@ -58,7 +58,7 @@ impl<D: Disk> NodeStore<D> {
         ensures ready { OnOk result (IsReady D.seen D.may_leave self.new) }
         ensures acknowledged { OnOk result ((c : List ℕ) → D.may_leave (disk_in self.new) c
             → IsImageAt c (list_in self.new) (extent_in self.new)
-            × (start_slot c ≡ slot_with (start_text (versions_of start.now)))) }
+            × (start_bytes c ≡ slot_with (start_text (versions_of start.now)))) }
         ensures format { format_in self.new ≡ format_in self.old }
         ensures failed { IfErr result (λ _.
             HasFailed (D.failures (disk_in self.old)) (D.failures (disk_in self.new))) }

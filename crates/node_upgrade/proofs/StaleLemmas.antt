@@ -50,12 +50,12 @@ names_listed noted names ordered are = record {
       ∙ (sym (list_any-read (λ k. is_eq (slice_cmp nat_cmp q k.now)) (bytes_eq q) (λ k. k.now) (λ k. is_eq-slice_cmp q k.now) (keys noted)) ∙ sym (is_some-lookup _ noted.entries));
 }
 
--- the names of modules that are told with their versions
+-- the names of modules that are reported with their versions
 abbrev pub first_names : List (Bor (List ℕ) × Bor (List ℕ)) → List (List ℕ)
 first_names ps = map (λ (p : Bor (List ℕ) × Bor (List ℕ)). p.0.now) ps
 
-pub names_told : (ps : List (Bor (List ℕ) × Bor (List ℕ))) (ms : NamedModules) → map deref_pair ps ≡ map name_and_version ms → first_names ps ≡ names_in ms
-names_told ps ms same = sym (of_pairs ps) ∙ (ap (map (λ (p : List ℕ × List ℕ). p.0)) same ∙ of_modules ms)
+pub names_reported : (ps : List (Bor (List ℕ) × Bor (List ℕ))) (ms : NamedModules) → map deref_pair ps ≡ map name_and_version ms → first_names ps ≡ names_in ms
+names_reported ps ms same = sym (of_pairs ps) ∙ (ap (map (λ (p : List ℕ × List ℕ). p.0)) same ∙ of_modules ms)
   where
     of_pairs : (ps : List (Bor (List ℕ) × Bor (List ℕ))) → map (λ (p : List ℕ × List ℕ). p.0) (map deref_pair ps) ≡ first_names ps
     of_pairs [] = refl

@@ -11,10 +11,10 @@ use Rattle.node_upgrade.specs.Failure.{failure, fault_failure}
 use Rattle.node_upgrade.specs.Failure.Why.{new_emulator}
 use Rattle.node_upgrade.specs.Upgrade.{changes_emulator, script_failure}
 
--- the emulator is the one that runs, and what is wrong with the script is told
-pub told_wrong : (vsn : List ℕ) (es : Releases) (f : FoundForm) (o : Option ScriptFault) → changes_emulator vsn es ≡ false → script_fault f.script ≡ o
+-- the emulator is the one that runs, and what is wrong with the script is reported
+pub reported_wrong : (vsn : List ℕ) (es : Releases) (f : FoundForm) (o : Option ScriptFault) → changes_emulator vsn es ≡ false → script_fault f.script ≡ o
     → option_map fault_failure o ≡ script_failure vsn es f
-told_wrong vsn es f o same is =
+reported_wrong vsn es f o same is =
     ap (λ p. option_map fault_failure p) (sym is)
     ∙ sym (ap (λ b. if b then Some (failure 0 new_emulator) else option_map fault_failure (script_fault f.script)) same)
 

@@ -34,7 +34,7 @@ why_of (declared.Fails c) = fails (cause_of c)
 abbrev pub failure_of : ScriptFailure → Failure
 failure_of f = failure f.instr (why_of f.why)
 
--- what the check of a script tells
+-- what the check of a script reports
 abbrev pub fault_failure : ScriptFault → Failure
 fault_failure NoPoint = failure 0 no_point
 fault_failure TwoPoints = failure 0 two_points

@@ -39,7 +39,7 @@ pub record IsUntouched (old new : NodeState) : Type 0 where
 abbrev pub IsCarriedOut : UpgradeForm → NodeState → NodeState → Type 0
 IsCarriedOut u old new = IsFinished (site_for u old.modules) (start_in old) u.found.script new.modules new.apps new.view
 
--- The whole script was carried out. Told are the version and the description of its entry, and the stale modules.
+-- The whole script was carried out. Reported are the version and the description of its entry, and the stale modules.
 pub record IsInstalled (u : UpgradeForm) (old : NodeState) (i : Installed) (new : NodeState) : Type 0 where
   pub finished : IsCarriedOut u old new
   pub other : string_bytes i.other ≡ u.found.other
@@ -54,12 +54,12 @@ pub record BreaksOff (u : UpgradeForm) (old : NodeState) (n : ℕ) (c : Cause) (
       ⊎ ((c ≡ no_memory) × (n ≡ length u.found.script + 1)
       × ((modules : NamedModules) × IsCarriedOut u old (state new.view new.apps modules)))
 
--- What is told of an instruction before the point of no return that fails. No memory is told as such.
-abbrev pub TellsRefusal : ℕ → Cause → InstallError → Type 0
-TellsRefusal n c (Command command.NoMemory) = c ≡ no_memory
-TellsRefusal n c (Command why) = ⊥
-TellsRefusal n c (Refused f) = (c ≢ no_memory) × (failure_of f ≡ failure n (fails c))
-TellsRefusal n c (MustReboot f) = ⊥
+-- What is reported of an instruction before the point of no return that fails. Out of memory is reported as `NoMemory`.
+abbrev pub ReportsRefusal : ℕ → Cause → InstallError → Type 0
+ReportsRefusal n c (Command command.NoMemory) = c ≡ no_memory
+ReportsRefusal n c (Command why) = ⊥
+ReportsRefusal n c (Refused f) = (c ≢ no_memory) × (failure_of f ≡ failure n (fails c))
+ReportsRefusal n c (MustReboot f) = ⊥
 
 -- Why a script that has begun isn't carried out to its end, and what it leaves.
 abbrev pub RunRefused : UpgradeForm → NodeState → NodeState → InstallError → Type 0

@@ -57,7 +57,7 @@ impl ScriptFailure {
         format!(in alloc; "{instr} {why}")
     }
 
-    // What the check of a script tells.
+    // What the check of a script reports.
     pub(crate) fn of_fault(fault: ScriptFault) -> ScriptFailure
         ensures { failure_of result ≡ fault_failure fault }
     {

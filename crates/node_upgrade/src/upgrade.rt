@@ -4,7 +4,7 @@ ghost use Rattle.std.specs.Option.{option_map, option_copied};
 ghost use Rattle.held_processes.specs.Following.{HoldsNothing};
 ghost use Rattle.node_upgrade.specs.Failure.{failure_of};
 ghost use Rattle.node_upgrade.specs.InMemory.{upgrade_of};
-ghost use Rattle.node_upgrade.specs.Running.{IsInstalled, RunRefused, TellsRefusal, start_in, state};
+ghost use Rattle.node_upgrade.specs.Running.{IsInstalled, RunRefused, ReportsRefusal, start_in, state};
 ghost use Rattle.node_upgrade.specs.Upgrade.{IsNoUpgrade, IsUpgrade, changes_emulator, erts_of, script_failure, site_for};
 ghost use Rattle.rel_files.specs.Release.{release_of};
 ghost use Rattle.relup_exec.specs.Outcome.{IsFinished, Start};
@@ -199,9 +199,9 @@ impl Upgrade<'_> {
     }
 }
 
-// What is told of an instruction before the point of no return that fails. No memory is told as such.
+// What is reported of an instruction before the point of no return that fails. Out of memory is reported as `NoMemory`.
 fn refusal(instr: usize, cause: Cause) -> InstallError
-    ensures { TellsRefusal instr (cause_of cause) result }
+    ensures { ReportsRefusal instr (cause_of cause) result }
 {
     match cause {
         Cause::NoMemory => InstallError::Command(HandlerError::NoMemory),

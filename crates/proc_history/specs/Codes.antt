@@ -1,4 +1,4 @@
--- By what proofs tell values, events and histories apart.
+-- By what proofs distinguish values, events and histories.
 use Rattle.std.proofs.Common.{◌≡◌, ℕ, List, refl}
 use Rattle.std.specs.Coded.{Coded, coded×, coded_ℕ, coded_list, code_by}
 use base.Stored.{Gv, gnil, gnum, gcons}

@@ -1,4 +1,4 @@
--- What each event makes of what stands in a slot; docs/RULES.md tells it in words.
+-- What each event makes of what stands in a slot; docs/RULES.md has it in words.
 use Rattle.std.specs.Prelude.{◌≡◌, ℕ, ◌+◌, ◌<◌, ◌==◌, Bool, true, false, Option, Some, None, IsSome, is_some, if◌then◌else◌}
 use Rattle.std.specs.Option.{option_map}
 use Rattle.erl_term.specs.Value as term

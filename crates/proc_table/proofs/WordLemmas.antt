@@ -13,8 +13,8 @@ handler_above_one : (n m : ℕ) → word_of n ≡ suc (suc m) → n ≡ 0
 handler_above_one zero m e = refl
 handler_above_one (suc n) m e = absurd (omega arith)
 
-pub words_tell : WordsTell
-words_tell s r p = go (slice_index s.words p) refl
+pub words_report : WordsTell
+words_report s r p = go (slice_index s.words p) refl
   where
     go : (k : ℕ) → slice_index s.words p ≡ k → HasAtWord p k s
     go zero e = λ i v sits. none_out (is_out v p) (λ o. word_not_zero v.number (sym ((((reached_agrees s r).each p).parts i v sits).word_where_out o) ∙ e))

@@ -24,7 +24,7 @@ pub record SameBut (p : ℕ) (v w : View) : Type 0 where
   pub found : w.found ≡ v.found
   pub others : (q : ℕ) → q ≢ p → part_of w.parts q ≡ part_of v.parts q
 
--- All but one slot is as before. What was found isn't told, since it grows while a slot is waited for.
+-- All but one slot is as before. What was found isn't reported, since it grows while a slot is waited for.
 pub record Elsewhere (p : ℕ) (v w : View) : Type 0 where
   pub number : w.number ≡ v.number
   pub count : w.count ≡ v.count

@@ -1,4 +1,4 @@
--- By what proofs tell views apart.
+-- By what proofs distinguish views.
 use Rattle.std.proofs.Common.{ℕ, Bool, List, refl}
 use Rattle.std.specs.Coded.{Coded, coded×, coded_ℕ, coded_bool, coded_list, code_by}
 use Rattle.proc_history.specs.Events.{HistoryEntry}

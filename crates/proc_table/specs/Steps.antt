@@ -1,4 +1,4 @@
--- What each step asks of the seat that makes it, and what it tells.
+-- What each step asks of the seat that makes it, and what it reports.
 use Rattle.std.specs.Prelude.{◌≡◌, ◌⊎◌, ◌==◌, ℕ, Bool, true, false, List, [], ◌∷◌, ◌++◌, MatchBool, length, Some, None, Contains}
 use mathlib.Core.List.{IsPrefix}
 use Rattle.atomic_table.specs.Table as table

@@ -65,7 +65,7 @@ impl ProcTable {
         outcome
     }
 
-    // What is added may be told by this function's arguments alone, so it is given some that its body doesn't use.
+    // The caller's proof picks `E` by this function's arguments alone, so it takes some that its body doesn't use.
     fn give_call<E: Adds>(
         &self,
         seat: &mut Seat<Value, View>,

@@ -175,7 +175,7 @@ impl ProcTable {
         self.put_down_with::<Brand>(&mut seat.seat, slot, value, entries);
     }
 
-    // What is added may be told by this function's arguments alone, so it is given some that its body doesn't use.
+    // The caller's proof picks `E` by this function's arguments alone, so it takes some that its body doesn't use.
     fn put_down_with<E: Adds>(
         &self,
         seat: &mut Seat<Value, View>,

@@ -16,9 +16,9 @@ pub fn what_is_reached_agrees()
     ensures { ReachedAgrees }
 {}
 
-/// The word of a process tells who has it: nobody at 0, a client at 1, and else the handler. So `Busy` and `Held` are answered
-/// by a word that tells of another, and a call by one that tells of nobody.
-pub fn the_word_of_a_process_tells_who_has_it()
+/// The word of a process shows who has it: nobody at 0, a client at 1, and else the handler. So `Busy` and `Held` are answered
+/// by a word that shows another, and a call by one that shows nobody.
+pub fn the_word_of_a_process_shows_who_has_it()
     ensures { WordsTell }
 {}
 

@@ -1,4 +1,4 @@
-//! The rule of the table, and what each step tells the seat that makes it.
+//! The rule of the table, and what the seat that makes a step knows by it.
 ghost use Rattle.std.specs.Prelude.{List, []};
 ghost use Rattle.proc_history.specs.Events.{HistoryEntry};
 ghost use Rattle.proc_table.specs.Agrees.{slots};

@@ -43,7 +43,7 @@ impl ProcTable {
         requires ready { Ready seat.old.me.0 }
         requires mark { mark ≡ word_of seat.old.me.0.number }
         ensures table { seat.new.table_id ≡ seat.old.table_id }
-        ensures told { MatchBool (result == 0)
+        ensures reported { MatchBool (result == 0)
             (Took slot seat.old.me seat.new.me) (Missed slot result seat.old.me seat.new.me) }
     {
         self.table

@@ -18,7 +18,7 @@ use Rattle.proc_workers.specs.Desks.{IsAt, IsReached, TakesNote, SameDesk, HasRo
 use Rattle.proc_workers.proofs.NoteLemmas.{map_more, done_nothing, still_running, is_suspended, runs_on, suspends_same, done_suspended, done_stopped, done_kept, done_answered, done_resumed}
 use Rattle.proc_workers.proofs.WorkLemmas.{answered_nothing, answered_more}
 
--- a desk that is the same in all that is told
+-- a desk that is the same in all that is reported
 pub same_at : (pid : Pid) (v : View) (notes : List Note) (d e : Desk) → SameDesk d e → IsAt pid v notes d → IsAt pid v notes e
 same_at pid v notes d e same at = record {
   answered = subst₂ (λ (l : List Answer) (w : View). HasAnswered pid v l w) (sym same.1) (ap (λ s. s.view) (sym same.0)) at.answered;

@@ -12,13 +12,13 @@ jobs_in [] = []
 jobs_in (note.Job job ∷ ns) = job ∷ jobs_in ns
 jobs_in (n ∷ ns) = jobs_in ns
 
--- whether they tell the worker to go on
+-- whether they have the worker go on
 abbrev pub resumes : List Note → Bool
 resumes [] = false
 resumes (note.Resume ∷ ns) = true
 resumes (n ∷ ns) = resumes ns
 
--- whether they tell it to end
+-- whether they have it end
 abbrev pub stops : List Note → Bool
 stops [] = false
 stops (note.Stop ∷ ns) = true

@@ -130,12 +130,8 @@ fn count_answers(answers: &[Answer], pid: Pid, input: u32, times: u32) -> Option
         ended: 0,
         down: 0,
     };
-    for at in 0..answers.len() {
-        let answer = answers[at];
-        if !answer.is_of(pid, input) {
-            return None;
-        }
-        if !counts.note(answer.tried) {
+    for answer in answers {
+        if !answer.is_of(pid, input) || !counts.note(answer.tried) {
             return None;
         }
     }

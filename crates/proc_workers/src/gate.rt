@@ -1,7 +1,7 @@
 //! What stands round the calls of a worker.
 use crate::{Answer, Job};
 
-/// Is told of each job of a worker, in the worker's thread. A program gates its workers by it, as to count their jobs.
+/// Is called for each job of a worker, in the worker's thread. A program gates its workers by it, as to count their jobs.
 pub trait Gate {
     /// The worker is about to answer this job.
     fn before(&self, job: &Job);

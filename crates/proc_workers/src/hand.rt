@@ -1,4 +1,4 @@
-//! The rule of a mailbox, and what each step tells the end that makes it.
+//! The rule of a mailbox, and what the end that makes a step knows by it.
 ghost use Rattle.std.specs.Prelude.{◌≡◌, true, [], ◌∷◌, ◌++◌, ⊤};
 ghost use Rattle.proc_workers.specs.Hands.{hand, newcomer, Delivers};
 

@@ -12,11 +12,11 @@ use text_cases::{Answer, first_word};
 /// round.
 ///
 /// - `begin SLOT`, `begin SLOT temporary`: a process begins in the slot. `begin lowest`: in the lowest in which one can. Its name
-///   is told, or `none` where none begins.
+///   is reported, or `none` where none begins.
 /// - `free`: the name that a process would have in the lowest slot. `give_up SLOT`: nothing stands in the slot any more.
 /// - `last_round SLOT`: whether one begins in a slot whose last round was used.
 /// - `calls SLOT ROUND INPUT..`, `meet SLOT ROUND`, `held SLOT ROUND`: what clients see, as [`push_calls`], [`push_meeting`] and
-///   [`push_held`] tell.
+///   [`push_held`] report.
 pub(crate) fn follow_steps<R: Wait>(rt: &R, alloc: Global, words: &str, answer: &mut Answer) {
     match ProcTable::new(alloc) {
         Ok((table, mut seat)) => take_steps(rt, alloc, &table, &mut seat, words, answer),
@@ -42,7 +42,7 @@ fn take_steps<R: Wait>(
     }
 }
 
-/// A step of those that [`follow_steps`] tells.
+/// A step of those that [`follow_steps`] reports.
 pub(crate) fn take_step<R: Wait>(
     rt: &R,
     alloc: Global,

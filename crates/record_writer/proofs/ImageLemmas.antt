@@ -191,7 +191,7 @@ image_makes format bodies es makes_it distinct body has in_format may = (
     taken [] so one = absurd cc
     taken (e ∷ es) so one = ap with_one_permanent (restored_so e es so) ∙ kept (e ∷ es) one
 
--- the rows of a list, as records tell it
+-- the rows of a list, as records report it
 pub recorded_rows : {A : Type 0} (entry_at : A → Entry) (xs : List A) → map (λ x. recorded_row (entry_at x)) xs ≡ map imaged_term (map imaged (recorded (map entry_at xs)))
 recorded_rows entry_at [] = refl
 recorded_rows entry_at (x ∷ xs) = ap (λ (vs : List Value). recorded_row (entry_at x) ∷ vs) (recorded_rows entry_at xs)

@@ -26,7 +26,7 @@ use Rattle.rel_list.specs.Status.{is_current, is_permanent, runs, status_word}
 use Rattle.rel_list.specs.Releases.{Releases, Entry, library_in, status_of, has_current}
 use Rattle.rel_list.specs.Event.{Event, status_behind}
 use Rattle.rel_list.specs.Event.Event.{made, unpacked, installed, restart_installed, made_permanent, removed, reboot_old, boot}
-use Rattle.rel_list.specs.declared.fault.ListError.TheVariants as told
+use Rattle.rel_list.specs.declared.fault.ListError.TheVariants as reported
 use Rattle.rel_list.proofs.Orderly.{status_or}
 use Rattle.rel_list.proofs.OwnRules.{own_of_refusal}
 use Rattle.rel_records.specs.Lists.{HaveVersions}
@@ -141,7 +141,7 @@ listed_version v (x ∷ es) all listed = go (bytes_eq v x.release.vsn) refl (lis
 not_refused : (v : List ℕ) (es : Releases) → refusal (removed v) es ≡ None → is_some (status_of v es) ≡ true
 not_refused v es e = go (status_of v es) (own_of_refusal (removed v) es e).1
   where
-    go : (o : Option Status) → listed_refusal (λ s. if is_permanent s then Some told.Permanent else if runs (has_current es) s then Some told.Running else None) o ≡ None → is_some o ≡ true
+    go : (o : Option Status) → listed_refusal (λ s. if is_permanent s then Some reported.Permanent else if runs (has_current es) s then Some reported.Running else None) o ≡ None → is_some o ≡ true
     go None e = absurd cc
     go (Some s) e = refl
 

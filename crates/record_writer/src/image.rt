@@ -16,13 +16,13 @@ use crate::depth::can_be_read_back;
 use crate::release_term::file_term;
 use crate::writing::body_of;
 use erl_term::{RECORD_DEPTH, Term};
-use rel_files::terms::atom_term;
+use rel_files::terms::{atom_term, list_term, triple_term};
 use rel_list::{ListedRelease, ReleaseList};
 use rel_records::IMAGE;
 use relup_file::{Relup, relup_term};
 use std::alloc::{AllocError, Global};
 
-/// The body of the image of this list: a record that makes it alone, as records tell it. Nothing where that couldn't be
+/// The body of the image of this list: a record that makes it alone, as records report it. Nothing where that couldn't be
 /// read back: a relup may hold a term that is too deep.
 pub fn image_body(alloc: Global, list: &ReleaseList) -> Result<Option<String>, AllocError>
     requires made { IsMadeByRecords (recorded list.now) }
@@ -48,10 +48,10 @@ fn image_term(alloc: Global, rows: Vec<Term>, libs: Vec<Term>) -> Result<Term, A
         ≡ image_term (members_of rows.items) (members_of libs.items)) }
 {
     let word = atom_term(alloc, IMAGE)?;
-    Ok(Term::Tuple(vec![in alloc; word, Term::List(rows), Term::List(libs)]?))
+    triple_term(alloc, word, list_term(rows), list_term(libs))
 }
 
-// The terms of releases with their statuses, as records tell them.
+// The terms of releases with their statuses, as records report them.
 fn row_terms(alloc: Global, releases: &[ListedRelease]) -> Result<Vec<Term>, AllocError>
     ensures { IfOk result (λ terms. map value_of terms.items
         ≡ map imaged_term (map imaged (recorded (map entry_of releases.now)))) }
@@ -69,7 +69,7 @@ fn row_term(alloc: Global, listed: &ListedRelease) -> Result<Term, AllocError>
     let rel = file_term(alloc, &listed.release)?;
     let status = atom_term(alloc, listed.status.recorded().as_str())?;
     let relup = relup_or_none(alloc, &listed.relup)?;
-    Ok(Term::Tuple(vec![in alloc; rel, status, relup]?))
+    triple_term(alloc, rel, status, relup)
 }
 
 // The term that stands for a relup, or for none.

@@ -18,7 +18,7 @@ ghost use Rattle.rel_records.specs.Lists.{HaveVersions};
 ghost use Rattle.rel_records.specs.Parts.{files_of};
 ghost use Rattle.rel_records.specs.Reading.{AreOfRelease, Spells};
 ghost use Rattle.rel_records.specs.Record.{FileTerms, makes, adds, release_term, relup_or_none, assignment_term, term_of, body_of, printed};
-ghost use Rattle.rel_records.specs.Writing.{changes, new_libraries, record_of, CanBeCarried, IsOfListed, Tells};
+ghost use Rattle.rel_records.specs.Writing.{changes, new_libraries, record_of, CanBeCarried, IsOfListed, Reports};
 
 use erl_term::{Term, print};
 use library::Library;
@@ -88,7 +88,7 @@ pub fn change_body(alloc: Global, list: &ReleaseList, event: &Event) -> Result<S
         Spells (string_bytes body) (record_of (event_of event.now) list.now)) }
 
     // What a boot makes of the record is what the event makes of the list.
-    ensures tells { OnOk result (Tells (event_of event.now) list.now) }
+    ensures reports { OnOk result (Reports (event_of event.now) list.now) }
 {
     let releases = list.releases();
     let term = change_term(alloc, releases, event)?;

@@ -94,11 +94,11 @@ limits_are ps ms s modules is =
     λ j. list_all few_modules_in ps && (list_all has_few_rows (modules j) && (within j && (processes j && members j)))
 
 -- the first fault, from what each test finds
-pub told : (all ps : List Part) (ms : List Module) (a b : Option Named) (s : Summary) → ps ≡ all → ms ≡ modules_in ps
+pub reported : (all ps : List Part) (ms : List Module) (a b : Option Named) (s : Summary) → ps ≡ all → ms ≡ modules_in ps
     → a ≡ first_again (module_names ms) → b ≡ first_id_again ps → s ≡ release_summary (known_at 8 (table_of ms)) ps
     → first_fault all
     ≡ option_or (option_map module_twice a) (option_or (option_map id_twice b) (option_or (option_map no_table s.missing) (if limits_kept ps ms s then None else Some too_many)))
-told all ps ms a b s are modules again ids is =
+reported all ps ms a b s are modules again ids is =
     let same : s ≡ release_summary (known_at 8 (table_of (modules_in ps))) ps = is ∙ ap (λ (l : List Module). release_summary (known_at 8 (table_of l)) ps) modules in
     let first : first_again (module_names (modules_in ps)) ≡ a = sym (again ∙ ap (λ (l : List Module). first_again (module_names l)) modules) in
     let second : first_id_again ps ≡ b = sym ids in

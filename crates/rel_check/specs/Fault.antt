@@ -1,4 +1,4 @@
--- What is wrong with a release as a whole, once each of its files was read; docs/RULES.md tells the limits.
+-- What is wrong with a release as a whole, once each of its files was read; docs/RULES.md gives the limits.
 use Rattle.std.specs.Prelude.{◌≡◌, ◌≢◌, ℕ, Bool, true, ◌&&◌, List, length, nat_le, Option, None, Some, Result, Ok, Err, if◌then◌else◌}
 use Rattle.std.specs.List.{list_all}
 use Rattle.std.specs.Option.{option_map, option_or, option_map_or}
@@ -61,6 +61,6 @@ abbrev pub release_fault : List Application → List Library → Option Fault
 release_fault as' ls = first_fault (parts as' ls)
 
 -- the answer is this fault, or none where there is none; or that no memory was left
-abbrev pub Tells : {X : Type 0} → Result X ReleaseFault → Option Fault → Type 0
-Tells (Ok u) f = f ≡ None
-Tells (Err e) f = e ≢ NoMemory → f ≡ Some (fault_of e)
+abbrev pub Reports : {X : Type 0} → Result X ReleaseFault → Option Fault → Type 0
+Reports (Ok u) f = f ≡ None
+Reports (Err e) f = e ≢ NoMemory → f ≡ Some (fault_of e)

@@ -1,4 +1,4 @@
--- What is wrong with the relup of a release, once its file was read; docs/RULES.md tells the limit.
+-- What is wrong with the relup of a release, once its file was read; docs/RULES.md gives the limit.
 use Rattle.std.specs.Prelude.{ℕ, Bool, ◌&&◌, List, length, nat_le, Option, None, Some, if◌then◌else◌}
 use Rattle.std.specs.List.{list_all}
 use Rattle.std.specs.Str.{bytes_eq}

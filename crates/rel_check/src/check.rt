@@ -6,7 +6,7 @@ ghost use Rattle.rel_files.specs.Release.{application_of};
 ghost use Rattle.library.specs.InMemory.{shared_of};
 ghost use Rattle.rel_check.specs.InMemory.{part_of, module_of};
 ghost use Rattle.rel_check.specs.Summary.{summary_of, limits_kept};
-ghost use Rattle.rel_check.specs.Fault.{few_modules_in, has_few_rows, rows_are_few, release_fault, Tells};
+ghost use Rattle.rel_check.specs.Fault.{few_modules_in, has_few_rows, rows_are_few, release_fault, Reports};
 
 use crate::fault::ReleaseFault;
 use crate::modules::{Module, Part, modules_of, parts_of};
@@ -34,7 +34,7 @@ pub fn check_release<'a>(
     apps: &'a [RelApp],
     libraries: &'a [Rc<Library>],
 ) -> Result<(), ReleaseFault<'a>>
-    ensures { Tells result
+    ensures { Reports result
         (release_fault (map application_of apps.now) (map shared_of libraries.now)) }
 {
     let found_parts = parts_of(alloc, apps, libraries)?;

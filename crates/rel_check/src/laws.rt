@@ -16,8 +16,8 @@ pub fn no_name_stands_again_where_they_are_distinct()
     ensures { NoneAgainWhereDistinct }
 {}
 
-/// The name that is told as standing twice is the first that does, and its application the one where it stands a second time.
-pub fn the_first_name_that_stands_again_is_told()
+/// The name that is reported as standing twice is the first that does, and its application the one where it stands a second time.
+pub fn the_first_name_that_stands_again_is_reported()
     ensures { FindsFirstAgain }
 {}
 

@@ -1,4 +1,4 @@
--- The damage of single calls, told by places.
+-- The damage of single calls, stated by places.
 use Rattle.std.proofs.Common.{◌≡◌, ◌⊎◌, ⊎_elim, inl, inr, ℕ, ◌+◌, ◌-◌, ◌<◌, ◌≤◌, min, List, ◌++◌, length, take, drop, get_or, sym, ap, ◌∙◌, arith, take-append-drop, length-append, length-take, length-drop}
 use Rattle.std.proofs.lemmas.List.{get_or_append_left, get_or-append_right, get_or-take, get_or-drop, drop-drop, ext_get_or}
 use Rattle.rel_disk.specs.Damage.{Torn, Cut, Follows}

@@ -2,7 +2,8 @@
 use Rattle.std.specs.Prelude.{◌≡◌, ℕ, ◌+◌, ◌-◌, ◌≤◌, ◌^◌, min, List, ◌∷◌, length}
 use Rattle.rel_disk.specs.Calls.{Call, content, cost}
 
--- the bytes that it began with, the calls that it has done, newest first, the most bytes that it holds, the bytes that its log has left, and its failures
+-- the bytes that it began with, the calls that it has done, newest first, the most bytes that it holds, the bytes that its log has
+-- left, and its failures
 pub record MemState : Type 0 where
   pub first : List ℕ
   pub calls : List Call

@@ -1,4 +1,4 @@
--- The disk told by places: what a crash keeps, by the ranges that were written and the smallest length since the last sync.
+-- The disk stated by places: what a crash keeps, by the ranges that were written and the smallest length since the last sync.
 use Rattle.std.specs.Prelude.{◌≡◌, ◌⊎◌, ℕ, ◌+◌, ◌<◌, ◌≤◌, min, List, [], ◌∷◌, length, slice_index}
 use Rattle.rel_disk.specs.Calls.{Call, wrote, cut_to, synced, content}
 

@@ -1,5 +1,5 @@
 // Laws of the words that the contracts are written in, each on a function that does nothing.
-ghost use Rattle.std.specs.Prelude.{◌≡◌, ◌↔◌, ◌≤◌, ◌∷◌, List, ℕ, length};
+ghost use Rattle.std.specs.Prelude.{◌≡◌, ◌↔◌, ◌∷◌, List, ℕ, length};
 ghost use Rattle.rel_disk.specs.Calls.{Call, wrote, cut_to, synced, content};
 ghost use Rattle.rel_disk.specs.Damage.{Torn, Cut, Follows, Within, Only};
 ghost use Rattle.rel_disk.specs.Images.{Image};
@@ -7,7 +7,7 @@ ghost use Rattle.rel_disk.specs.Places.{KeepsOutside, KeepsFront, Survives};
 
 use crate::Disk;
 
-/// The damage of a write and of a cut, told by places: nothing but the stated bytes can change.
+/// The damage of a write and of a cut, stated by places: nothing but the stated bytes can change.
 pub fn damage_by_places()
     ensures write { (at n : ℕ) (old new : List ℕ) → Torn at n old new ↔ KeepsOutside at n old new }
     ensures cut { (n : ℕ) (old new : List ℕ) → Cut n old new ↔ KeepsFront n old new }
@@ -34,14 +34,4 @@ pub fn damage_adds_up<D: Disk>()
         → D.seen old ≡ content first calls
         → Only (D.seen old) (D.may_leave new)
         → Within (Image first (synced ∷ calls)) (D.may_leave new) }
-{}
-
-/// What a read gives is an image, the images of this moment are among those since an earlier one, and since this moment
-/// there are no others.
-pub fn moments_agree<D: Disk>()
-    ensures reads { (disk : D) → D.may_leave disk (D.seen disk) }
-    ensures among { (disk : D) (t : ℕ) (image : List ℕ) → t ≤ D.moment disk → D.may_leave disk image
-        → D.left_since disk t image }
-    ensures only { (disk : D) (image : List ℕ) → D.left_since disk (D.moment disk) image
-        → D.may_leave disk image }
 {}

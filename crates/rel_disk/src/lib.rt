@@ -23,5 +23,5 @@ mod mem_disk;
 
 pub use disk::{DeviceFault, Disk};
 pub use fail_disk::FailDisk;
-pub use laws::{damage_adds_up, damage_by_places, images_by_places, moments_agree};
+pub use laws::{damage_adds_up, damage_by_places, images_by_places};
 pub use mem_disk::MemDisk;

@@ -9,7 +9,7 @@ use Rattle.rel_files.specs.File.{IsReleaseTerm, HasReleaseTermFault, SaysRelease
 use Rattle.rel_files.specs.Sketch.{Sketch, sketch_in, release_in}
 use Rattle.rel_files.proofs.Distinct.{distinct_or_twice}
 use Rattle.rel_files.proofs.OneTermFile.{either_of_file}
-use Rattle.rel_files.proofs.Outcomes.{sketch_names, no_form, duplicate as tells_twice, bad_version as tells_no_version, says}
+use Rattle.rel_files.proofs.Outcomes.{sketch_names, no_form, duplicate as reports_twice, bad_version as reports_no_version, says}
 
 abbrev TermCases : Value → ℕ → Type 0
 TermCases v at = ((r : Release) × IsReleaseTerm v r) ⊎ ((f : Fault) × HasReleaseTermFault v at f)
@@ -18,12 +18,12 @@ TermCases v at = ((r : Release) × IsReleaseTerm v r) ⊎ ((f : Fault) × HasRel
 of_versions : (v : Value) (at : ℕ) (k : Sketch) → sketch_in v ≡ Some k → AreDistinct (sketch_names k.apps)
     → (o : Option Release) → o ≡ release_in k → TermCases v at
 of_versions v at k sketched distinct (Some r) is = inl (r, says v k r sketched distinct is)
-of_versions v at k sketched distinct None is = inr (bad_version, tells_no_version v k sketched distinct is)
+of_versions v at k sketched distinct None is = inr (bad_version, reports_no_version v k sketched distinct is)
 
 of_names : (v : Value) (at : ℕ) (k : Sketch) → sketch_in v ≡ Some k
     → AreDistinct (sketch_names k.apps) ⊎ ((n : List ℕ) × IsFirstTwice (sketch_names k.apps) n) → TermCases v at
 of_names v at k sketched (inl distinct) = of_versions v at k sketched distinct (release_in k) refl
-of_names v at k sketched (inr (n, twice)) = inr (duplicate n, tells_twice v k n sketched twice)
+of_names v at k sketched (inr (n, twice)) = inr (duplicate n, reports_twice v k n sketched twice)
 
 of_sketch : (v : Value) (at : ℕ) (o : Option Sketch) → sketch_in v ≡ o → TermCases v at
 of_sketch v at None is = inr (bad_shape at, (no_form v (sym is), refl))

@@ -5,7 +5,7 @@ use Rattle.erl_term.specs.TermFault.TheVariants as term
 use Rattle.erl_term.specs.declared.term.Spanned.{Spanned}
 use Rattle.erl_term.specs.Value.{value_of}
 use Rattle.erl_term.specs.Grammar.{Reading, Reads}
-use Rattle.erl_term.specs.Answers.{TellsFault, reading_of_spanned}
+use Rattle.erl_term.specs.Answers.{ReportsFault, reading_of_spanned}
 use Rattle.rel_files.specs.declared.fault.FileFault.{FileFault}
 use Rattle.rel_files.specs.declared.fault.FileFault.TheVariants.{NoMemory}
 use Rattle.rel_files.specs.declared.one_term.FileTerm.{FileTerm}
@@ -27,15 +27,15 @@ alone [] all last r none split one = let same = ap (map reading_of_spanned) spli
 alone (x ∷ xs) all last r none split one = absurd cc
 
 -- the fault of a file that is no row of terms
-unreadable : (bytes : List ℕ) (e : TermFault) → TellsFault 64 bytes e → file_fault_of e ≢ NoMemory → IsNoTermFault bytes (file_fault_of e)
-unreadable bytes term.NoMemory tells other = absurd (other refl)
-unreadable bytes e tells other = inl (e, refl, tells)
+unreadable : (bytes : List ℕ) (e : TermFault) → ReportsFault 64 bytes e → file_fault_of e ≢ NoMemory → IsNoTermFault bytes (file_fault_of e)
+unreadable bytes term.NoMemory reports other = absurd (other refl)
+unreadable bytes e reports other = inl (e, refl, reports)
 
 -- and so of one that is passed on
-pub tells_unreadable : (result : Result FileTerm FileFault) (bytes : List ℕ) (e : TermFault) → IsErr result × IsErrAnd result (λ f. f ≡ file_fault_of e)
-    → TellsFault 64 bytes e → IfErr result (λ f. f ≢ NoMemory → IsNoTermFault bytes f)
-tells_unreadable (Ok file) bytes e is tells = tt
-tells_unreadable (Err f) bytes e is tells = subst (λ (g : FileFault). g ≢ NoMemory → IsNoTermFault bytes g) (sym is.1) (unreadable bytes e tells)
+pub reports_unreadable : (result : Result FileTerm FileFault) (bytes : List ℕ) (e : TermFault) → IsErr result × IsErrAnd result (λ f. f ≡ file_fault_of e)
+    → ReportsFault 64 bytes e → IfErr result (λ f. f ≢ NoMemory → IsNoTermFault bytes f)
+reports_unreadable (Ok file) bytes e is reports = tt
+reports_unreadable (Err f) bytes e is reports = subst (λ (g : FileFault). g ≢ NoMemory → IsNoTermFault bytes g) (sym is.1) (unreadable bytes e reports)
 
 -- a file with no terms
 pub no_terms : (bytes : List ℕ) (all : List Spanned) → length all ≡ 0 → Reads 64 bytes (map reading_of_spanned all) → HasNoTerm bytes (bad_shape 0)

@@ -25,47 +25,47 @@ one_row v f g is also = sym (form_names f.apps) ∙ (ap (λ (s : Sketch). sketch
 -- Why a term is none of a release: it has another shape, a name stands twice, or a version is none.
 pub record IsShapeless (v : Value) (at : ℕ) (f : Fault) : Type 0 where
   pub formless : (form : Form) → IsRelTerm v form → ⊥
-  pub told : f ≡ bad_shape at
+  pub reported : f ≡ bad_shape at
 
 pub record HasTwice (v : Value) (f : Fault) : Type 0 where
   pub form : Form
   pub shape : IsRelTerm v form
   pub name : List ℕ
   pub twice : IsFirstTwice (app_names form) name
-  pub told : f ≡ duplicate name
+  pub reported : f ≡ duplicate name
 
 pub record HasNoVersion (v : Value) (f : Fault) : Type 0 where
   pub form : Form
   pub shape : IsRelTerm v form
   pub distinct : AreDistinct (app_names form)
   pub none : (r : Release) → form ≡ form_of r → HasVersions r → ⊥
-  pub told : f ≡ bad_version
+  pub reported : f ≡ bad_version
 
 abbrev Causes : Value → ℕ → Fault → Type 0
 Causes v at f = IsShapeless v at f ⊎ (HasTwice v f ⊎ HasNoVersion v f)
 
 causes : (v : Value) (at : ℕ) (f : Fault) → HasReleaseTermFault v at f → Causes v at f
 causes v at (bad_term e) h = absurd h
-causes v at (bad_shape place) (none, same) = inl (record { formless = none; told = ap bad_shape same })
-causes v at (duplicate name) (form, shape, twice) = inr (inl (record { form = form; shape = shape; name = name; twice = twice; told = refl }))
-causes v at bad_version (form, shape, distinct, none) = inr (inr (record { form = form; shape = shape; distinct = distinct; none = none; told = refl }))
+causes v at (bad_shape place) (none, same) = inl (record { formless = none; reported = ap bad_shape same })
+causes v at (duplicate name) (form, shape, twice) = inr (inl (record { form = form; shape = shape; name = name; twice = twice; reported = refl }))
+causes v at bad_version (form, shape, distinct, none) = inr (inr (record { form = form; shape = shape; distinct = distinct; none = none; reported = refl }))
 causes v at no_memory h = absurd h
 
 never_all : (v : Value) (f g : Fault) → HasTwice v f → HasNoVersion v g → ⊥
 never_all v f g p q = never_both (app_names q.form) p.name q.distinct (subst (λ ns. IsFirstTwice ns p.name) (one_row v p.form q.form p.shape q.shape) p.twice)
 
 one_cause : (v : Value) (at : ℕ) (f g : Fault) → Causes v at f → Causes v at g → f ≡ g
-one_cause v at f g (inl p) (inl q) = p.told ∙ sym q.told
+one_cause v at f g (inl p) (inl q) = p.reported ∙ sym q.reported
 one_cause v at f g (inl p) (inr (inl q)) = absurd (p.formless q.form q.shape)
 one_cause v at f g (inl p) (inr (inr q)) = absurd (p.formless q.form q.shape)
 one_cause v at f g (inr (inl p)) (inl q) = absurd (q.formless p.form p.shape)
 one_cause v at f g (inr (inr p)) (inl q) = absurd (q.formless p.form p.shape)
 one_cause v at f g (inr (inl p)) (inr (inl q)) =
     let same : p.name ≡ q.name = one_twice (app_names q.form) p.name q.name (subst (λ ns. IsFirstTwice ns p.name) (one_row v p.form q.form p.shape q.shape) p.twice) q.twice in
-    p.told ∙ (ap duplicate same ∙ sym q.told)
+    p.reported ∙ (ap duplicate same ∙ sym q.reported)
 one_cause v at f g (inr (inl p)) (inr (inr q)) = absurd (never_all v f g p q)
 one_cause v at f g (inr (inr p)) (inr (inl q)) = absurd (never_all v g f q p)
-one_cause v at f g (inr (inr p)) (inr (inr q)) = p.told ∙ sym q.told
+one_cause v at f g (inr (inr p)) (inr (inr q)) = p.reported ∙ sym q.reported
 
 one_of_term : (v : Value) (at : ℕ) (f g : Fault) → HasReleaseTermFault v at f → HasReleaseTermFault v at g → f ≡ g
 one_of_term v at f g p q = one_cause v at f g (causes v at f p) (causes v at g q)

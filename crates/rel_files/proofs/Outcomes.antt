@@ -81,22 +81,22 @@ module _ (v : Value) (d : Draft) (as' : List AppDraft) (drafted : Some (sketch_o
   named : names as' ≡ sketch_names (sketch_of d).apps
   named = ap names listed ∙ sym (draft_names d.apps.items)
 
-  pub tells_duplicate : (n m : List ℕ) → IsFirstTwice (names as') n → m ≡ n → (f : Form) × IsRelTerm v f × IsFirstTwice (app_names f) m
-  tells_duplicate n m twice same =
+  pub reports_duplicate : (n m : List ℕ) → IsFirstTwice (names as') n → m ≡ n → (f : Form) × IsRelTerm v f × IsFirstTwice (app_names f) m
+  reports_duplicate n m twice same =
       duplicate v (sketch_of d) m (sym drafted) (subst (IsFirstTwice (sketch_names (sketch_of d).apps)) (sym same) (subst (λ (ns : List (List ℕ)). IsFirstTwice ns n) named twice))
 
   pub no_duplicate : (n : List ℕ) → IsFirstTwice (names as') n → (r : Release) → IsReleaseTerm v r → ⊥
   no_duplicate n twice r is = none_twice v (sketch_of d) r n is (sym drafted) (subst (λ (ns : List (List ℕ)). IsFirstTwice ns n) named twice)
 
-  pub tells_version : AreDistinct (names as') → None ≡ release_in (sketch_of d)
+  pub reports_version : AreDistinct (names as') → None ≡ release_in (sketch_of d)
       → (f : Form) × IsRelTerm v f × AreDistinct (app_names f) × ((r : Release) → f ≡ form_of r → HasVersions r → ⊥)
-  tells_version distinct none = bad_version v (sketch_of d) (sym drafted) (subst AreDistinct named distinct) none
+  reports_version distinct none = bad_version v (sketch_of d) (sym drafted) (subst AreDistinct named distinct) none
 
   pub no_bad_version : None ≡ release_in (sketch_of d) → (r : Release) → IsReleaseTerm v r → ⊥
   no_bad_version none r is = let some = is_release v (sketch_of d) r is (sym drafted) in absurd cc
 
-  pub tells_release : (r : Release) → AreDistinct (names as') → Some r ≡ release_in (sketch_of d) → IsReleaseTerm v r
-  tells_release r distinct some = says v (sketch_of d) r (sym drafted) (subst AreDistinct named distinct) some
+  pub reports_release : (r : Release) → AreDistinct (names as') → Some r ≡ release_in (sketch_of d) → IsReleaseTerm v r
+  reports_release r distinct some = says v (sketch_of d) r (sym drafted) (subst AreDistinct named distinct) some
 
-  pub tells_only : (r : Release) → Some r ≡ release_in (sketch_of d) → (s : Release) → IsReleaseTerm v s → r ≡ s
-  tells_only r some s is = let other = is_release v (sketch_of d) s is (sym drafted) in cc
+  pub reports_only : (r : Release) → Some r ≡ release_in (sketch_of d) → (s : Release) → IsReleaseTerm v s → r ≡ s
+  reports_only r some s is = let other = is_release v (sketch_of d) s is (sym drafted) in cc

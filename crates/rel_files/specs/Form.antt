@@ -39,7 +39,7 @@ abbrev pub ListsIncluded : Value → Option (List (List ℕ)) → Type 0
 ListsIncluded v None = ⊥
 ListsIncluded v (Some names) = (v ≡ atoms_term names) × AllByRecursion IsName names
 
--- what follows an application's version: its start type, permanent if none is written, and the applications included in it
+-- what follows an application's version: its start type, permanent where no type is written, and the applications included in it
 abbrev pub IsEnding : List Value → StartType → Option (List (List ℕ)) → Type 0
 IsEnding [] start included = (start ≡ Permanent) × (included ≡ None)
 IsEnding (v ∷ []) start included = (IsStart v start × (included ≡ None)) ⊎ ((start ≡ Permanent) × ListsIncluded v included)

@@ -13,11 +13,11 @@ use Rattle.rel_files.specs.Fault.Fault.{bad_term, bad_shape}
 abbrev pub HasFileTerm : List ℕ → Value → Type 0
 HasFileTerm bytes v = OneTerm.HasTerm 64 bytes v
 
--- And it begins at this place.
+-- The file has one term, this one, and it begins at this place.
 abbrev pub HasTermAt : List ℕ → ℕ → Value → Type 0
 HasTermAt bytes at v = (r : Reading) × Reads 64 bytes (r ∷ []) × (r.term ≡ v) × (r.from ≡ at)
 
--- told of terms that aren't one: the place of the first, 0 if there is none
+-- reported of terms that aren't one: the place of the first, 0 if there is none
 abbrev pub AreNotOne : List Reading → Fault → Type 0
 AreNotOne [] f = f ≡ bad_shape 0
 AreNotOne (r ∷ []) f = ⊥

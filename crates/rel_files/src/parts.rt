@@ -185,14 +185,13 @@ pub(crate) fn rel_parts(term: &Term) -> Option<RelParts<'_>>
       apps = members_of p.apps.now;
     }) result ≡ rel_parts (value_of term.now) }
 {
-    let Some((word, title, erts, apps)) = four_in(term) else {
-        return None;
-    };
+    let (word, title, erts, apps) = four_in(term)?;
     if !is_word(word, "release") {
         return None;
     }
-    match (title_in(title), erts_in(erts), list_in(apps)) {
-        (Some(title), Some(erts), Some(apps)) => Some(RelParts { title, erts, apps }),
-        _ => None,
-    }
+    Some(RelParts {
+        title: title_in(title)?,
+        erts: erts_in(erts)?,
+        apps: list_in(apps)?,
+    })
 }

@@ -36,7 +36,7 @@ extent_of_none x es none = ap (λ (b : Bool). if b then extent_behind x (boot_si
 pub extent_of_one : (x : Extent) (es : Releases) → has_one_shot es ≡ true → booted_extent x es ≡ extent_behind x (boot_size es)
 extent_of_one x es one = ap (λ (b : Bool). if b then extent_behind x (boot_size es) else x) one
 
--- Where no release is current beside a one-shot, a boot makes of a list what it makes of it as records tell it.
+-- Where no release is current beside a one-shot, a boot makes of a list what it makes of it as records report it.
 module _ (es : Releases) (alone : has_one_shot es ≡ true → recorded es ≡ es) where
   pub booted_recorded : booted (recorded es) ≡ booted es
   booted_recorded = elim (cases_Bool (has_one_shot es)) [
@@ -62,11 +62,11 @@ space_recorded x es alone space one = elim (cases_Bool (has_one_shot es)) [
 pub space_of_recorded : (x : Extent) (es fs : Releases) → (has_one_shot fs ≡ true → recorded fs ≡ fs) → recorded es ≡ recorded fs → HasBootSpace x (recorded es) → HasBootSpace x fs
 space_of_recorded x es fs alone same space one = subst (λ l. HasSpace x (boot_size l)) (same ∙ alone one) (space (ap has_one_shot (same ∙ alone one) ∙ one))
 
--- A list without a one-shot, as records tell it, is the same behind a boot.
+-- A list without a one-shot, as records report it, is the same behind a boot.
 pub booted_still : (es : Releases) → has_one_shot es ≡ false → recorded es ≡ es → booted es ≡ es
 booted_still es none still = boots_as_recorded es none ∙ still
 
--- Two lists that records tell alike differ in nothing that a boot finds.
+-- Two lists that records report alike differ in nothing that a boot finds.
 pub boot_alike : (es fs : Releases) → (has_one_shot es ≡ true → recorded es ≡ es) → (has_one_shot fs ≡ true → recorded fs ≡ fs) → recorded es ≡ recorded fs → BootAlike es fs
 boot_alike es fs alone alone_too same = record {
   recorded = same;

@@ -15,7 +15,7 @@ use Rattle.rel_store.specs.State as store
 use Rattle.rel_store.specs.Records.{records_of}
 use Rattle.rel_handler.specs.Booting.{IsOpened, IsBootOf, IsBooted, IsOldOrBooted, Leaves, BootRecordRefused}
 use Rattle.node_store.specs.Events.{Events, StartsBehind, BeginWith, HasStart, Stored, booted_or_same, uncertain_boot, IsStoredAs}
-use Rattle.node_store.specs.Image.{AreRecordsOf, Extent, booted_extent, extent_of, HasBootSpace, IsImageAt, IsImageOf, IsLeftByBoot, IsStarted, start_slot}
+use Rattle.node_store.specs.Image.{AreRecordsOf, Extent, booted_extent, extent_of, HasBootSpace, IsImageAt, IsImageOf, IsLeftByBoot, IsStarted, start_bytes}
 use Rattle.rel_handler.specs.Laws.{BootAlike}
 use Rattle.rel_handler.specs.Moments.{KeepsStore, SettlesAt, SettlesStore}
 use Rattle.node_store.specs.State.{disk_in, extent_in, list_in, IsReady}
@@ -34,7 +34,7 @@ use Rattle.node_store.proofs.Lists.{list_after-push}
 pub extent_there : {D : Type 0} (v : Ghosts D) (disk : D) (h : NodeStore D) → IsOpened v disk h → extent_in h ≡ extent_of (v.seen disk)
 extent_there v disk h opened = sym (ap (λ bytes. extent_of bytes) (sym opened.only_read.same) ∙ settled_extent v.seen v.may_leave h.store opened.read.store)
 
--- and its store is of the format that these bytes tell
+-- and its store is of the format that these bytes give
 format_there : {D : Type 0} (v : Ghosts D) (disk : D) (h : NodeStore D) → IsOpened v disk h → format_of (v.seen disk) ≡ h.store.format
 format_there v disk h opened = ap (λ bytes. format_of bytes) (sym opened.only_read.same) ∙ sym opened.read.store.format
 
@@ -62,15 +62,15 @@ module _ {D : Type 0} (v : Ghosts D) (disk : D) (h : NodeStore D) (opened : IsOp
   left_by_boot : (c : List ℕ) → IsOldOrBooted v.seen h c → IsLeftByBoot (v.seen disk) c
   left_by_boot c old = record { list = list_in h; was = image_there; left = by_image old }
     where
-      slot_there : start_slot (v.seen (disk_in h)) ≡ start_slot (v.seen disk)
-      slot_there = ap (λ l. start_slot l) opened.only_read.same
+      slot_there : start_bytes (v.seen (disk_in h)) ≡ start_bytes (v.seen disk)
+      slot_there = ap (λ l. start_bytes l) opened.only_read.same
 
       behind : IsImageAt c (booted (list_in h)) (booted_extent (extent_in h) (list_in h)) → IsImageAt c (booted (list_in h)) (booted_extent (extent_of (v.seen disk)) (list_in h))
       behind image = subst (λ x. IsImageAt c (booted (list_in h)) (booted_extent x (list_in h))) far image
 
       by_image : IsOldOrBooted v.seen h c
-          → (IsImageAt c (list_in h) (extent_of (v.seen disk)) × (start_slot c ≡ start_slot (v.seen disk)))
-          ⊎ (IsImageAt c (booted (list_in h)) (booted_extent (extent_of (v.seen disk)) (list_in h)) × ((start_slot c ≡ start_slot (v.seen disk)) ⊎ IsStarted (list_in h) c))
+          → (IsImageAt c (list_in h) (extent_of (v.seen disk)) × (start_bytes c ≡ start_bytes (v.seen disk)))
+          ⊎ (IsImageAt c (booted (list_in h)) (booted_extent (extent_of (v.seen disk)) (list_in h)) × ((start_bytes c ≡ start_bytes (v.seen disk)) ⊎ IsStarted (list_in h) c))
       by_image (inl (inl image, slot)) = inl (subst (IsImageAt c (list_in h)) far image, slot ∙ slot_there)
       by_image (inl (inr image, slot)) = inr (behind image, inl (slot ∙ slot_there))
       by_image (inr (image, right)) = inr (behind image, inr right)
@@ -90,7 +90,7 @@ module _ {D : Type 0} (v : Ghosts D) (disk : D) (h : NodeStore D) (opened : IsOp
           (weakened v.moment v.left_since (disk_in h) new _ (λ c. (c ≡ v.seen disk) ⊎ IsLeftByBoot (v.seen disk) c) (λ c old. inr (left_by_boot c old)) leaves.any_moment);
     }
 
--- What is read is what the bytes stand for, as records tell it.
+-- What is read is what the bytes stand for, as records report it.
 module _ {D : Type 0} (v : Ghosts D) (disk : D) (h : NodeStore D) (opened : IsOpened v disk h) (es : Releases) (image : IsImageOf (v.seen disk) es) (only : list_in h ≡ recorded es) where
   -- so the list behind the boot is that of the bytes
   pub boot_of : (new : NodeStore D) (dead : Bool) → IsBooted v h new → IsBootOf (v.seen disk) es (record { store = new.store; list = new.list; dead = dead })
@@ -112,7 +112,7 @@ module _ {D : Type 0} (v : Ghosts D) (disk : D) (h : NodeStore D) (opened : IsOp
   pub right_there : has_one_shot es ≡ false → IsStarted es (v.seen disk) → (has_one_shot (list_in h) ≡ false) × IsStarted (list_in h) (v.seen (disk_in h))
   right_there none right = (
     ap has_one_shot only ∙ none_recorded es none,
-    started_by es (list_in h) (v.seen disk) (v.seen (disk_in h)) (ap permanent only ∙ permanent-of_recorded es) (ap (λ l. start_slot l) opened.only_read.same) right,
+    started_by es (list_in h) (v.seen disk) (v.seen (disk_in h)) (ap permanent only ∙ permanent-of_recorded es) (ap (λ l. start_bytes l) opened.only_read.same) right,
   )
 
 -- Why there is no record of a boot is why the boot is refused.
@@ -128,7 +128,7 @@ record_refused v disk now h opened boot_error.NotAStore refused = absurd refused
 record_refused v disk now h opened (boot_error.Damaged at) refused = absurd refused
 record_refused v disk now h opened boot_error.Device refused = absurd refused
 
--- A store of one list is one of another that records tell alike.
+-- A store of one list is one of another that records report alike.
 pub image_alike : (c : List ℕ) (es fs : Releases) → recorded es ≡ recorded fs → (has_one_shot fs ≡ true → recorded fs ≡ fs) → IsImageOf c es → IsImageOf c fs
 image_alike c es fs same alone image = record {
   bodies = image.bodies;
@@ -160,10 +160,10 @@ module _ (s : Stored) (bytes : List ℕ) (of : IsStoredAs s bytes) where
   all = list_after-push of.events boot of.list (booted of.list) of.after refl
 
   module _ (c : List ℕ) where
-    moved : start_slot c ≡ start_slot bytes → StartsBehind of.start.before bytes → StartsBehind of.start.before c
+    moved : start_bytes c ≡ start_bytes bytes → StartsBehind of.start.before bytes → StartsBehind of.start.before c
     moved slot (es, after, started) = (es, after, started_by es es bytes c refl slot started)
 
-    same_start : start_slot c ≡ start_slot bytes → HasStart ran of.events c
+    same_start : start_bytes c ≡ start_bytes bytes → HasStart ran of.events c
     same_start slot = record {
       before = of.start.before;
       later = of.start.later;
@@ -173,7 +173,7 @@ module _ (s : Stored) (bytes : List ℕ) (of : IsStoredAs s bytes) where
       starts = moved slot of.start.starts;
     }
 
-    later_start : start_slot c ≡ start_slot bytes → HasStart ran (of.events ++ boot ∷ []) c
+    later_start : start_bytes c ≡ start_bytes bytes → HasStart ran (of.events ++ boot ∷ []) c
     later_start slot = record {
       before = of.start.before;
       later = of.start.later ++ boot ∷ [];
@@ -201,7 +201,7 @@ module _ (s : Stored) (bytes : List ℕ) (of : IsStoredAs s bytes) where
       pub stored_left : IsStoredAs (uncertain_boot ran of.events x) c
       stored_left = by_image left.left
         where
-          by_image : (IsImageAt c left.list x × (start_slot c ≡ start_slot bytes)) ⊎ (IsImageAt c (booted left.list) (booted_extent x left.list) × ((start_slot c ≡ start_slot bytes) ⊎ IsStarted left.list c)) → IsStoredAs (uncertain_boot ran of.events x) c
+          by_image : (IsImageAt c left.list x × (start_bytes c ≡ start_bytes bytes)) ⊎ (IsImageAt c (booted left.list) (booted_extent x left.list) × ((start_bytes c ≡ start_bytes bytes) ⊎ IsStarted left.list c)) → IsStoredAs (uncertain_boot ran of.events x) c
           by_image (inl (image, slot)) = record {
             events = of.events;
             has = (since, inl (refl, image.reaches));

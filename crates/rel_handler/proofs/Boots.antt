@@ -31,7 +31,7 @@ use Rattle.node_store.specs.Events.{Known, doubted, IsNoneOrOfPrefix, IsOfPrefix
 use Rattle.node_store.specs.Start.{start_text}
 use Rattle.node_store.specs.Image.{AreRecordsOf, IsImageOf, IsStarted}
 use Rattle.rel_handler.specs.Moments.{Begins, BeginsAt, BootsTo, SettlesAt}
-use Rattle.rel_handler.specs.Refusals.{told_records, told_create, IsCreateError, MakingRefused}
+use Rattle.rel_handler.specs.Refusals.{reported_records, reported_create, IsCreateError, MakingRefused}
 use Rattle.node_store.specs.State.{store_extent, IsSound}
 use Rattle.rel_handler.specs.declared.error.BootError.{BootError}
 use Rattle.rel_handler.specs.declared.error.BootError.TheVariants as boot
@@ -55,8 +55,8 @@ sound_so seen may_leave of es settled makes_it none started = record {
 }
 
 -- the list is made by the records that were read
-pub makes_so : (told format : ℕ) (bodies records : List (List ℕ)) (es : Releases) → told ≡ format → bodies ≡ records → Makes told bodies es → Makes format records es
-makes_so told format bodies records es of same makes_it = subst (λ f. Makes f records es) of (subst (λ bs. Makes told bs es) same makes_it)
+pub makes_so : (reported format : ℕ) (bodies records : List (List ℕ)) (es : Releases) → reported ≡ format → bodies ≡ records → Makes reported bodies es → Makes format records es
+makes_so reported format bodies records es of same makes_it = subst (λ f. Makes f records es) of (subst (λ bs. Makes reported bs es) same makes_it)
 
 -- the records that were read are those of the bytes
 pub read_so : (c : List ℕ) (bodies records : List (List ℕ)) → bodies ≡ records → records_of c ≡ Ok records → records_of c ≡ Ok bodies
@@ -83,8 +83,8 @@ IsBadOrLack format bodies e = (e ≡ fault.NoMemory) ⊎ ((i : ℕ) × (e ≡ fa
 
 -- bytes that stand for a list have no bad record
 pub only_memory : (c : List ℕ) (bodies records : List (List ℕ)) (es : Releases) (e : RecordsError) → bodies ≡ records → records_of c ≡ Ok records → IsImageOf c es
-    → IsBadOrLack (format_of c) bodies e → IsLack (told_records e)
-only_memory c bodies records es e same read image (inl memory) = inr (ap told_records memory)
+    → IsBadOrLack (format_of c) bodies e → IsLack (reported_records e)
+only_memory c bodies records es e same read image (inl memory) = inr (ap reported_records memory)
 only_memory c bodies records es e same read image (inr (i, is, bad)) =
     let here : image.bodies ≡ bodies = cc (read, image.store, same) in
     absurd (makes_not_bad (format_of c) bodies (recorded es) i (subst (λ bs. Makes (format_of c) bs (recorded es)) here image.list.makes) bad)
@@ -111,7 +111,7 @@ module _ (bytes first : List ℕ) (before now : ℕ) (unwritten : Type 0) where
   is_create_error (store_fault.Damaged at) refused = absurd refused
   is_create_error store_fault.MustReopen refused = absurd refused
 
-  pub making_refused : (e : StoreError) → CreationRefused bytes first before now unwritten e → MakingRefused bytes (length first) before now unwritten (told_create e)
+  pub making_refused : (e : StoreError) → CreationRefused bytes first before now unwritten e → MakingRefused bytes (length first) before now unwritten (reported_create e)
   making_refused store_fault.Exists refused = refused
   making_refused store_fault.Full refused = refused
   making_refused store_fault.Device refused = refused
@@ -146,10 +146,10 @@ pub made_new : (format : ℕ) (p : Bundle) (body : List ℕ) (records : List (Li
 made_new format p body records es fits spelled is listed =
     subst (λ rs. AreRecordsOf format rs es) (sym is) (subst (λ l. AreRecordsOf format (body ∷ []) l) (sym listed) (first_record format p body fits spelled))
 
--- whether a list has a one-shot, by what it tells of it
-pub one_shot_told : {A B : Type 0} (f : A → B) (told : Option (Bor A)) (o : Option B) → option_map f (option_copied told) ≡ o → is_some told ≡ is_some o
-one_shot_told f None o is = ap is_some is
-one_shot_told f (Some x) o is = ap is_some is
+-- whether a list has a one-shot, by what it reports of it
+pub one_shot_reported : {A B : Type 0} (f : A → B) (reported : Option (Bor A)) (o : Option B) → option_map f (option_copied reported) ≡ o → is_some reported ≡ is_some o
+one_shot_reported f None o is = ap is_some is
+one_shot_reported f (Some x) o is = ap is_some is
 
 -- the list behind a boot of an image of a prefix is that of the prefix with a boot behind it
 pub boots_to : (k : Known) (c : List ℕ) (found : Releases) (of : IsOfPrefix k c) → found ≡ booted of.list → BootsTo k found

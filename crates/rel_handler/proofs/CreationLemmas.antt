@@ -1,4 +1,4 @@
--- What is told of a release that is refused for its applications.
+-- What is reported of a release that is refused for its applications.
 use Rattle.std.proofs.Common.{inl, inr, ℕ, List, [], Ok, sym, subst}
 use Rattle.rel_disk.specs.declared.disk.Disk.{Ghosts}
 use Rattle.rel_disk.proofs.Moments.{weakened}
@@ -8,7 +8,7 @@ use Rattle.rel_store.specs.Moments.{IsTornFrom}
 use Rattle.rel_unpack.specs.Source.{Source}
 use Rattle.rel_unpack.specs.Unpacking.{Brought}
 use Rattle.node_store.specs.Events.{Known, doubted}
-use Rattle.node_command.specs.Files.{bundle_brought, made_size, Brings, IsToldAs}
+use Rattle.node_command.specs.Files.{bundle_brought, made_size, Brings, IsReportedAs}
 use Rattle.node_command.specs.Place.{own_refusal}
 use Rattle.rel_handler.specs.Moments.{Begins, WritesNothing}
 use Rattle.rel_handler.specs.Refusals.{MakingRefused}
@@ -24,7 +24,7 @@ module _ {D : Type 0} (v : Ghosts D) (old now : D) (read : HasOnlyRead v.seen v.
   not_begun k = inl (weakened v.moment v.left_since old now (v.may_leave old) (IsTornFrom (v.may_leave old) 0 1) (λ c left. inl left) read.any_moment)
 
   -- so no node was made
-  pub not_made_of : (source : Source) (path : List ℕ) (b : Brought) → Brings source path (Ok b) → (why e : HandlerError) → IsToldAs (own_refusal b) why
+  pub not_made_of : (source : Source) (path : List ℕ) (b : Brought) → Brings source path (Ok b) → (why e : HandlerError) → IsReportedAs (own_refusal b) why
       → IsExistingOr why (v.seen old) (v.failures old) (v.failures now) e → NodeCreationRefused v source path old now e
   not_made_of source path b brings why e of (inl (is, there)) = inr (inr (record {
     brought = b;
@@ -43,4 +43,4 @@ module _ {D : Type 0} (v : Ghosts D) (old now : D) (read : HasOnlyRead v.seen v.
     refused = subst (MakingRefused (v.seen old) (made_size b) (v.failures old) (v.failures now) (WritesNothing v.seen v.may_leave v.moment v.left_since old now)) (sym is) failed;
   }))
   not_made_of source path b brings why e of (inr (inr (is, free))) =
-      inr (inl (record { brought = b; read = brings; free = free; barred = subst (IsToldAs (own_refusal b)) (sym is) of; unwritten = read_alone }))
+      inr (inl (record { brought = b; read = brings; free = free; barred = subst (IsReportedAs (own_refusal b)) (sym is) of; unwritten = read_alone }))

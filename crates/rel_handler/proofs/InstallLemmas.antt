@@ -100,21 +100,21 @@ pub room_for_body : (x : Extent) (size behind : ℕ) → HasSpace x (size + behi
 room_for_body x size behind (short, ends) = (omega (arith, short), omega (arith, ends))
 
 -- What is appended behind a script is what its installation owes.
-module _ (vsn : List ℕ) (es : Releases) (f : FoundForm) (found : installation vsn es ≡ Ok f) (asks : Bool) (told : asks ≡ restarts f.script) where
-  told_so : asks ≡ needs_restart vsn es
-  told_so = told ∙ sym (ap ends_with_restart found)
+module _ (vsn : List ℕ) (es : Releases) (f : FoundForm) (found : installation vsn es ≡ Ok f) (asks : Bool) (reported : asks ≡ restarts f.script) where
+  reported_so : asks ≡ needs_restart vsn es
+  reported_so = reported ∙ sym (ap ends_with_restart found)
 
-  pub event_told : (event : Event) → event ≡ installation_event asks vsn → event ≡ install_event vsn es
-  event_told event is = is ∙ ap (λ b. installation_event b vsn) told_so
+  pub event_reported : (event : Event) → event ≡ installation_event asks vsn → event ≡ install_event vsn es
+  event_reported event is = is ∙ ap (λ b. installation_event b vsn) reported_so
 
-  pub size_told : (size : ℕ) → size ≡ change_size (installation_event asks vsn) es → size ≡ install_size vsn es
-  size_told size is = is ∙ ap (λ b. change_size (installation_event b vsn) es) told_so
+  pub size_reported : (size : ℕ) → size ≡ change_size (installation_event asks vsn) es → size ≡ install_size vsn es
+  size_reported size is = is ∙ ap (λ b. change_size (installation_event b vsn) es) reported_so
 
-  pub room_told : (size room : ℕ) → size ≡ change_size (installation_event asks vsn) es → room ≡ room_behind asks vsn es → size + room ≡ install_room vsn es
-  room_told size room is room_is = ap (λ n. n + room) (size_told size is) ∙ ap (λ n. install_size vsn es + n) (room_is ∙ ap (λ b. room_behind b vsn es) told_so)
+  pub room_reported : (size room : ℕ) → size ≡ change_size (installation_event asks vsn) es → room ≡ room_behind asks vsn es → size + room ≡ install_room vsn es
+  room_reported size room is room_is = ap (λ n. n + room) (size_reported size is) ∙ ap (λ n. install_size vsn es + n) (room_is ∙ ap (λ b. room_behind b vsn es) reported_so)
 
-  pub dead_told : (event : Event) → event ≡ installation_event asks vsn → makes_one_shot event ≡ needs_restart vsn es
-  dead_told event is = ap makes_one_shot is ∙ (event_makes_one_shot asks vsn ∙ told_so)
+  pub dead_reported : (event : Event) → event ≡ installation_event asks vsn → makes_one_shot event ≡ needs_restart vsn es
+  dead_reported event is = ap makes_one_shot is ∙ (event_makes_one_shot asks vsn ∙ reported_so)
 
 module _ {D : Type 0} (failures : D → ℕ) (vsn : List ℕ) (h : NodeStore D) (alive : is_dead h ≡ false) where
   -- there is no script that may begin

@@ -9,13 +9,13 @@ use Rattle.rel_list.specs.Event.{Event, entry, list_after, step}
 use Rattle.rel_list.specs.Event.Event.{made}
 use Rattle.rel_records.specs.Reading.{Spells}
 use Rattle.rel_records.specs.Writing.{record_of, IsWithinLimits}
-use Rattle.rel_records.proofs.EventRecords.{tells}
+use Rattle.rel_records.proofs.EventRecords.{reports}
 use Rattle.rel_records.proofs.FormatLemmas.{allows_without, stands_so}
 use Rattle.rel_store.specs.Creation.{IsNoneOrNew}
 use Rattle.rel_store.specs.Layout.{format_of, slot_with}
 use Rattle.rel_store.proofs.Whole.{sound}
 use Rattle.node_store.specs.Events.{doubted, IsNoneOrOfPrefix, IsOfPrefix, IsPrefix}
-use Rattle.node_store.specs.Image.{AreRecordsOf, extent_of, holds_a_store, IsImageOf, IsStarted, start_slot}
+use Rattle.node_store.specs.Image.{AreRecordsOf, extent_of, holds_a_store, IsImageOf, IsStarted, start_bytes}
 use Rattle.node_store.specs.Start.{started, start_text}
 use Rattle.node_store.proofs.Images.{no_boot_space, none_beside, started_by_text}
 use Rattle.node_store.proofs.Lists.{list_after-push}
@@ -36,12 +36,12 @@ as_after events e es end c after next image =
 -- the first record is that of its release
 pub first_record : (format : ℕ) (p : Bundle) (body : List ℕ) → IsWithinLimits (made p) [] → Spells body (record_of (made p) []) → AreRecordsOf format (body ∷ []) (entry p Permanent ∷ [])
 first_record format p body fits spelled = record {
-  makes = ((record_of (made p) [], entry p Permanent ∷ [], spelled, stands_so format (record_of (made p) []) [] (entry p Permanent ∷ []) (allows_without format (record_of (made p) []) refl) (tells (made p) [] (entry p Permanent ∷ []) tt tt refl fits refl), refl), refl);
+  makes = ((record_of (made p) [], entry p Permanent ∷ [], spelled, stands_so format (record_of (made p) []) [] (entry p Permanent ∷ []) (allows_without format (record_of (made p) []) refl) (reports (made p) [] (entry p Permanent ∷ []) tt tt refl fits refl), refl), refl);
   alone = none_beside (entry p Permanent ∷ []) refl;
 }
 
 -- and so it is in a new node
-pub started_new : (p : Bundle) (start c : List ℕ) → HasVersions p.release → start ≡ start_text p.release → start_slot c ≡ slot_with start → IsStarted (entry p Permanent ∷ []) c
+pub started_new : (p : Bundle) (start c : List ℕ) → HasVersions p.release → start ≡ start_text p.release → start_bytes c ≡ slot_with start → IsStarted (entry p Permanent ∷ []) c
 started_new p start c versions is slot =
     started_by_text (entry p Permanent ∷ []) p.release (started p.release) c (versions.erts, versions.own) refl refl (slot ∙ ap slot_with is)
 

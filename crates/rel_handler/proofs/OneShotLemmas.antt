@@ -14,7 +14,7 @@ use Rattle.rel_store.specs.State as store
 use Rattle.rel_store.specs.declared.store.Store.{Store}
 use Rattle.rel_handler.specs.Booting.{IsBooted, IsOldOrTaken, Leaves}
 use Rattle.node_store.specs.Commits.{IsRecordFor}
-use Rattle.node_store.specs.Image.{AreRecordsOf, boot_size, booted_extent, extent_behind, HasSpace, IsImageAt, start_slot}
+use Rattle.node_store.specs.Image.{AreRecordsOf, boot_size, booted_extent, extent_behind, HasSpace, IsImageAt, start_bytes}
 use Rattle.node_store.specs.State.{disk_in, extent_in, list_in, start_in, store_extent, IsReady}
 use Rattle.node_store.specs.declared.node_store.NodeStore.{NodeStore}
 use Rattle.rel_handler.proofs.BootLists.{booted_still, extent_of_none, extent_of_one}
@@ -24,7 +24,7 @@ use Rattle.node_store.proofs.Images.{either_behind, either_image, no_boot_space,
 module _ {D : Type 0} (v : Ghosts D) (h : NodeStore D) (ready : IsReady v.seen v.may_leave h) where
   -- each image of its disk stands for its list
   pub old_taken : (c : List ℕ) → v.may_leave (disk_in h) c → IsOldOrTaken v.seen h c
-  old_taken c now = (inl (image_now v h ready c now), ap (λ l. start_slot l) (ready.store.durable c now))
+  old_taken c now = (inl (image_now v h ready c now), ap (λ l. start_bytes l) (ready.store.durable c now))
 
   -- nothing was written
   module _ (only_now : (c : List ℕ) → v.left_since (disk_in h) (v.moment (disk_in h)) c → v.may_leave (disk_in h) c) where
@@ -39,7 +39,7 @@ module _ {D : Type 0} (v : Ghosts D) (h : NodeStore D) (ready : IsReady v.seen v
   booted_so still none = record { list = sym (booted_still (list_in h) none still); extent = sym (extent_of_none (extent_in h) (list_in h) none); ready = ready }
 
   -- The record of the boot is appended behind a reservation.
-  module _ (one : has_one_shot (list_in h) ≡ true) (reserved : Store D) (same : store.IsSame h.store reserved) (body : List ℕ) (told : IsRecordFor body boot (list_in h)) (long : length body ≡ boot_size (list_in h)) where
+  module _ (one : has_one_shot (list_in h) ≡ true) (reserved : Store D) (same : store.IsSame h.store reserved) (body : List ℕ) (reported : IsRecordFor body boot (list_in h)) (long : length body ≡ boot_size (list_in h)) where
     abbrev next : Releases
     next = booted (list_in h)
 
@@ -47,7 +47,7 @@ module _ {D : Type 0} (v : Ghosts D) (h : NodeStore D) (ready : IsReady v.seen v
     none = boot_leaves_no_one_shot (list_in h)
 
     are_next : AreRecordsOf h.store.format (store.records_in h.store ++ body ∷ []) next
-    are_next = with_record h.store.format boot (list_in h) next (store.records_in h.store) body ready.list told (λ never. absurd cc) refl
+    are_next = with_record h.store.format boot (list_in h) next (store.records_in h.store) body ready.list reported (λ never. absurd cc) refl
 
     far : extent_behind (extent_in h) (length body) ≡ booted_extent (extent_in h) (list_in h)
     far = ap (extent_behind (extent_in h)) long ∙ sym (extent_of_one (extent_in h) (list_in h) one)

@@ -24,7 +24,7 @@ use Rattle.rel_handler.specs.declared.error.BootError.TheVariants as boot
 use Rattle.node_store.specs.Commits.{HasOldStartOr, Keeps}
 use Rattle.rel_handler.specs.Moments.{HasRead}
 use Rattle.node_store.specs.Start.{started as start_versions}
-use Rattle.node_store.specs.Image.{booted_extent, IsImageAt, IsStarted, start_slot}
+use Rattle.node_store.specs.Image.{booted_extent, IsImageAt, IsStarted, start_bytes}
 use Rattle.node_store.specs.State.{disk_in, extent_in, list_in, start_in, HasStarted, IsReady}
 use Rattle.node_store.specs.declared.node_store.NodeStore.{NodeStore}
 use Rattle.rel_handler.proofs.Boots.{IsLack}
@@ -77,7 +77,7 @@ rests_so v h ready only_now =
 -- The start record was read, and then a one-shot was taken away, if there was one.
 module _ {D : Type 0} (v : Ghosts D) (h mid : NodeStore D) (ready : IsReady v.seen v.may_leave h) (read : HasRead v h mid) where
   slot_same : start_in v.seen mid ≡ start_in v.seen h
-  slot_same = ap (λ l. start_slot l) read.only_read.same
+  slot_same = ap (λ l. start_bytes l) read.only_read.same
 
   -- what a crash leaves so far
   pub reads_alone : Leaves v (IsOldOrBooted v.seen h) (disk_in h) (disk_in mid)
@@ -127,12 +127,12 @@ module _ {D : Type 0} (v : Ghosts D) (h mid : NodeStore D) (ready : IsReady v.se
         right_already spells c now = record {
           release = r;
           listed = listed_then;
-          spells = subst (λ w. SpellsStart (start_slot c) w) of (subst (λ l. SpellsStart l versions) (sym (ap (λ l. start_slot l) (is.ready.store.durable c now) ∙ slot ∙ slot_same)) spells);
+          spells = subst (λ w. SpellsStart (start_bytes c) w) of (subst (λ l. SpellsStart l versions) (sym (ap (λ l. start_bytes l) (is.ready.store.durable c now) ∙ slot ∙ slot_same)) spells);
         }
 
         -- another one is written over
         module _ (new : NodeStore D) (keeps : Keeps v (text_of_start versions) then new) where
-          writing : (c : List ℕ) → HasOldStartOr v.seen then (λ d. start_slot d ≡ slot_with (text_of_start versions)) c → IsOldOrBooted v.seen h c
+          writing : (c : List ℕ) → HasOldStartOr v.seen then (λ d. start_bytes d ≡ slot_with (text_of_start versions)) c → IsOldOrBooted v.seen h c
           writing c (image, at) =
               let there : IsImageBehindBoot h c = subst (IsImageAt c (booted (list_in h))) booted_then.extent (subst (λ l. IsImageAt c l (extent_in then)) booted_then.list image) in
               ⊎_elim (λ old. inl (inr there, old ∙ slot ∙ slot_same)) (λ new. inr (there, started_by_text (list_in h) r versions c are of listed new)) at
@@ -151,7 +151,7 @@ module _ {D : Type 0} (v : Ghosts D) (h mid : NodeStore D) (ready : IsReady v.se
           pub booted_now : IsReady v.seen v.may_leave new → IsBooted v h new
           booted_now now = record { list = keeps.list ∙ booted_then.list; extent = keeps.extent ∙ booted_then.extent; ready = now }
 
-          pub started_now : ((c : List ℕ) → v.may_leave (disk_in new) c → IsImageAt c (list_in new) (extent_in new) × (start_slot c ≡ slot_with (text_of_start versions))) → HasStarted v.may_leave new
+          pub started_now : ((c : List ℕ) → v.may_leave (disk_in new) c → IsImageAt c (list_in new) (extent_in new) × (start_bytes c ≡ slot_with (text_of_start versions))) → HasStarted v.may_leave new
           started_now images c now = started_by_text (list_in new) r versions c are of (ap permanent keeps.list ∙ listed_then) (images c now).1
 
 -- Why a boot doesn't come to its end.

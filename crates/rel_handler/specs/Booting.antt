@@ -10,7 +10,7 @@ use Rattle.rel_records.specs.Lists.{Makes}
 use Rattle.rel_store.specs.Contents.{HasOnlyRead}
 use Rattle.rel_store.specs.State as of_store
 use Rattle.node_store.specs.Commits.{IsRecordFor}
-use Rattle.node_store.specs.Image.{Extent, boot_size, booted_extent, extent_of, HasBootSpace, IsImageAt, IsStarted, start_slot}
+use Rattle.node_store.specs.Image.{Extent, boot_size, booted_extent, extent_of, HasBootSpace, IsImageAt, IsStarted, start_bytes}
 use Rattle.node_store.specs.State.{disk_in, extent_in, format_in, list_in, start_in, IsReady}
 use Rattle.rel_handler.specs.declared.error.BootError.{BootError}
 use Rattle.rel_handler.specs.declared.error.BootError.TheVariants.{BadRecord, Device, NoMemory}
@@ -50,7 +50,7 @@ IsImageBehindBoot h c = IsImageAt c (booted (list_in h)) (booted_extent (extent_
 
 -- They stand for its list, as it is or as it is behind a boot, and have its start slot.
 abbrev pub IsOldOrTaken : {D : Type 0} → (D → List ℕ) → NodeStore D → List ℕ → Type 0
-IsOldOrTaken seen h c = (IsImageAt c (list_in h) (extent_in h) ⊎ IsImageBehindBoot h c) × (start_slot c ≡ start_in seen h)
+IsOldOrTaken seen h c = (IsImageAt c (list_in h) (extent_in h) ⊎ IsImageBehindBoot h c) × (start_bytes c ≡ start_in seen h)
 
 -- So they do, or they stand for its list as it is behind a boot, and have the start record of the permanent release.
 abbrev pub IsOldOrBooted : {D : Type 0} → (D → List ℕ) → NodeStore D → List ℕ → Type 0

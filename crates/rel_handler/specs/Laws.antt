@@ -6,7 +6,7 @@ use Rattle.node_store.specs.Image.{Extent, booted_extent, holds_a_store, IsImage
 use Rattle.rel_handler.specs.Refusals.{IsBootRefusal}
 use Rattle.rel_handler.specs.declared.error.BootError.{BootError}
 
--- The bytes of a disk stand for a list, as records tell it, or a boot refuses them.
+-- The bytes of a disk stand for a list, as records report it, or a boot refuses them.
 abbrev pub BootsOrIsRefused : Type 0
 BootsOrIsRefused =
     (bytes : List ℕ) → ((es : Releases) × IsImageOf bytes es × (recorded es ≡ es)) ⊎ ((why : BootError) × IsBootRefusal bytes why)

@@ -23,8 +23,8 @@ pub record HasRead {D : Type 0} (v : Ghosts D) (old new : NodeStore D) : Type 0 
   pub only_read : HasOnlyRead v.seen v.may_leave v.moment v.left_since (disk_in old) (disk_in new)
   pub counted : v.failures (disk_in old) ≤ v.failures (disk_in new)
 
--- Up to this moment of a creation a crash leaves what it left before the call, but for a torn gate, and the disk is synced then. From
--- it on a crash leaves no store, or one that stands for the list of such a prefix.
+-- Up to this moment of a creation a crash leaves what it left before the call, but for a torn gate, and the disk is synced then.
+-- From it on a crash leaves no store, or one that stands for the list of such a prefix.
 pub record BeginsAt {D : Type 0} (seen : D → List ℕ) (may_leave : D → List ℕ → Type 0) (moment : D → ℕ) (left_since : D → ℕ → List ℕ → Type 0) (k : Known) (old new at : D) : Type 0 where
   pub until : LeavesOnly moment left_since old at (IsTornFrom (may_leave old) 0 1)
   pub synced : Only (seen at) (may_leave at)

@@ -17,7 +17,7 @@ use Rattle.rel_handler.specs.declared.error.BootError.{BootError}
 use Rattle.rel_handler.specs.declared.error.BootError.TheVariants as boot
 use Rattle.node_store.specs.declared.node_store.NodeStore.{NodeStore}
 
--- Why the start isn't told: the handler was dead, memory was refused and it works on, or the device failed and it is dead.
+-- Why the start isn't reported: the handler was dead, memory was refused and it works on, or the device failed and it is dead.
 abbrev pub StartRefused : {D : Type 0} → (D → ℕ) → NodeStore D → NodeStore D → HandlerError → Type 0
 StartRefused failures old new Dead = (is_dead old ≡ true) × IsSame old new
 StartRefused failures old new NoMemory = (is_dead old ≡ false) × (is_dead new ≡ false)
@@ -54,12 +54,12 @@ BootRefused bytes before now boot.Device = HasFailed before now
 BootRefused bytes before now boot.NoMemory = Unit {0}
 BootRefused bytes before now why = IsBootRefusal bytes why
 
--- what a boot tells of a store that isn't opened
-abbrev pub told_boot : StoreError → BootError
-told_boot store.NotAStore = boot.NotAStore
-told_boot (store.Damaged at) = boot.Damaged at
-told_boot store.Device = boot.Device
-told_boot e = boot.NoMemory
+-- what a boot reports of a store that isn't opened
+abbrev pub reported_boot : StoreError → BootError
+reported_boot store.NotAStore = boot.NotAStore
+reported_boot (store.Damaged at) = boot.Damaged at
+reported_boot store.Device = boot.Device
+reported_boot e = boot.NoMemory
 
 abbrev pub IsOpenError : StoreError → Type 0
 IsOpenError store.Exists = ⊥
@@ -67,12 +67,12 @@ IsOpenError store.Full = ⊥
 IsOpenError store.MustReopen = ⊥
 IsOpenError e = Unit {0}
 
--- what is told of a store that isn't made
-abbrev pub told_create : StoreError → HandlerError
-told_create store.Exists = Exists
-told_create store.Full = Full
-told_create store.Device = Device
-told_create e = NoMemory
+-- what is reported of a store that isn't made
+abbrev pub reported_create : StoreError → HandlerError
+reported_create store.Exists = Exists
+reported_create store.Full = Full
+reported_create store.Device = Device
+reported_create e = NoMemory
 
 abbrev pub IsCreateError : StoreError → Type 0
 IsCreateError store.NotAStore = ⊥
@@ -80,7 +80,7 @@ IsCreateError (store.Damaged at) = ⊥
 IsCreateError store.MustReopen = ⊥
 IsCreateError e = Unit {0}
 
--- what a boot tells of records that make no list
-abbrev pub told_records : RecordsError → BootError
-told_records (records.BadRecord i) = boot.BadRecord i
-told_records records.NoMemory = boot.NoMemory
+-- what a boot reports of records that make no list
+abbrev pub reported_records : RecordsError → BootError
+reported_records (records.BadRecord i) = boot.BadRecord i
+reported_records records.NoMemory = boot.NoMemory

@@ -10,7 +10,7 @@ use Rattle.rel_unpack.specs.Source.{Source}
 use Rattle.rel_unpack.specs.Unpacking.{Brought}
 use Rattle.node_store.specs.Commits.{Commits, IsDone}
 use Rattle.node_store.specs.Events.{doubted}
-use Rattle.node_command.specs.Files.{Brings, IsOfFiles, IsToldAs, bundle_brought, made_size, unpacked_size}
+use Rattle.node_command.specs.Files.{Brings, IsOfFiles, IsReportedAs, bundle_brought, made_size, unpacked_size}
 use Rattle.node_command.specs.Place.{files_refusal, own_refusal}
 use Rattle.node_store.specs.Start.{start_text}
 use Rattle.node_store.specs.Image.{extent_behind, first_extent, HasSpace, holds_a_store, IsImageAt}
@@ -39,7 +39,7 @@ pub record IsBarred {D : Type 0} (source : Source) (path : List ℕ) (old new : 
   pub read : Brings source path (Ok brought)
   pub alive : is_dead old ≡ false
   pub fresh : status_of brought.found.release.vsn (list_in old) ≡ None
-  pub barred : IsToldAs (files_refusal brought (list_in old)) e
+  pub barred : IsReportedAs (files_refusal brought (list_in old)) e
   pub same : IsSame old new
 
 -- Its files are not why, and its event was not acknowledged.
@@ -76,7 +76,7 @@ pub record IsNotBegun {D : Type 0} (v : Ghosts D) (source : Source) (path : List
   pub brought : Brought
   pub read : Brings source path (Ok brought)
   pub free : holds_a_store (v.seen disk) ≡ false
-  pub barred : IsToldAs (own_refusal brought) e
+  pub barred : IsReportedAs (own_refusal brought) e
   pub unwritten : WritesNothing v.seen v.may_leave v.moment v.left_since disk now
 
 -- No node was made with what the path brings. But for a store on the disk and a device that failed, its files are not why; and
@@ -96,8 +96,8 @@ NodeCreationRefused v source path disk now e =
     (IsOfFiles source path e × WritesNothing v.seen v.may_leave v.moment v.left_since disk now)
     ⊎ (IsNotBegun v source path disk now e ⊎ IsNotMade v source path disk now e)
 
--- What is told of a release that is refused for its other files, for this reason, on a disk with these bytes: they hold a store, the
--- device has failed, or the reason.
+-- What is reported of a release that is refused for its other files, for this reason, on a disk with these bytes: they hold a
+-- store, the device has failed, or the reason.
 abbrev pub IsExistingOr : HandlerError → List ℕ → ℕ → ℕ → HandlerError → Type 0
 IsExistingOr why bytes before now e =
     ((e ≡ Exists) × (holds_a_store bytes ≡ true)) ⊎ (((e ≡ Device) × HasFailed before now) ⊎ ((e ≡ why) × (holds_a_store bytes ≡ false)))

@@ -18,7 +18,7 @@ ghost use Rattle.rel_handler.specs.Booting.{IsRead, IsOpened, IsBootOf, IsBootRe
 ghost use Rattle.node_store.specs.Events.{Known, IsOfPrefix, Stored, IsStoredAs};
 ghost use Rattle.node_store.specs.Image.{HasBootSpace, IsImageOf, IsImageAt, IsStarted, IsLeftByBoot};
 ghost use Rattle.rel_handler.specs.Moments.{BootsTo, HasRead, IsSynced, KeepsStore};
-ghost use Rattle.rel_handler.specs.Refusals.{BootRefused, told_boot, IsOpenError};
+ghost use Rattle.rel_handler.specs.Refusals.{BootRefused, reported_boot, IsOpenError};
 ghost use Rattle.node_store.specs.State.{disk_in, disk_of, extent_in, format_in, list_in, is_dead, start_in, HasStarted, IsReady, IsSound};
 ghost use Rattle.start_record.specs.Text.{versions_of, SpellsStart};
 
@@ -238,10 +238,10 @@ fn is_same(start: &Start, other: &Start) -> bool
     start.erts.as_str() == other.erts.as_str() && start.vsn.as_str() == other.vsn.as_str()
 }
 
-// What a boot tells of a store that isn't opened.
+// What a boot reports of a store that isn't opened.
 fn boot_error(error: StoreError) -> BootError
     requires { IsOpenError error }
-    ensures { result ≡ told_boot error }
+    ensures { result ≡ reported_boot error }
 {
     match error {
         StoreError::NotAStore => BootError::NotAStore,

@@ -15,7 +15,7 @@ ghost use Rattle.node_command.specs.Place.{own_refusal};
 ghost use Rattle.node_store.specs.Start.{start_text};
 ghost use Rattle.node_store.specs.Image.{extent_behind, first_extent, IsImageAt, holds_a_store, HasSpace};
 ghost use Rattle.rel_handler.specs.Moments.{Begins, BeginsAt, WritesNothing};
-ghost use Rattle.rel_handler.specs.Refusals.{MakingRefused, told_create, IsCreateError};
+ghost use Rattle.rel_handler.specs.Refusals.{MakingRefused, reported_create, IsCreateError};
 ghost use Rattle.node_store.specs.State.{disk_in, disk_of, extent_in, format_in, list_in, is_dead, start_in, IsSound};
 ghost use Rattle.rel_handler.specs.Unpacking.{IsExistingOr, IsMade, NodeCreationRefused};
 ghost use Rattle.rel_unpack.specs.Unpacking.{brought_of};
@@ -120,12 +120,12 @@ impl<D: Disk> Handler<D> {
 }
 
 // Why no node is made with a release that is refused for its applications or its relup, for this reason: a store on the disk is
-// told before it.
+// reported before it.
 fn existing_or<D: Disk>(disk: &mut D, why: HandlerError) -> HandlerError
     ensures read { HasOnlyRead D.seen D.may_leave D.moment D.left_since disk.old disk.new }
     ensures counted { D.failures disk.old ≤ D.failures disk.new }
-    ensures told { IsExistingOr why (D.seen disk.old) (D.failures disk.old) (D.failures disk.new)
-        result }
+    ensures reported { IsExistingOr why (D.seen disk.old) (D.failures disk.old)
+        (D.failures disk.new) result }
 {
     match holds_a_store(disk) {
         Ok(true) => HandlerError::Exists,
@@ -187,10 +187,10 @@ fn start_text(alloc: Global, release: &Rel) -> Result<String, AllocError>
     Ok(text)
 }
 
-// What is told of a store that isn't made.
+// What is reported of a store that isn't made.
 fn create_error(error: StoreError) -> HandlerError
     requires { IsCreateError error }
-    ensures { result ≡ told_create error }
+    ensures { result ≡ reported_create error }
 {
     match error {
         StoreError::Exists => HandlerError::Exists,

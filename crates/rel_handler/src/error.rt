@@ -1,7 +1,7 @@
 // Why a disk isn't booted.
 ghost use Rattle.std.specs.Prelude.{◌≡◌};
 ghost use Rattle.rel_handler.specs.declared.error.BootError.TheVariants as boot;
-ghost use Rattle.rel_handler.specs.Refusals.{told_records};
+ghost use Rattle.rel_handler.specs.Refusals.{reported_records};
 
 use rel_disk::DeviceFault;
 use rel_records::RecordsError;
@@ -14,7 +14,7 @@ use thiserror::Error;
 pub enum BootError {
     /// The disk is no store.
     NotAStore,
-    /// The place of a base slot that tells no place of a record, or of the open gate of a record that isn't whole.
+    /// The place of a base slot that gives no place of a record, or of the open gate of a record that isn't whole.
     Damaged(u64),
     /// The device failed.
     Device,
@@ -61,7 +61,7 @@ impl From<AllocError> for BootError {
 }
 
 impl From<RecordsError> for BootError {
-    ghost from_gives = { λ e b. b ≡ told_records e };
+    ghost from_gives = { λ e b. b ≡ reported_records e };
 
     fn from(error: RecordsError) -> BootError {
         match error {

@@ -80,7 +80,7 @@ impl<D: Disk> Handler<D> {
         }
     }
 
-    /// What the node starts, as its start record tells it: the permanent release, and its version of the runtime system.
+    /// What the node starts, as its start record reports it: the permanent release, and its version of the runtime system.
     /// Reads the disk.
     ///
     /// Refusals: `Dead`, `Device`, behind which the handler is dead, `NoMemory`.
@@ -90,7 +90,7 @@ impl<D: Disk> Handler<D> {
         ensures read { HasRead D.Disk self.old self.new }
         ensures works { OnOk result ((is_dead self.old ≡ false) × (is_dead self.new ≡ false)) }
         ensures format { format_in self.new ≡ format_in self.old }
-        ensures tells { IfOk result (λ start. (r : Release)
+        ensures reports { IfOk result (λ start. (r : Release)
             × (permanent (list_in self.old) ≡ Some r) × (versions_of start ≡ started r)) }
         ensures refused { IfErr result (StartRefused D.failures self.old self.new) }
     {

@@ -33,7 +33,7 @@ impl InstallRecord {
         requires allowed { refusal (installed vsn.now) list.now ≡ None }
         requires versions { HaveVersions list.now }
         ensures event { IfOk result (λ r. event_of r.event ≡ installation_event restarts vsn.now) }
-        ensures told { IfOk result (λ r. IsRecordFor (string_bytes r.body)
+        ensures reported { IfOk result (λ r. IsRecordFor (string_bytes r.body)
             (installation_event restarts vsn.now) list.now) }
         ensures size { IfOk result (λ r. length (string_bytes r.body)
             ≡ change_size (installation_event restarts vsn.now) list.now) }

@@ -32,9 +32,9 @@ impl<D: Disk> Handler<D> {
     /// permanent one. The script is carried out first, then the event is committed, and then a long store is compacted; at `Ok` the
     /// event is acknowledged (`done`). It waits for processes that clients have.
     ///
-    /// Where the script ends with a restart of the runtime system, the release becomes a one-shot, which the next boot starts, once;
-    /// a permanent one stays permanent. The handler is dead until that boot (`dead`). The store becomes one of format 2 (`format`),
-    /// has room for the record of the boot (`room`), and is compacted only where there is no one-shot.
+    /// Where the script ends with a restart of the runtime system, the release becomes a one-shot, which the next boot starts,
+    /// once; a permanent one stays permanent. The handler is dead until that boot (`dead`). The store becomes one of format 2
+    /// (`format`), has room for the record of the boot (`room`), and is compacted only where there is no one-shot.
     ///
     /// Refusals, in this order: `Dead`, `NoSuchRelease`, `AlreadyInstalled`, `NoMatchingRelup`; `Refused` for a script that isn't
     /// run; `Full`; `Refused` for an instruction before the point of no return. Nothing has changed then. `MustReboot` for one

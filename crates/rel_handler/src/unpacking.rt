@@ -35,9 +35,9 @@ impl<D: Disk> Handler<D> {
     ///
     /// All files are read first. Refusals, in this order: `Dead`; `MissingFile`, `BadFile`, `TooMany` for the release's file
     /// or its number of applications; `ExistingRelease`; application by application `MissingFile`, `BadFile`,
-    /// `TooMany`, `VsnMismatch` for its files and `LibDiffers` for the list's library of its name and version; `BadFile`, `NoTable`,
-    /// `TooMany` for the release as a whole; `TooMany` for the node's releases; `BadFile`, `TooMany`, `VsnMismatch` for its
-    /// relup; `Full`. `NoMemory` may come in place of each but the first. Nothing has changed then. `Device` comes only where
+    /// `TooMany`, `VsnMismatch` for its files and `LibDiffers` for the list's library of its name and version; `BadFile`,
+    /// `NoTable`, `TooMany` for the release as a whole; `TooMany` for the node's releases; `BadFile`, `TooMany`, `VsnMismatch` for
+    /// its relup; `Full`. `NoMemory` may come in place of each but the first. Nothing has changed then. `Device` comes only where
     /// the list allows the release and its record fits; then the handler is dead, and the disk stands for its list with the
     /// release or without, and with it the store may be compacted.
     pub fn set_unpacked<F: Files>(

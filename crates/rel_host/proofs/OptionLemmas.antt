@@ -23,7 +23,7 @@ pub value_is : (command : App) (words : List Text) (m : ArgMatches) (id : Text) 
     → first_value (found_of m) id ≡ first_of id (matches_of command words)
 value_is command words m id simple has = first_value-rows (found_of m) id ∙ ap (first_of id) (has simple).0
 
--- clap's error, where it can only be out of memory, is told as this
+-- clap's error, where it can only be out of memory, is reported as this
 pub refusal_is : {T : Type 0} (e : Error) (r : Result T OptionsError) (P : Type 0) → (P → kind_of e ≡ OutOfMemory)
     → IsErrAnd r (λ f. f ≡ refusal_of (kind_of e)) → IfErr r (λ f. P → f ≡ refusal.NoMemory)
 refusal_is e (Ok x) P only given = tt

@@ -27,7 +27,7 @@ all_failures disk = min (2 ^ 64 - 1) (disk.memory.failures + disk.faults)
 abbrev pub broken : FileState → FileState
 broken disk = record disk { faults = min (2 ^ 64 - 1) (disk.faults + 1); is_broken = true }
 
--- the memory has no room for a call, and the file was not touched
+-- the memory has no room for a call, which fails there; the file has not failed
 abbrev pub refused : FileState → FileState
 refused disk = record disk { memory = after_fault disk.memory }
 
@@ -41,7 +41,8 @@ pub record Does (call : Call) (old new : FileState) : Type 0 where
   pub room : HasRoomFor old.memory call
   pub is : new ≡ called call old
 
--- a write or a cut fails: after a fault of the file, for want of room, or by a fault of the file, whose damage is then that of the call
+-- a write or a cut fails: after a fault of the file, for want of room, or by a fault of the file, whose damage is then that of the
+-- call
 abbrev pub Fails : Call → FileState → FileState → Type 0
 Fails call old new = ((old.is_broken ≡ true) × (new ≡ broken old))
     ⊎ ((old.is_broken ≡ false) × (HasRoomFor old.memory call → ⊥) × (new ≡ refused old))

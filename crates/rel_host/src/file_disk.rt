@@ -62,9 +62,9 @@ impl Display for OpenError {
 /// A disk over a file. Reads come from a disk in memory, which has the file's bytes. Sizes are in bytes.
 ///
 /// A write and a cut are noted in memory first, so that the damage that a fault of the file leaves is among the images, and
-/// then done on the file. A call for which the memory has no room fails and doesn't touch the file. A sync is done on the file
-/// first. A fault of the file is a `DeviceFault`, and from then on every write, cut and sync fails. Reads still answer: they
-/// give what the memory has, which is one of the images.
+/// then done on the file: one for which the memory has no room fails and doesn't touch it. A sync is done on the file first, and
+/// fails too where the memory has no room to note it. A fault of the file is a `DeviceFault`, and from then on every write, cut
+/// and sync fails. Reads still answer: they give what the memory has, which is one of the images.
 ///
 /// No clause can name the bytes of the file itself. That it has what the memory has, and that a crash leaves of it one of
 /// the images, is trusted. So it is a premise that bytes that were not written since the last sync stay over a crash, also
@@ -182,9 +182,7 @@ impl Disk for FileDisk {
         if self.is_broken {
             return self.fail();
         }
-        if self.memory.write_at(at, bytes).is_err() {
-            return Err(DeviceFault);
-        }
+        self.memory.write_at(at, bytes)?;
         if self.file.write_all_at(bytes, at).is_err() {
             return self.fail();
         }
@@ -207,9 +205,7 @@ impl Disk for FileDisk {
         if self.is_broken {
             return self.fail();
         }
-        if self.memory.cut(len).is_err() {
-            return Err(DeviceFault);
-        }
+        self.memory.cut(len)?;
         if self.file.set_len(len).is_err() {
             return self.fail();
         }

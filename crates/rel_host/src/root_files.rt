@@ -13,9 +13,9 @@ const MOST_BYTES: usize = 1_048_576;
 
 /// Files by their paths below a folder. Without a folder, or with one of the empty name, there is none.
 ///
-/// A path is Missing where it doesn't lead below the folder ([`is_below`]), where nothing is there, and where it goes through a
-/// file that is no folder. A folder, and what can't be read, is Unreadable. Of a longer file than 1,048,576 bytes one byte more
-/// is read at most. Symbolic links are followed, so what they lead to may be outside.
+/// A path is Missing where it doesn't lead below the folder ([`is_below`]), where nothing is there, where it goes through a file
+/// that is no folder, and where a name in it is too long for the host. A folder, and what can't be read, is Unreadable. Of a longer
+/// file than 1,048,576 bytes one byte more is read at most. Symbolic links are followed, so what they lead to may be outside.
 #[derive(Drop)]
 pub struct RootFiles<R: rt::Files + Drop> {
     host: R,

@@ -1,4 +1,4 @@
--- Which events lead to a list with a one-shot, and what records tell of it.
+-- Which events lead to a list with a one-shot, and what records report of it.
 use Rattle.std.proofs.Common.{◌≡◌, ℕ, Bool, true, false, List, [], ◌∷◌, ◌++◌, Some, refl, ◌∙◌, subst, true≢false, if◌then◌else◌}
 use Rattle.std.specs.Str.{bytes_eq}
 use Rattle.rel_list.specs.declared.status.Status.{Status}
@@ -74,7 +74,7 @@ none-own boot es next other free is = let same : booted es ≡ next = cc is in s
 pub one_shots_come_from_restarts : OneShotsComeFromRestarts
 one_shots_come_from_restarts e es next other is = let own = own_of_step e es next is in none-own e es next other own.0 own.1
 
--- Behind an installation with a restart no release is current, so records tell the list as it is.
+-- Behind an installation with a restart no release is current, so records report the list as it is.
 none-current : (b : Bool) (s : Status) → recorded_status (restarted_status b s) ≡ restarted_status b s
 none-current true Unpacked = refl
 none-current true Current = refl
@@ -98,7 +98,7 @@ restarts_are_recorded v es next is =
     let own = own_of_step (restart_installed v) es next is in
     subst (λ l. recorded l ≡ l) (allowed (may_be_installed (has_current es) (status_of v es)) (list_restarted v es) next own.1).1 (restarted_as_recorded v es)
 
--- Where a list has none, a boot makes of it what records tell of it.
+-- Where a list has none, a boot makes of it what records report of it.
 pub boots_as_recorded : (es : Releases) → has_one_shot es ≡ false → booted es ≡ recorded es
 boots_as_recorded [] none = refl
 boots_as_recorded (e ∷ es) none = let apart = first_is_none e es none in λ k. record e { status = own e.status apart.0 k } ∷ boots_as_recorded es apart.1 k
@@ -110,7 +110,7 @@ boots_as_recorded (e ∷ es) none = let apart = first_is_none e es none in λ k.
     own Permanent none = refl
     own OneShot none = absurd (true≢false none)
 
--- records tell as many one-shots as there are
+-- records report as many one-shots as there are
 pub one_shot-recorded : (s : Status) → is_one_shot (recorded_status s) ≡ is_one_shot s
 one_shot-recorded Unpacked = refl
 one_shot-recorded Current = refl

@@ -3,7 +3,7 @@ use Rattle.std.proofs.Common.{◌≡◌, ◌≢◌, ◌↔◌, Bool, true, false
 use Rattle.rel_list.specs.declared.status.Status.{Status}
 use Rattle.rel_list.specs.declared.status.Status.TheVariants.{Unpacked, Current, Old, Permanent, OneShot}
 use Rattle.rel_list.specs.declared.fault.ListError.{ListError}
-use Rattle.rel_list.specs.declared.fault.ListError.TheVariants as told
+use Rattle.rel_list.specs.declared.fault.ListError.TheVariants as reported
 use Rattle.rel_list.specs.Status.{is_current, is_old, is_permanent, runs}
 use Rattle.rel_list.specs.Releases.{Releases, first_different, status_of, has_current}
 use Rattle.rel_list.specs.Event.{Event, may_be_installed, may_be_made_permanent, may_be_removed, may_be_rebooted, list_installed, list_restarted, list_made_permanent, without, own_step, step, waits_for_boot}
@@ -25,7 +25,7 @@ refuses : (error : ListError) → (Some error ≡ None) ↔ (no_list ≢ None)
 refuses error = (λ e. cc, λ n. absurd (n refl))
 
 by_installation : (other : Bool) (o : Option Status) (es : Releases)
-    → (listed_refusal (λ s. if runs other s then Some told.AlreadyInstalled else None) o ≡ None) ↔ ((if may_be_installed other o then Some es else None) ≢ None)
+    → (listed_refusal (λ s. if runs other s then Some reported.AlreadyInstalled else None) o ≡ None) ↔ ((if may_be_installed other o then Some es else None) ≢ None)
 by_installation other None es = refuses _
 by_installation other (Some Unpacked) es = allows es
 by_installation other (Some Current) es = refuses _
@@ -35,7 +35,7 @@ by_installation false (Some Permanent) es = refuses _
 by_installation other (Some OneShot) es = refuses _
 
 by_permanence : (o : Option Status) (es : Releases)
-    → (listed_refusal (λ s. if is_current s then None else Some (told.BadStatus s)) o ≡ None) ↔ ((if may_be_made_permanent o then Some es else None) ≢ None)
+    → (listed_refusal (λ s. if is_current s then None else Some (reported.BadStatus s)) o ≡ None) ↔ ((if may_be_made_permanent o then Some es else None) ≢ None)
 by_permanence None es = refuses _
 by_permanence (Some Unpacked) es = refuses _
 by_permanence (Some Current) es = allows es
@@ -44,7 +44,7 @@ by_permanence (Some Permanent) es = refuses _
 by_permanence (Some OneShot) es = refuses _
 
 by_removal : (other : Bool) (o : Option Status) (es : Releases)
-    → (listed_refusal (λ s. if is_permanent s then Some told.Permanent else if runs other s then Some told.Running else None) o ≡ None)
+    → (listed_refusal (λ s. if is_permanent s then Some reported.Permanent else if runs other s then Some reported.Running else None) o ≡ None)
     ↔ ((if may_be_removed o then Some es else None) ≢ None)
 by_removal other None es = refuses _
 by_removal other (Some Unpacked) es = allows es
@@ -54,7 +54,7 @@ by_removal other (Some Permanent) es = refuses _
 by_removal other (Some OneShot) es = refuses _
 
 by_reboot : (o : Option Status) (es : Releases)
-    → (listed_refusal (λ s. if is_old s then None else Some (told.BadStatus s)) o ≡ None) ↔ ((if may_be_rebooted o then Some es else None) ≢ None)
+    → (listed_refusal (λ s. if is_old s then None else Some (reported.BadStatus s)) o ≡ None) ↔ ((if may_be_rebooted o then Some es else None) ≢ None)
 by_reboot None es = refuses _
 by_reboot (Some Unpacked) es = refuses _
 by_reboot (Some Current) es = refuses _
@@ -63,7 +63,7 @@ by_reboot (Some Permanent) es = refuses _
 by_reboot (Some OneShot) es = refuses _
 
 by_fit : (listed different : Bool) (es : Releases)
-    → ((if listed then Some told.ExistingRelease else if different then Some told.LibDiffers else None) ≡ None) ↔ ((if listed || different then None else Some es) ≢ None)
+    → ((if listed then Some reported.ExistingRelease else if different then Some reported.LibDiffers else None) ≡ None) ↔ ((if listed || different then None else Some es) ≢ None)
 by_fit true different es = refuses _
 by_fit false true es = refuses _
 by_fit false false es = allows es
@@ -82,6 +82,6 @@ by_own_rule boot es = allows _
 pub refused_where_not_allowed : (e : Event) (es : Releases) → (refusal e es ≡ None) ↔ (step e es ≢ None)
 refused_where_not_allowed e es = go (waits_for_boot e es)
   where
-    go : (b : Bool) → ((if b then Some (told.BadStatus OneShot) else own_refusal e es) ≡ None) ↔ ((if b then None else own_step e es) ≢ None)
+    go : (b : Bool) → ((if b then Some (reported.BadStatus OneShot) else own_refusal e es) ≡ None) ↔ ((if b then None else own_step e es) ≢ None)
     go true = refuses _
     go false = by_own_rule e es

@@ -1,4 +1,4 @@
--- Events lead from a list as records tell it to each other one of the same releases.
+-- Events lead from a list as records report it to each other one of the same releases.
 use Rattle.std.proofs.Common.{◌≡◌, ◌⊎◌, ℕ, ◌≤◌, Bool, true, false, cond, List, [], ◌∷◌, ◌++◌, length, map, Option, Some, None, is_some, inl, inr, refl, sym, ap, subst, ◌∙◌, true≢false, arith}
 use Rattle.std.specs.Option.{option_map}
 use Rattle.std.specs.Str.{bytes_eq}
@@ -158,19 +158,19 @@ settle next v p old es true (Some s) false found is listed rest = (
 
 -- The form of a list at rest
 
--- which releases are old, as the statuses of a list tell it
-abbrev told_by : Releases → (List ℕ → Bool) → List ℕ → Bool
-told_by [] old = old
-told_by (e ∷ es) old = but e.release.vsn (is_old e.status) (told_by es old)
+-- which releases are old, as the statuses of a list report it
+abbrev reported_by : Releases → (List ℕ → Bool) → List ℕ → Bool
+reported_by [] old = old
+reported_by (e ∷ es) old = but e.release.vsn (is_old e.status) (reported_by es old)
 
 -- so do all these releases
 settle_all : (next : Releases) (p : List ℕ) (old : List ℕ → Bool) (es ns : Releases) → is_some (status_of p es) ≡ true
-    → Leads next (resting p (told_by ns old) es) → Leads next (resting p old es)
+    → Leads next (resting p (reported_by ns old) es) → Leads next (resting p old es)
 settle_all next p old es [] listed rest = rest
 settle_all next p old es (n ∷ ns) listed rest =
-    settle_all next p old es ns listed (settle next n.release.vsn p (told_by ns old) es (is_old n.status) _ _ refl refl listed rest)
+    settle_all next p old es ns listed (settle next n.release.vsn p (reported_by ns old) es (is_old n.status) _ _ refl refl listed rest)
 
--- what tells a status at rest
+-- what reports a status at rest
 own_status : (s : Status) → booted_status s ≡ s → rest_status (is_permanent s) (is_old s) ≡ s
 own_status Unpacked same = refl
 own_status Current same = cc
@@ -178,17 +178,17 @@ own_status Old same = refl
 own_status Permanent same = refl
 own_status OneShot same = cc
 
--- the version of the permanent release, and what the statuses tell of the others, give the list
+-- the version of the permanent release, and what the statuses report of the others, give the list
 abbrev HasForm : List ℕ → Releases → Type 0
-HasForm p es = (old : List ℕ → Bool) → resting p (told_by es old) es ≡ es
+HasForm p es = (old : List ℕ → Bool) → resting p (reported_by es old) es ≡ es
 
 form-cons : (p : List ℕ) (e : Entry) (es : Releases) → HasDistinctVersions (e ∷ es) → booted (e ∷ es) ≡ e ∷ es
     → is_permanent e.status ≡ bytes_eq p e.release.vsn → HasForm p es → HasForm p (e ∷ es)
 form-cons p e es distinct same permanent form old =
     let unchanged : record e { status = booted_status e.status } ≡ e = cc same in
-    let own : rest_status (bytes_eq p e.release.vsn) (told_by (e ∷ es) old e.release.vsn) ≡ e.status =
+    let own : rest_status (bytes_eq p e.release.vsn) (reported_by (e ∷ es) old e.release.vsn) ≡ e.status =
     rw (is_itself e.release.vsn) (rw (sym permanent) (own_status e.status (ap (λ (f : Entry). f.status) unchanged))) in
-    let behind = but-unlisted e.release.vsn p (is_old e.status) (told_by es old) es distinct.0 ∙ form old in
+    let behind = but-unlisted e.release.vsn p (is_old e.status) (reported_by es old) es distinct.0 ∙ form old in
     λ k. record e { status = own k } ∷ behind k
 
 -- where no release is permanent, each version that isn't listed serves
@@ -201,8 +201,8 @@ form-none p (e ∷ es) distinct same count none = elim (cases_Bool (is_permanent
 ]
 
 -- a version that is listed, and one that isn't
-told_apart : (p v : List ℕ) (es : Releases) → is_some (status_of p es) ≡ true → status_of v es ≡ None → bytes_eq p v ≡ false
-told_apart p v es listed none = elim (cases_Bool (bytes_eq p v)) [
+reported_apart : (p v : List ℕ) (es : Releases) → is_some (status_of p es) ≡ true → status_of v es ≡ None → bytes_eq p v ≡ false
+reported_apart p v es listed none = elim (cases_Bool (bytes_eq p v)) [
   | inl is ↦ absurd (true≢false (sym listed ∙ ap (λ w. is_some (status_of w es)) (same_version p v is) ∙ ap is_some none))
   | inr is ↦ is
 ]
@@ -219,7 +219,7 @@ form-one (e ∷ es) distinct same count = elim (cases_Bool (is_permanent e.statu
         (form-none e.release.vsn es distinct.1 (cc same) (omega (arith, none_more)) distinct.0),
   )
   | inr is ↦ let r = form-one es distinct.1 (cc same) (rw is at count) in
-      let differ : bytes_eq r.0 e.release.vsn ≡ false = told_apart r.0 e.release.vsn es r.1 distinct.0 in
+      let differ : bytes_eq r.0 e.release.vsn ≡ false = reported_apart r.0 e.release.vsn es r.1 distinct.0 in
       (r.0, rw differ r.1, form-cons r.0 e es distinct same (is ∙ sym differ) r.2)
 ]
 
@@ -233,7 +233,7 @@ rest_reached : (es next : Releases) → IsAtRest es → IsAtRest next → bundle
 rest_reached es next here there same =
     let f = form-one es here.distinct here.as_booted here.one_permanent in
     let t = form-one next there.distinct there.as_booted there.one_permanent in
-    let old : List ℕ → Bool = told_by es (λ w. false) in
+    let old : List ℕ → Bool = reported_by es (λ w. false) in
     let from : resting f.0 old next ≡ es =
     given-bundles _ next ∙ ap (map (λ (p : Bundle). entry p (rest_status (bytes_eq f.0 p.release.vsn) (old p.release.vsn)))) same ∙ sym (given-bundles _ es) ∙ f.2 (λ w. false) in
     let settled : (before : List ℕ → Bool) → Leads next (resting t.0 before next) =
@@ -333,7 +333,7 @@ one_shot_form (e ∷ es) distinct same few = elim (cases_Bool (is_temporary e.st
       })
   | inr is ↦ elim (one_shot_form es distinct.1 (cc same) (rw is at few)) [
     | inl none ↦ inl (rw (not_temporary e.status is) none)
-    | inr f ↦ let differ : bytes_eq f.vsn e.release.vsn ≡ false = told_apart f.vsn e.release.vsn es (ap is_some f.found) distinct.0 in
+    | inr f ↦ let differ : bytes_eq f.vsn e.release.vsn ≡ false = reported_apart f.vsn e.release.vsn es (ap is_some f.found) distinct.0 in
         let own : restarted_status (bytes_eq f.vsn e.release.vsn) (booted_status (booted_status e.status)) ≡ e.status = rw differ (calm_status e.status is) in
         let behind = f.form in
         inr (record { vsn = f.vsn; found = rw differ f.found; form = λ k. record e { status = own k } ∷ behind k })

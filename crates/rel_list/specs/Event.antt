@@ -134,7 +134,7 @@ without v (e ∷ es) = if bytes_eq v e.release.vsn then es else e ∷ without v 
 abbrev pub booted : Releases → Releases
 booted es = map (λ (e : Entry). record e { status = booted_status e.status }) es
 
--- the list as records tell it: current as unpacked, and a one-shot as it is
+-- the list as records report it: current as unpacked, and a one-shot as it is
 abbrev pub recorded : Releases → Releases
 recorded es = map (λ (e : Entry). record e { status = recorded_status e.status }) es
 

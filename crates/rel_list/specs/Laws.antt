@@ -41,7 +41,7 @@ makes_one_shot e = false
 abbrev pub OneShotsComeFromRestarts : Type 0
 OneShotsComeFromRestarts = (e : Event) (es next : Releases) → makes_one_shot e ≡ false → step e es ≡ Some next → has_one_shot next ≡ false
 
--- Behind an installation with a restart records tell the list as it is.
+-- Behind an installation with a restart records report the list as it is.
 abbrev pub RestartsAreRecorded : Type 0
 RestartsAreRecorded = (v : List ℕ) (es next : Releases) → step (restart_installed v) es ≡ Some next → recorded next ≡ next
 
@@ -70,7 +70,7 @@ RefusedWhereNotAllowed = (e : Event) (es : Releases) → (refusal e es ≡ None)
 abbrev pub bundles_of : Releases → List Bundle
 bundles_of es = map bundle_in es
 
--- No version stands twice, the list is as records tell it, exactly one release is permanent, and at most one is a one-shot.
+-- No version stands twice, the list is as records report it, exactly one release is permanent, and at most one is a one-shot.
 pub record IsRecorded (es : Releases) : Type 0 where
   pub distinct : HasDistinctVersions es
   pub as_recorded : recorded es ≡ es

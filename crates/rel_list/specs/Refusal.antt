@@ -34,7 +34,8 @@ own_refusal (removed v) es =
 own_refusal (reboot_old v) es = listed_refusal (λ s. if is_old s then None else Some (BadStatus s)) (status_of v es)
 own_refusal boot es = None
 
--- Why the list doesn't allow an event: beside a one-shot all but a boot is refused for that, and else the event's own rule tells it.
+-- Why the list doesn't allow an event: beside a one-shot all but a boot is refused for that, and else the event's own rule reports
+-- it.
 abbrev pub refusal : Event → Releases → Option ListError
 refusal e es = if waits_for_boot e es then Some (BadStatus OneShot) else own_refusal e es
 

@@ -26,7 +26,7 @@ pub fn only_a_restart_makes_a_one_shot()
     ensures { OneShotsComeFromRestarts }
 {}
 
-/// Behind an installation whose script ends with a restart, records tell the list as it is: no release is current then.
+/// Behind an installation whose script ends with a restart, records report the list as it is: no release is current then.
 pub fn a_restart_is_recorded_as_it_is()
     ensures { RestartsAreRecorded }
 {}
@@ -56,7 +56,7 @@ pub fn an_event_is_refused_where_it_is_not_allowed()
     ensures { RefusedWhereNotAllowed }
 {}
 
-/// Events lead from a list as records tell it to each other one of the same releases in the same order.
+/// Events lead from a list as records report it to each other one of the same releases in the same order.
 pub fn a_recorded_list_is_reached()
     ensures { RecordedListsAreReached }
 {}

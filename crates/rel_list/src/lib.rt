@@ -8,7 +8,7 @@
 //! `boot_events` gives all that a boot would change.
 //! The functions of `laws` say of these definitions alone that versions are distinct, that one release is permanent and at most
 //! one is current or a one-shot, that a boot undoes nothing but installations and leaves no one-shot, and that events lead from a
-//! list as records tell it to each other one of the same releases.
+//! list as records report it to each other one of the same releases.
 //! Only tested: that an event is accepted where memory is there, and the texts of the refusals. Trusted: the toolchain,
 //! `indexmap`, of whose look-up by version no clause speaks, and `thiserror`.
 #![tactic(auto)]

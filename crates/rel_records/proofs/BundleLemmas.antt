@@ -12,7 +12,7 @@ use Rattle.rel_list.proofs.RefusalLaws.{refused_where_not_allowed}
 use Rattle.rel_records.specs.Parts.{fault_of_list}
 use Rattle.rel_records.specs.declared.fault.RecordFault.{RecordFault}
 use Rattle.rel_records.specs.declared.fault.RecordFault.TheVariants.{Bad}
-use Rattle.rel_records.proofs.ReadingLemmas.{told_bad}
+use Rattle.rel_records.proofs.ReadingLemmas.{reported_bad}
 
 -- an event that the list refuses is no step
 not_taken : (e : Event) (es : Releases) (why : ListError) → refusal e es ≡ Some why → step e es ≡ None
@@ -41,11 +41,11 @@ module _ (allowed : Bool) (brings : Bundle → Event) (es : Releases) (brought :
 
   -- the list refuses what it brings
   pub not_accepted : {T : Type 0} (p : Bundle) → brought ≡ Some p → (why : ListError) → IsRefusedWith (brings p) es why
-      → (told : Result T RecordFault) → IsErr told × IsErrAnd told (λ e. e ≡ fault_of_list why) → IsErrOf told Bad → taken ≡ None
-  not_accepted p is why refused told of bad = go allowed
+      → (reported : Result T RecordFault) → IsErr reported × IsErrAnd reported (λ e. e ≡ fault_of_list why) → IsErrOf reported Bad → taken ≡ None
+  not_accepted p is why refused reported of bad = go allowed
     where
       go : (b : Bool) → (if b then option_and_then (λ p. step (brings p) es) brought else None) ≡ None
-      go true = ap (option_and_then (λ p. step (brings p) es)) is ∙ refused_step (brings p) es why refused (told_bad told (fault_of_list why) of bad)
+      go true = ap (option_and_then (λ p. step (brings p) es)) is ∙ refused_step (brings p) es why refused (reported_bad reported (fault_of_list why) of bad)
       go false = cc
 
   -- the list takes it

@@ -18,7 +18,7 @@ use Rattle.rel_records.specs.Lists.{own_or_next, next_library, completed, HaveLi
 use Rattle.rel_records.specs.Writing.{new_libraries, IsComplete}
 use Rattle.rel_records.proofs.RecordPlaces.{IsOfRecord}
 
--- A list has the same libraries as records tell it.
+-- A list has the same libraries as records report it.
 library_in-recorded : (es : Releases) (name vsn : List ℕ) → library_in (recorded es) name vsn ≡ library_in es name vsn
 library_in-recorded es name vsn = ap (library_at name vsn) (libraries-recorded es)
 

@@ -53,7 +53,7 @@ module _ (P : Entry → Type 0) where
 
   -- It holds whatever the status is.
   module _ (still : (e : Entry) (s : Status) → P e → P (record e { status = s })) where
-    -- it held of the list that records tell so
+    -- it held of the list that records report so
     pub each-of_recorded : (es : Releases) → AllByRecursion P (recorded es) → AllByRecursion P es
     each-of_recorded [] all = tt
     each-of_recorded (e ∷ es) all = (still (record e { status = recorded_status e.status }) e.status all.0, each-of_recorded es all.1)

@@ -1,4 +1,4 @@
--- The record of an event makes of a list what the event makes of it, each as records tell it.
+-- The record of an event makes of a list what the event makes of it, each as records report it.
 use Rattle.std.proofs.Common.{◌≡◌, ℕ, ◌<◌, Bool, true, false, cond, List, [], ◌∷◌, ◌++◌, length, map, filter, Option, Some, None, is_some, suc, inl, inr, refl, sym, ap, subst, ◌∙◌, find, true≢false, arith, if◌then◌else◌}
 use Rattle.std.specs.Prelude.{◌&&◌, ◌||◌, not, nat_lt, ◌==◌}
 use Rattle.std.specs.List.{AllByRecursion}
@@ -24,8 +24,8 @@ use Rattle.rel_list.proofs.Orderly.{status_or, same_version, is_itself, differs_
 use Rattle.rel_records.specs.Limits.{has_one_permanent, is_small, most_releases}
 use Rattle.rel_records.specs.Record.{Assignment, Record, makes, adds, assigns, removes, images}
 use Rattle.rel_records.specs.Lists.{may_be_assigned, assign_all, completed, if_faultless, brought_by, taken_by, with_one_permanent, assigned, HaveLibraries}
-use Rattle.rel_records.specs.Writing.{is_same, is_changed, assignment_of, changes, new_libraries, record_of, IsComplete, IsWithinLimits, IsOfListed, Tells}
-use Rattle.rel_records.specs.Laws.{IsOfEvent, IsOfOneRelease, RecordsAreOfEvents, RecordsTellEvents}
+use Rattle.rel_records.specs.Writing.{is_same, is_changed, assignment_of, changes, new_libraries, record_of, IsComplete, IsWithinLimits, IsOfListed, Reports}
+use Rattle.rel_records.specs.Laws.{IsOfEvent, IsOfOneRelease, RecordsAreOfEvents, RecordsDetermineEvents}
 use Rattle.rel_records.specs.Reading.{Says}
 use Rattle.library.proofs.TermCases.{are_libraries}
 use Rattle.rel_list.proofs.RestLaws.{not_temporary}
@@ -37,7 +37,7 @@ one-recorded es =
     ap (λ n. n == 1)
     (just_as_many (λ vsn s. recorded_status s) (λ (e : Entry). is_permanent e.status) (λ (e : Entry). is_permanent e.status) (λ (e : Entry). permanent-recorded e.status) es)
 
--- a status is told once as it is told twice
+-- a status is reported once as it is reported twice
 recorded_status-twice : (s : Status) → recorded_status (recorded_status s) ≡ recorded_status s
 recorded_status-twice Unpacked = refl
 recorded_status-twice Current = refl
@@ -53,7 +53,7 @@ pub length-recorded : (es : Releases) → length (recorded es) ≡ length es
 length-recorded [] = refl
 length-recorded (e ∷ es) = ap suc (length-recorded es)
 
--- the status of a release as records tell it
+-- the status of a release as records report it
 pub status_of-recorded : (v : List ℕ) (es : Releases) → status_of v (recorded es) ≡ option_map recorded_status (status_of v es)
 status_of-recorded v [] = refl
 status_of-recorded v (e ∷ es) = go (bytes_eq v e.release.vsn) (status_of-recorded v es)
@@ -126,7 +126,7 @@ unassigned v t [] none = refl
 unassigned v t (x ∷ es) none =
     ap (λ b. record x { status = assigned_status t b x.status } ∷ list_assigned v t es) (first_differs v x es none) ∙ ap (λ l. x ∷ l) (unassigned v t es (none_behind v x es none))
 
--- records never tell that a release is current
+-- records never report that a release is current
 pub never_current : (s : Status) → not (is_current (recorded_status s)) ≡ true
 never_current Unpacked = refl
 never_current Current = refl
@@ -134,7 +134,7 @@ never_current Old = refl
 never_current Permanent = refl
 never_current OneShot = refl
 
--- a status that records tell may be assigned, where it is no one-shot
+-- a status that records report may be assigned, where it is no one-shot
 given-recorded : (s : Status) (v : List ℕ) (es : Releases) → is_one_shot s ≡ false → may_be_given (recorded_status s) v es ≡ is_some (status_of v es)
 given-recorded Unpacked v es none = refl
 given-recorded Current v es none = refl
@@ -187,7 +187,7 @@ module _ (e : Event) where
       (is_changed e x ≡ true → is_one_shot (after x) ≡ true → has_other_temporary x.release.vsn (recorded es) ≡ false)
       × AreApartFrom (recorded_status (after x)) (changes e es) × AreApart es
 
-  -- the changed statuses, assigned to the list as records tell it
+  -- the changed statuses, assigned to the list as records report it
   changes_so : (es : Releases) → HasDistinctVersions es → AreApart es → assign_all (changes e es) (recorded es) ≡ Some (recorded (behind es))
   changes_so [] distinct apart = refl
   changes_so (x ∷ es) distinct apart = go (changes_so es distinct.1 apart.2) (is_changed e x) refl
@@ -250,7 +250,7 @@ never-permanent false OneShot changed = absurd cc
 
 -- Behind a restart of a list without a one-shot
 module _ (v : List ℕ) where
-  -- nothing is current or a one-shot as records tell it
+  -- nothing is current or a one-shot as records report it
   none_temporary : (w : List ℕ) (es : Releases) → has_one_shot es ≡ false → has_other_temporary w (recorded es) ≡ false
   none_temporary w [] none = refl
   none_temporary w (x ∷ es) none =
@@ -367,46 +367,46 @@ leaves v es next is =
     still (Some OneShot) e = e
 
 -- what changes the statuses of listed releases, or takes one out
-change_tells : (e : Event) (es next : Releases) → IsOfListed e → HasDistinctVersions es → step e es ≡ Some next → has_one_permanent next ≡ true → assigned (record_of e es) (recorded es) ≡ Some (recorded next)
-change_tells (made p) es next listed distinct is one = absurd listed
-change_tells (unpacked p) es next listed distinct is one = absurd listed
-change_tells (removed v) es next listed distinct is one = ap with_one_permanent (leaves v es next is) ∙ kept (recorded next) (one-recorded next ∙ one)
-change_tells boot es next listed distinct is one =
+change_reports : (e : Event) (es next : Releases) → IsOfListed e → HasDistinctVersions es → step e es ≡ Some next → has_one_permanent next ≡ true → assigned (record_of e es) (recorded es) ≡ Some (recorded next)
+change_reports (made p) es next listed distinct is one = absurd listed
+change_reports (unpacked p) es next listed distinct is one = absurd listed
+change_reports (removed v) es next listed distinct is one = ap with_one_permanent (leaves v es next is) ∙ kept (recorded next) (one-recorded next ∙ one)
+change_reports boot es next listed distinct is one =
     let same : booted es ≡ next = cc is in
     subst (λ l. assigned (assigns (changes boot es)) (recorded es) ≡ Some (recorded l)) same
     (assigned_behind boot es distinct (none_becomes_one boot (λ x changed. no_one_shot-booted x.status) es) (ap has_one_permanent same ∙ one))
-change_tells (installed v) es next listed distinct is one =
+change_reports (installed v) es next listed distinct is one =
     let (may, there) = passed (may_be_installed (has_current es) (status_of v es)) (Some (list_installed v es)) next (own_of_step (installed v) es next is).1 in
     let same : list_installed v es ≡ next = cc there in
     subst (λ l. assigned (assigns (changes (installed v) es)) (recorded es) ≡ Some (recorded l)) same
     (assigned_behind (installed v) es distinct (none_becomes_one (installed v) (λ x changed. none-installed (bytes_eq v x.release.vsn) x.status) es) (ap has_one_permanent same ∙ one))
-change_tells (restart_installed v) es next listed distinct is one =
+change_reports (restart_installed v) es next listed distinct is one =
     let own = own_of_step (restart_installed v) es next is in
     let (may, there) = passed (may_be_installed (has_current es) (status_of v es)) (Some (list_restarted v es)) next own.1 in
     let same : list_restarted v es ≡ next = cc there in
     subst (λ l. assigned (assigns (changes (restart_installed v) es)) (recorded es) ≡ Some (recorded l)) same
     (assigned_behind (restart_installed v) es distinct (restarts_apart v es distinct own.0) (ap has_one_permanent same ∙ one))
-change_tells (made_permanent v) es next listed distinct is one =
+change_reports (made_permanent v) es next listed distinct is one =
     let (may, there) = passed (may_be_made_permanent (status_of v es)) (Some (list_made_permanent v es)) next (own_of_step (made_permanent v) es next is).1 in
     let same : list_made_permanent v es ≡ next = cc there in
     subst (λ l. assigned (assigns (changes (made_permanent v) es)) (recorded es) ≡ Some (recorded l)) same
     (assigned_behind (made_permanent v) es distinct (none_becomes_one (made_permanent v) (λ x changed. never-permanent (bytes_eq v x.release.vsn) x.status changed) es) (ap has_one_permanent same ∙ one))
-change_tells (reboot_old v) es next listed distinct is one =
+change_reports (reboot_old v) es next listed distinct is one =
     let (may, there) = passed (may_be_rebooted (status_of v es)) (Some (list_made_permanent v es)) next (own_of_step (reboot_old v) es next is).1 in
     let same : list_made_permanent v es ≡ next = cc there in
     subst (λ l. assigned (assigns (changes (reboot_old v) es)) (recorded es) ≡ Some (recorded l)) same
     (assigned_behind (reboot_old v) es distinct (none_becomes_one (reboot_old v) (λ x changed. never-permanent (bytes_eq v x.release.vsn) x.status changed) es) (ap has_one_permanent same ∙ one))
 
-pub tells : RecordsTellEvents
-tells (made p) [] next distinct have is fits one = comes_first p next fits is
-tells (made p) (x ∷ es) next distinct have is fits one = absurd (never_made_again p x es next is)
-tells (unpacked p) es next distinct have is fits one = ap with_one_permanent (comes_in p es next have fits is) ∙ kept (recorded next) (one-recorded next ∙ one)
-tells (installed v) es next distinct have is fits one = change_tells (installed v) es next tt distinct is one
-tells (restart_installed v) es next distinct have is fits one = change_tells (restart_installed v) es next tt distinct is one
-tells (made_permanent v) es next distinct have is fits one = change_tells (made_permanent v) es next tt distinct is one
-tells (removed v) es next distinct have is fits one = change_tells (removed v) es next tt distinct is one
-tells (reboot_old v) es next distinct have is fits one = change_tells (reboot_old v) es next tt distinct is one
-tells boot es next distinct have is fits one = change_tells boot es next tt distinct is one
+pub reports : RecordsDetermineEvents
+reports (made p) [] next distinct have is fits one = comes_first p next fits is
+reports (made p) (x ∷ es) next distinct have is fits one = absurd (never_made_again p x es next is)
+reports (unpacked p) es next distinct have is fits one = ap with_one_permanent (comes_in p es next have fits is) ∙ kept (recorded next) (one-recorded next ∙ one)
+reports (installed v) es next distinct have is fits one = change_reports (installed v) es next tt distinct is one
+reports (restart_installed v) es next distinct have is fits one = change_reports (restart_installed v) es next tt distinct is one
+reports (made_permanent v) es next distinct have is fits one = change_reports (made_permanent v) es next tt distinct is one
+reports (removed v) es next distinct have is fits one = change_reports (removed v) es next tt distinct is one
+reports (reboot_old v) es next distinct have is fits one = change_reports (reboot_old v) es next tt distinct is one
+reports boot es next distinct have is fits one = change_reports boot es next tt distinct is one
 
 -- a list keeps its one permanent release
 one_behind_step : (e : Event) (es next : Releases) → HasDistinctVersions es → step e es ≡ Some next → has_one_permanent es ≡ true → has_one_permanent next ≡ true
@@ -415,16 +415,16 @@ one_behind_step e es next distinct is one = ap (λ n. n == 1) (one_permanent-ste
     is_one : (n : ℕ) → (n == 1) ≡ true → n ≡ 1
     is_one n e = grind (arith, nat_tests)
 
-pub told_by_record : (e : Event) (es : Releases) → HasDistinctVersions es → IsOfListed e → Tells e es
-told_by_record e es distinct listed next is one = change_tells e es next listed distinct is (one_behind_step e es next distinct is one)
+pub reported_by_record : (e : Event) (es : Releases) → HasDistinctVersions es → IsOfListed e → Reports e es
+reported_by_record e es distinct listed next is one = change_reports e es next listed distinct is (one_behind_step e es next distinct is one)
 
 -- a further release that isn't permanent leaves one permanent
 pub one-push : (es : Releases) (x : Entry) → is_permanent x.status ≡ false → of_status is_permanent (es ++ x ∷ []) ≡ of_status is_permanent es
 one-push [] x not_it = ap (λ b. cond b (x ∷ []) []) not_it
 one-push (e ∷ es) x not_it = ap (λ l. cond (is_permanent e.status) (e ∷ l) l) (one-push es x not_it)
 
-pub unpacked_tells : (p : Bundle) (es : Releases) → HaveLibraries es → IsWithinLimits (unpacked p) es → Tells (unpacked p) es
-unpacked_tells p es have fits next is one = ap with_one_permanent (comes_in p es next have fits is) ∙ kept (recorded next) (one-recorded next ∙ behind)
+pub unpacked_reports : (p : Bundle) (es : Releases) → HaveLibraries es → IsWithinLimits (unpacked p) es → Reports (unpacked p) es
+unpacked_reports p es have fits next is one = ap with_one_permanent (comes_in p es next have fits is) ∙ kept (recorded next) (one-recorded next ∙ behind)
   where
     behind : has_one_permanent next ≡ true
     behind = ap has_one_permanent (sym (pushed_last p es next is)) ∙ ap (λ l. length l == 1) (one-push es (entry p Unpacked) refl) ∙ one

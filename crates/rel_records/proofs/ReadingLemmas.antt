@@ -226,15 +226,15 @@ no_term body never r s = never s.term s.text
 not_text : (f : TermFault) → fault_of_text f ≡ Bad → f ≡ term.NoMemory → ⊥
 not_text f bad is = cc (bad, ap fault_of_text is)
 
--- a fault that is told as a bad record
-pub told_bad : {T : Type 0} (r : Result T RecordFault) (f : RecordFault) → IsErr r × IsErrAnd r (λ e. e ≡ f) → IsErrOf r Bad → f ≡ Bad
-told_bad (Ok x) f told bad = absurd told.1
-told_bad (Err e) f told bad = sym told.1 ∙ cc bad
+-- a fault that is reported as a bad record
+pub reported_bad : {T : Type 0} (r : Result T RecordFault) (f : RecordFault) → IsErr r × IsErrAnd r (λ e. e ≡ f) → IsErrOf r Bad → f ≡ Bad
+reported_bad (Ok x) f reported bad = absurd reported.1
+reported_bad (Err e) f reported bad = sym reported.1 ∙ cc bad
 
 -- a fault of the text is that of a body without a term
-pub no_text : {T : Type 0} (body : List ℕ) (f : TermFault) (told : Result T RecordFault) → ((v : Value) → HasTerm 72 body v → f ≡ term.NoMemory) → IsErr told × IsErrAnd told (λ e. e ≡ fault_of_text f)
-    → IsErrOf told Bad → (r : Record) → Spells body r → ⊥
-no_text body f told only is bad = no_term body (λ v has. not_text f (told_bad told (fault_of_text f) is bad) (only v has))
+pub no_text : {T : Type 0} (body : List ℕ) (f : TermFault) (reported : Result T RecordFault) → ((v : Value) → HasTerm 72 body v → f ≡ term.NoMemory) → IsErr reported × IsErrAnd reported (λ e. e ≡ fault_of_text f)
+    → IsErrOf reported Bad → (r : Record) → Spells body r → ⊥
+no_text body f reported only is bad = no_term body (λ v has. not_text f (reported_bad reported (fault_of_text f) is bad) (only v has))
 
 module _ (body : List ℕ) (v : Value) (has : HasTerm 72 body v) where
   -- a body whose term says a record spells it

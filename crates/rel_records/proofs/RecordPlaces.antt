@@ -46,7 +46,7 @@ one_behind r es next e = (assigned_so r es next e).1
 pub kept : (es : Releases) → has_one_permanent es ≡ true → with_one_permanent (Some es) ≡ Some es
 kept es one = ap (λ b. if b then Some es else None) one
 
--- a status that may be assigned is told as it is
+-- a status that may be assigned is reported as it is
 as_given : (s : Status) (v : List ℕ) (es : Releases) → may_be_given s v es ≡ true → recorded_status s ≡ s
 as_given Unpacked v es may = refl
 as_given Current v es may = absurd cc
@@ -88,7 +88,7 @@ pub recorded-push : (es : Releases) (e : Entry) → recorded (es ++ e ∷ []) �
 recorded-push [] e = refl
 recorded-push (f ∷ es) e = ap (λ l. record f { status = recorded_status f.status } ∷ l) (recorded-push es e)
 
--- a removal leaves the others as records tell them
+-- a removal leaves the others as records report them
 pub recorded-without : (v : List ℕ) (es : Releases) → recorded (without v es) ≡ without v (recorded es)
 recorded-without v [] = refl
 recorded-without v (e ∷ es) = go (bytes_eq v e.release.vsn) (recorded-without v es)

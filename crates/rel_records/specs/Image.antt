@@ -12,7 +12,7 @@ use Rattle.rel_records.specs.Record.{Imaged, Record, images, imaged_term, image_
 abbrev pub imaged : Entry → Imaged
 imaged e = record { release = e.release; status = e.status; relup = e.relup }
 
--- the term of a release of the list, as records tell it
+-- the term of a release of the list, as records report it
 abbrev pub recorded_row : Entry → Value
 recorded_row e = imaged_term (imaged (record e { status = recorded_status e.status }))
 

@@ -33,9 +33,9 @@ NeverBothRecords = (format : ℕ) (bodies : List (List ℕ)) (es : Releases) (i 
 abbrev pub MakeItInFormat2 : Type 0
 MakeItInFormat2 = (format : ℕ) (bodies : List (List ℕ)) (es : Releases) → Makes format bodies es → Makes 2 bodies es
 
--- The record of an event makes of the list, as records tell it, what the event makes of it, as records tell that.
-abbrev pub RecordsTellEvents : Type 0
-RecordsTellEvents =
+-- The record of an event makes of the list, as records report it, what the event makes of it, as records report that.
+abbrev pub RecordsDetermineEvents : Type 0
+RecordsDetermineEvents =
     (e : Event) (es next : Releases) → HasDistinctVersions es → HaveLibraries es → step e es ≡ Some next → IsWithinLimits e es
     → has_one_permanent next ≡ true → assigned (record_of e es) (recorded es) ≡ Some (recorded next)
 

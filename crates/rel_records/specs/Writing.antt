@@ -25,7 +25,7 @@ is_same s t = false
 abbrev pub is_changed : Event → Entry → Bool
 is_changed e x = not (is_same (status_behind e x.release.vsn x.status) x.status)
 
--- the status that it has then, as records tell it: what is current is written as unpacked
+-- the status that it has then, as records report it: what is current is written as unpacked
 abbrev pub assignment_of : Event → Entry → Assignment
 assignment_of e x = record { vsn = x.release.vsn; status = recorded_status (status_behind e x.release.vsn x.status) }
 
@@ -63,10 +63,10 @@ IsWithinLimits (made p) es = (is_small p.release ≡ true) × IsComplete p
 IsWithinLimits (unpacked p) es = (is_small p.release ≡ true) × (length es < most_releases) × IsComplete p
 IsWithinLimits e es = Unit {0}
 
--- The record of the event makes of this list, as records tell it, what the event makes of it, as records tell that,
+-- The record of the event makes of this list, as records report it, what the event makes of it, as records report that,
 -- where one release is permanent.
-abbrev pub Tells : Event → Releases → Type 0
-Tells e es = (next : Releases) → step e es ≡ Some next → has_one_permanent es ≡ true → assigned (record_of e es) (recorded es) ≡ Some (recorded next)
+abbrev pub Reports : Event → Releases → Type 0
+Reports e es = (next : Releases) → step e es ≡ Some next → has_one_permanent es ≡ true → assigned (record_of e es) (recorded es) ≡ Some (recorded next)
 
 -- They are libraries whose terms are no deeper than a record can carry.
 abbrev pub CanBeCarried : List Library → Type 0

@@ -9,7 +9,7 @@
 //! specs/Format). Which record is that of an event (`record_of`, specs/Writing), and which the image of a list (`image_of`,
 //! specs/Image), is said here; `record_writer` prints them.
 //! The laws: bodies make one list or one of them is bad, and never both. The record of an event makes of a list what the event
-//! makes of it, each as records tell it, where the event keeps the limits of a node (`records_tell_events`): so records say
+//! makes of it, each as records report it, where the event keeps the limits of a node (`records_determine_events`): so records say
 //! nothing of what is current. And a record of a
 //! release that comes in or leaves stands only where it is that of an event (`records_are_of_events`).
 //! Only tested: that memory is there. Trusted: the toolchain and `thiserror`.

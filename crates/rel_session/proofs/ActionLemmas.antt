@@ -17,7 +17,7 @@ use Rattle.node_processes.specs.Answers.{processes_line, modules_line, peek_line
 use Rattle.node_processes.specs.ModuleVersions.{HaveModuleVersions}
 use Rattle.node_processes.specs.Processes.{Processes}
 use Rattle.rel_unpack.proofs.BroughtLibraries.{brought_libraries}
-use Rattle.node_command.proofs.ReleaseLemmas.{free_so, told_library}
+use Rattle.node_command.proofs.ReleaseLemmas.{free_so, reported_library}
 use Rattle.rel_list.specs.Releases.{Releases, differs, first_different, status_of}
 use Rattle.rel_list.specs.Event.{Event}
 use Rattle.rel_list.specs.Event.Event.{made, unpacked}
@@ -25,7 +25,7 @@ use Rattle.rel_session.specs.AnswerLaws.{HasLinePath, HasModuleVersionsAt, IsCom
 use Rattle.session_input.specs.Commands.{Command}
 use Rattle.session_input.specs.Commands.Command.{file, create, set_unpacked, check, install, permanent, remove, reboot_old, boot, start, releases, procs, modules, peek, call, flood, relup, quit, bad}
 use Rattle.rel_unpack.proofs.LineBrought.{IsLineBrought, good_brought}
-use Rattle.rel_unpack.proofs.LineOutcomes.{TellsLine, OrNone, IsGood, version_line}
+use Rattle.rel_unpack.proofs.LineOutcomes.{ReportsLine, OrNone, IsGood, version_line}
 use Rattle.rel_unpack.proofs.OneOutcome.{one_brought}
 use Rattle.rel_unpack.proofs.SomeOutcome.{some_brought}
 use Rattle.rel_unpack.specs.Unpacking.{Brought}
@@ -38,8 +38,8 @@ use Rattle.rel_session.specs.Node.{Place, releases_after}
 use Rattle.rel_session.specs.Node.Place.{raw, closed, running, dead}
 use Rattle.node_answer.specs.Refusals.{refusal_for}
 use Rattle.node_answer.specs.Lines.{check_line}
-use Rattle.rel_session.specs.Transition.{Action, ComesTo, OnNode, told, creation, unpacking, relup_telling}
-use Rattle.rel_session.specs.Transition.Action.{answers, makes_node, changes_node, installs, reboots_node, boots_node, tells_start, calls}
+use Rattle.rel_session.specs.Transition.{Action, ComesTo, OnNode, reported, creation, unpacking, relup_telling}
+use Rattle.rel_session.specs.Transition.Action.{answers, makes_node, changes_node, installs, reboots_node, boots_node, reports_start, calls}
 use Rattle.rel_session.proofs.ProcessLines.{processes_whole, modules_whole, peek_whole}
 use Rattle.rel_session.proofs.AnswerLines.{HasLine, IsWhole, check_whole, refusal_whole, listing_whole, translation_whole}
 
@@ -64,12 +64,12 @@ on_node P x y (dead s) (dead t) kinds one is also = is ∙ sym also
 on_node P x y p q kinds one is also = absurd cc
 
 -- what a node is asked is answered by its releases and its processes
-abbrev pub AreTold : Place → Place → Action → Action → Type 0
-AreTold p q x y = (says : Releases → Processes → List ℕ) × (x ≡ answers (told says p)) × (y ≡ answers (told says q))
+abbrev pub AreReported : Place → Place → Action → Action → Type 0
+AreReported p q x y = (says : Releases → Processes → List ℕ) × (x ≡ answers (reported says p)) × (y ≡ answers (reported says q))
 
 -- At places of one kind a command comes to one action, but where it asks the node.
 pub one_action : (source : Source) → GivesOne source → (p q : Place) (c : Command) (x y : Action) → kind_of p ≡ kind_of q → ComesTo source p c x → ComesTo source q c y
-    → (x ≡ y) ⊎ AreTold p q x y
+    → (x ≡ y) ⊎ AreReported p q x y
 one_action source one p q (file path f) x y kinds is also = inl (is ∙ sym also)
 one_action source one p q (create path) x y kinds (found, there, is) (again, there_too, also) = inl (is ∙ ap creation (one_brought source one path found again there there_too) ∙ sym also)
 one_action source one p q (set_unpacked path) x y kinds is also =
@@ -167,50 +167,50 @@ OfEvent (made p) = IsFromFiles p
 OfEvent (unpacked p) = IsFromFiles p
 OfEvent e = Unit {0}
 
--- what is told of files, where they are refused, is within a line
-abbrev pub TellsFilesLine : Option Refusal → Type 0
-TellsFilesLine None = Unit {0}
-TellsFilesLine (Some why) = HasLine (refusal_for why)
+-- what is reported of files, where they are refused, is within a line
+abbrev pub ReportsFilesLine : Option Refusal → Type 0
+ReportsFilesLine None = Unit {0}
+ReportsFilesLine (Some why) = HasLine (refusal_for why)
 
 -- An action's text ends where its last line does, and the release that it brings to a list is of files.
 abbrev pub IsGoodAction : Action → Type 0
 IsGoodAction (answers text) = IsWhole text
-IsGoodAction (makes_node b) = (own_refusal b ≡ None → IsFromFiles (bundle_brought b)) × TellsFilesLine (own_refusal b)
+IsGoodAction (makes_node b) = (own_refusal b ≡ None → IsFromFiles (bundle_brought b)) × ReportsFilesLine (own_refusal b)
 IsGoodAction (changes_node c) =
-    ((list next : Releases) → c.files list ≡ None → commanded c.event list ≡ Ok next → OfEvent c.event) × ((list : Releases) → TellsFilesLine (c.files list)) × ((list : Releases) → is_one_line (c.details list) ≡ true)
+    ((list next : Releases) → c.files list ≡ None → commanded c.event list ≡ Ok next → OfEvent c.event) × ((list : Releases) → ReportsFilesLine (c.files list)) × ((list : Releases) → is_one_line (c.details list) ≡ true)
 IsGoodAction (installs vsn) = Unit {0}
 IsGoodAction (reboots_node vsn) = Unit {0}
 IsGoodAction boots_node = Unit {0}
-IsGoodAction tells_start = Unit {0}
+IsGoodAction reports_start = Unit {0}
 IsGoodAction (calls c) = Unit {0}
 
 good_as : (x y : Action) → x ≡ y → IsGoodAction y → IsGoodAction x
 good_as x y is good = subst IsGoodAction (sym is) good
 
--- What is told of files is within a line.
-told_line : (why : Refusal) → TellsLine why → HasLine (refusal_for why)
-told_line (missing_file path) line = line
-told_line (bad_file path trouble) line = line
-told_line (vsn_mismatch path) line = line
-told_line (lib_differs name) line = line
-told_line (no_table name) line = line
-told_line too_many line = tt
-told_line no_memory line = tt
+-- What is reported of files is within a line.
+reported_line : (why : Refusal) → ReportsLine why → HasLine (refusal_for why)
+reported_line (missing_file path) line = line
+reported_line (bad_file path trouble) line = line
+reported_line (vsn_mismatch path) line = line
+reported_line (lib_differs name) line = line
+reported_line (no_table name) line = line
+reported_line too_many line = tt
+reported_line no_memory line = tt
 
-files_line : (o : Option Refusal) → OrNone TellsLine o → TellsFilesLine o
+files_line : (o : Option Refusal) → OrNone ReportsLine o → ReportsFilesLine o
 files_line None good = tt
-files_line (Some why) good = told_line why good
+files_line (Some why) good = reported_line why good
 
 -- its name is within a line
 abbrev IsLineName : Library → Type 0
 IsLineName l = is_one_line l.app.name ≡ true
 
--- the name of a library that differs, or what is told behind it
-difference_line : (es : Releases) (ls : List Library) (o : Option Refusal) → AllByRecursion IsLineName ls → OrNone TellsLine o → TellsFilesLine (option_or (difference ls es) o)
+-- the name of a library that differs, or what is reported behind it
+difference_line : (es : Releases) (ls : List Library) (o : Option Refusal) → AllByRecursion IsLineName ls → OrNone ReportsLine o → ReportsFilesLine (option_or (difference ls es) o)
 difference_line es [] o names good = files_line o good
 difference_line es (l ∷ ls) o names good = go (differs es l) (difference_line es ls o names.1 good)
   where
-    go : (b : Bool) → TellsFilesLine (option_or (difference ls es) o) → TellsFilesLine (option_or (option_map told_library (cond b (Some l) (first_different es ls))) o)
+    go : (b : Bool) → ReportsFilesLine (option_or (difference ls es) o) → ReportsFilesLine (option_or (option_map reported_library (cond b (Some l) (first_different es ls))) o)
     go true rest = names.0
     go false rest = rest
 
@@ -234,68 +234,68 @@ taken_in b list next free allowed =
     let new = not_barred listed (is_some (first_different list b.libraries)) _ next (own_of_step (unpacked (bundle_brought b)) list next (commanded_step (unpacked (bundle_brought b)) list next allowed)).1 in
     free_so (has_room list) b (unrefused listed (difference b.libraries list) (refusal_with (has_room list) b) new free)
 
--- what is told of its files is within a line, whether there is room for it or not
-refusal_line_with : (room : Bool) (b : Brought) → IsLineBrought b → OrNone TellsLine (refusal_with room b)
+-- what is reported of its files is within a line, whether there is room for it or not
+refusal_line_with : (room : Bool) (b : Brought) → IsLineBrought b → OrNone ReportsLine (refusal_with room b)
 refusal_line_with room b good = either b.refusal good.refusal
   where
-    behind : (room : Bool) → OrNone TellsLine (if room then b.relup_refusal else Some too_many)
+    behind : (room : Bool) → OrNone ReportsLine (if room then b.relup_refusal else Some too_many)
     behind true = good.relup_refusal
     behind false = tt
 
-    either : (o : Option Refusal) → OrNone TellsLine o → OrNone TellsLine (option_or o (if room then b.relup_refusal else Some too_many))
-    either None told = behind room
-    either (Some why) told = told
+    either : (o : Option Refusal) → OrNone ReportsLine o → OrNone ReportsLine (option_or o (if room then b.relup_refusal else Some too_many))
+    either None reported = behind room
+    either (Some why) reported = reported
 
 good_creation : (source : Source) (path : List ℕ) (brought : Result Brought Refusal) → Brings source path brought → IsGood IsLineBrought brought → IsGoodAction (creation brought)
-good_creation source path (Err why) brings good = refusal_whole (refusal_for why) (told_line why good)
+good_creation source path (Err why) brings good = refusal_whole (refusal_for why) (reported_line why good)
 good_creation source path (Ok b) brings good = (
   λ free. of_files source path b brings good.found.versions (free_so true b free),
   files_line (own_refusal b) (refusal_line_with true b good),
 )
 
 good_unpacking : (source : Source) (path : List ℕ) (brought : Result Brought Refusal) → Brings source path brought → IsGood IsLineBrought brought → IsGoodAction (unpacking brought)
-good_unpacking source path (Err why) brings good = refusal_whole (refusal_for why) (told_line why good)
+good_unpacking source path (Err why) brings good = refusal_whole (refusal_for why) (reported_line why good)
 good_unpacking source path (Ok b) brings good = (
   λ list next free allowed. of_files source path b brings good.found.versions (taken_in b list next free allowed),
   λ list. unlisted list (is_some (status_of b.found.release.vsn list)),
   λ list. version_line b.found.release.vsn good.found.versions.own,
 )
   where
-    unlisted : (list : Releases) (listed : Bool) → TellsFilesLine (if listed then None else option_or (difference b.libraries list) (refusal_with (has_room list) b))
+    unlisted : (list : Releases) (listed : Bool) → ReportsFilesLine (if listed then None else option_or (difference b.libraries list) (refusal_with (has_room list) b))
     unlisted list true = tt
     unlisted list false = difference_line list b.libraries (refusal_with (has_room list) b) good.libraries (refusal_line_with (has_room list) b good)
 
 good_telling : (found : Result (List ℕ) Refusal) → IsGood IsLineAnswer found → IsGoodAction (relup_telling found)
-good_telling (Err why) good = refusal_whole (refusal_for why) (told_line why good)
+good_telling (Err why) good = refusal_whole (refusal_for why) (reported_line why good)
 good_telling (Ok text) (t, line, is) = subst IsWhole (sym is) (translation_whole t line)
 
 -- what a node is asked is answered whole, where it is on a node that runs
-whole_told : (says : Releases → Processes → List ℕ) (p : Place) → HasModuleVersionsAt p → ((list : Releases) (ps : Processes) → HaveModuleVersions ps → IsWhole (says list ps)) → IsWhole (told says p)
-whole_told says (raw x) lines whole behind = refl
-whole_told says (closed s) lines whole behind = refl
-whole_told says (running events extent ps) lines whole behind = whole (releases_after events) ps lines behind
-whole_told says (dead s) lines whole behind = refl
+whole_reported : (says : Releases → Processes → List ℕ) (p : Place) → HasModuleVersionsAt p → ((list : Releases) (ps : Processes) → HaveModuleVersions ps → IsWhole (says list ps)) → IsWhole (reported says p)
+whole_reported says (raw x) lines whole behind = refl
+whole_reported says (closed s) lines whole behind = refl
+whole_reported says (running events extent ps) lines whole behind = whole (releases_after events) ps lines behind
+whole_reported says (dead s) lines whole behind = refl
 
 pub good_action : (source : Source) (p : Place) (c : Command) (does : Action) → HasLinePath c → HasModuleVersionsAt p → ComesTo source p c does → IsGoodAction does
-good_action source p (file path f) does line tells is = good_as does _ is (λ behind. refl)
-good_action source p (create path) does line tells (found, there, is) = good_as does _ is (good_creation source path found there (good_brought source path line found there))
-good_action source (running events extent ps) (set_unpacked path) does line tells (found, there, is) = good_as does _ is (good_unpacking source path found there (good_brought source path line found there))
-good_action source (raw x) (set_unpacked path) does line tells is = good_as does _ is (λ behind. refl)
-good_action source (closed s) (set_unpacked path) does line tells is = good_as does _ is (λ behind. refl)
-good_action source (dead s) (set_unpacked path) does line tells is = good_as does _ is (λ behind. refl)
-good_action source p (check vsn) does line tells is = good_as does _ is (whole_told _ p tells (λ list ps lines. check_whole vsn list))
-good_action source p (install vsn) does line tells is = good_as does _ is tt
-good_action source p (permanent vsn) does line tells is = good_as does _ is ((λ list next free allowed. tt), (λ list. tt), λ list. refl)
-good_action source p (remove vsn) does line tells is = good_as does _ is ((λ list next free allowed. tt), (λ list. tt), λ list. refl)
-good_action source p (reboot_old vsn) does line tells is = good_as does _ is tt
-good_action source p boot does line tells is = good_as does _ is tt
-good_action source p start does line tells is = good_as does _ is tt
-good_action source p releases does line tells is = good_as does _ is (whole_told _ p tells (λ list ps lines. listing_whole list))
-good_action source p procs does line tells is = good_as does _ is (whole_told _ p tells (λ list ps lines. processes_whole ps))
-good_action source p modules does line tells is = good_as does _ is (whole_told _ p tells (λ list ps lines. modules_whole ps))
-good_action source p (peek app id) does line tells is = good_as does _ is (whole_told _ p tells (λ list ps lines. peek_whole app id ps lines))
-good_action source p (call app id input) does line tells is = good_as does _ is tt
-good_action source p (flood app id input times) does line tells is = good_as does _ is tt
-good_action source p (relup new ups downs) does lines tells (found, there, is) = good_as does _ is (good_telling found (good_answer source new ups downs lines.0 lines.1 lines.2 found there))
-good_action source p quit does line tells is = absurd is
-good_action source p bad does line tells is = good_as does _ is (λ behind. refl)
+good_action source p (file path f) does line reports is = good_as does _ is (λ behind. refl)
+good_action source p (create path) does line reports (found, there, is) = good_as does _ is (good_creation source path found there (good_brought source path line found there))
+good_action source (running events extent ps) (set_unpacked path) does line reports (found, there, is) = good_as does _ is (good_unpacking source path found there (good_brought source path line found there))
+good_action source (raw x) (set_unpacked path) does line reports is = good_as does _ is (λ behind. refl)
+good_action source (closed s) (set_unpacked path) does line reports is = good_as does _ is (λ behind. refl)
+good_action source (dead s) (set_unpacked path) does line reports is = good_as does _ is (λ behind. refl)
+good_action source p (check vsn) does line reports is = good_as does _ is (whole_reported _ p reports (λ list ps lines. check_whole vsn list))
+good_action source p (install vsn) does line reports is = good_as does _ is tt
+good_action source p (permanent vsn) does line reports is = good_as does _ is ((λ list next free allowed. tt), (λ list. tt), λ list. refl)
+good_action source p (remove vsn) does line reports is = good_as does _ is ((λ list next free allowed. tt), (λ list. tt), λ list. refl)
+good_action source p (reboot_old vsn) does line reports is = good_as does _ is tt
+good_action source p boot does line reports is = good_as does _ is tt
+good_action source p start does line reports is = good_as does _ is tt
+good_action source p releases does line reports is = good_as does _ is (whole_reported _ p reports (λ list ps lines. listing_whole list))
+good_action source p procs does line reports is = good_as does _ is (whole_reported _ p reports (λ list ps lines. processes_whole ps))
+good_action source p modules does line reports is = good_as does _ is (whole_reported _ p reports (λ list ps lines. modules_whole ps))
+good_action source p (peek app id) does line reports is = good_as does _ is (whole_reported _ p reports (λ list ps lines. peek_whole app id ps lines))
+good_action source p (call app id input) does line reports is = good_as does _ is tt
+good_action source p (flood app id input times) does line reports is = good_as does _ is tt
+good_action source p (relup new ups downs) does lines reports (found, there, is) = good_as does _ is (good_telling found (good_answer source new ups downs lines.0 lines.1 lines.2 found there))
+good_action source p quit does line reports is = absurd is
+good_action source p bad does line reports is = good_as does _ is (λ behind. refl)

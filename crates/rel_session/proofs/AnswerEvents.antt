@@ -1,5 +1,5 @@
--- What an answer tells of its command: with the command, its file, the kind of place and whether an installation ends with a restart
--- it determines the events.
+-- What an answer reports of its command: with the command, its file, the kind of place and whether an installation ends with a
+-- restart it determines the events.
 use Rattle.std.proofs.Common.{◌≡◌, ◌⊎◌, inl, inr, ℕ, Bool, true, false, List, [], ◌∷◌, ◌++◌, Option, Some, None, Result, Ok, Err, refl, sym, ap, ◌∙◌, subst, append-nil}
 use Rattle.std.specs.Prelude.{if◌then◌else◌, ◌==◌, codes, take}
 use Rattle.std.specs.Str.{bytes_eq}
@@ -35,8 +35,8 @@ use Rattle.node_answer.specs.Refusals.{refusal_of, refusal_for, refusal_line}
 use Rattle.rel_session.specs.Booting.{boot_line}
 use Rattle.node_answer.specs.Refusals.NodeRefusal.{device}
 use Rattle.rel_session.specs.Transition
-use Rattle.rel_session.specs.Transition.Action.{answers, makes_node, changes_node, installs, reboots_node, boots_node, tells_start, calls}
-use Rattle.rel_session.proofs.ActionLemmas.{Kind, kind_of, AreTold, one_action}
+use Rattle.rel_session.specs.Transition.Action.{answers, makes_node, changes_node, installs, reboots_node, boots_node, reports_start, calls}
+use Rattle.rel_session.proofs.ActionLemmas.{Kind, kind_of, AreReported, one_action}
 use Rattle.rel_session.proofs.ActionLemmas.Kind.{of_bytes, at_rest, runs, fails}
 use Rattle.rel_handler.specs.Installing.{install_size, installation_event}
 use Rattle.node_processes.specs.Scripts.{behind_run}
@@ -45,9 +45,9 @@ use Rattle.rel_session.specs.Run.{events_of}
 use Rattle.rel_session.proofs.AnswerLines.{IsWhole, installed_whole, one_front}
 use Rattle.rel_session.proofs.Contradiction.{never}
 use Rattle.rel_session.proofs.InstallationLemmas.{each_reply}
-use Rattle.rel_session.proofs.InstallLines.{append_left, done_or_failed, restart_first, tells_ok}
+use Rattle.rel_session.proofs.InstallLines.{append_left, done_or_failed, restart_first, reports_ok}
 
--- what an answer tells: that the command was done, that the device failed, within a boot or not, that a script failed behind its
+-- what an answer reports: that the command was done, that the device failed, within a boot or not, that a script failed behind its
 -- point of no return, or that nothing was done
 data Report : Type 0 where
   it_is_done : Report
@@ -116,12 +116,12 @@ rebooted runs vsn it_failed = effect (failed_with (Some (reboot_old vsn))) fails
 rebooted runs vsn boot_failed = effect (record { acknowledged = reboot_old vsn ∷ []; in_doubt = Some booting; failed = true }) at_rest
 rebooted k vsn t = effect nothing k
 
--- the start is told where a node runs
-abbrev tells : Kind → Report → Effect
-tells runs it_failed = effect (failed_with None) fails
-tells k t = effect nothing k
+-- the start is reported where a node runs
+abbrev reports : Kind → Report → Effect
+reports runs it_failed = effect (failed_with None) fails
+reports k t = effect nothing k
 
--- The reply has the effect that its answer tells.
+-- The reply has the effect that its answer reports.
 abbrev HasEffect : (Report → Effect) → Reply → Type 0
 HasEffect f a = effect_of a ≡ f (report_of a.answer)
 
@@ -178,7 +178,7 @@ plain_files (no_table name) = refl
 plain_files too_many = refl
 plain_files no_memory = refl
 
--- a commit, by what its answers tell
+-- a commit, by what its answers report
 module _ (e : Event) (f : Report → Effect) (stays : f nothing_done ≡ effect nothing runs) (doubted : f it_failed ≡ effect (failed_with (Some e)) fails) where
   commits : (events : Events) (extent : Extent) (ps : Processes) (size : ℕ) (o : Result Releases HandlerError) (P : Extent → Reply → Type 0) → IsPlainList o → ((x : Extent) (a : Reply) → P x a → HasEffect f a) → (a : Reply)
       → Transition.IsCommit events extent ps e size o P a → HasEffect f a
@@ -193,9 +193,9 @@ changes events extent ps c l None o plain a is = commits c.event (changed runs c
 
 -- the boot behind a commit
 boots_behind : (vsn : List ℕ) (s : Stored) (a b : Reply) → Transition.BootsStore s b → a ≡ behind (reboot_old vsn) b → HasEffect (rebooted runs vsn) a
-boots_behind vsn s a b (inl (events, extent, has, (list, after, is))) told = effect_as (rebooted runs vsn) a _ (told ∙ ap (behind (reboot_old vsn)) is) refl
-boots_behind vsn s a b (inr (inl is)) told = effect_as (rebooted runs vsn) a _ (told ∙ ap (behind (reboot_old vsn)) is) refl
-boots_behind vsn s a b (inr (inr (events, extent, has, is))) told = effect_as (rebooted runs vsn) a _ (told ∙ ap (behind (reboot_old vsn)) is) refl
+boots_behind vsn s a b (inl (events, extent, has, (list, after, is))) reported = effect_as (rebooted runs vsn) a _ (reported ∙ ap (behind (reboot_old vsn)) is) refl
+boots_behind vsn s a b (inr (inl is)) reported = effect_as (rebooted runs vsn) a _ (reported ∙ ap (behind (reboot_old vsn)) is) refl
+boots_behind vsn s a b (inr (inr (events, extent, has, is))) reported = effect_as (rebooted runs vsn) a _ (reported ∙ ap (behind (reboot_old vsn)) is) refl
 
 reboots : (events : Events) (extent : Extent) (ps : Processes) (vsn : List ℕ) (l : Releases) (o : Result Releases HandlerError) → IsPlainList o → (a : Reply) → Transition.Reboots events extent ps vsn l o a → HasEffect (rebooted runs vsn) a
 reboots events extent ps vsn l o plain =
@@ -249,10 +249,10 @@ abbrev effect_behind : Event → Effect → Effect
 effect_behind e x =
     effect (record { acknowledged = e ∷ x.outcome.acknowledged; in_doubt = x.outcome.in_doubt; failed = x.outcome.failed }) x.kind
 
--- An installation has the effect that its answer tells: one with a restart that which the answer of the boot tells.
+-- An installation has the effect that its answer reports: one with a restart that which the answer of the boot reports.
 data HasInstallEffect (k : Kind) (vsn : List ℕ) (a : Reply) : Type 0 where
   without_restart : HasEffect (installing k vsn) a → have_restart (events_of a.outcome) ≡ false → HasInstallEffect k vsn a
-  with_restart : (line : List ℕ) (b : Reply) → IsWhole line → ((behind : List ℕ) → tells_ok (line ++ behind) ≡ true) → HasEffect (booted at_rest) b
+  with_restart : (line : List ℕ) (b : Reply) → IsWhole line → ((behind : List ℕ) → reports_ok (line ++ behind) ≡ true) → HasEffect (booted at_rest) b
       → a ≡ with_text line (behind (restart_installed vsn) b) → HasInstallEffect k vsn a
   restart_in_doubt : effect_of a ≡ effect (failed_with (Some (restart_installed vsn))) fails → a.answer ≡ refusal_line device → have_restart (events_of a.outcome) ≡ true
       → HasInstallEffect k vsn a
@@ -282,21 +282,21 @@ same_install k vsn a b (with_restart line x whole ok has is) (with_restart other
     let lines = one_front line other whole whole_too x.answer y.answer all in
     let answers_same = append_left other x.answer y.answer (ap (λ t. t ++ x.answer) (sym lines) ∙ all) in
     same_booted a b x y vsn line other is also (same_effect (booted at_rest) x y has has_too answers_same)
-same_install k vsn a b (restart_in_doubt has told one) (restart_in_doubt has_too told_too one_too) alike same = has ∙ sym has_too
-same_install k vsn a b (with_restart line x whole ok has is) (restart_in_doubt has_too told_too one_too) alike same =
-    done_or_failed line x.answer [] ok (sym (ap (λ (r : Reply). r.answer) is) ∙ same ∙ told_too ∙ sym (append-nil (refusal_line device)))
-same_install k vsn a b (restart_in_doubt has told one) (with_restart line x whole ok has_too is) alike same =
-    done_or_failed line x.answer [] ok (sym (ap (λ (r : Reply). r.answer) is) ∙ sym same ∙ told ∙ sym (append-nil (refusal_line device)))
+same_install k vsn a b (restart_in_doubt has reported one) (restart_in_doubt has_too reported_too one_too) alike same = has ∙ sym has_too
+same_install k vsn a b (with_restart line x whole ok has is) (restart_in_doubt has_too reported_too one_too) alike same =
+    done_or_failed line x.answer [] ok (sym (ap (λ (r : Reply). r.answer) is) ∙ same ∙ reported_too ∙ sym (append-nil (refusal_line device)))
+same_install k vsn a b (restart_in_doubt has reported one) (with_restart line x whole ok has_too is) alike same =
+    done_or_failed line x.answer [] ok (sym (ap (λ (r : Reply). r.answer) is) ∙ sym same ∙ reported ∙ sym (append-nil (refusal_line device)))
 same_install k vsn a b (without_restart has none) (with_restart line x whole ok has_too is) alike same = never (sym none ∙ alike ∙ restarts_with b x vsn line is)
-same_install k vsn a b (without_restart has none) (restart_in_doubt has_too told_too one_too) alike same = never (sym none ∙ alike ∙ one_too)
+same_install k vsn a b (without_restart has none) (restart_in_doubt has_too reported_too one_too) alike same = never (sym none ∙ alike ∙ one_too)
 same_install k vsn a b (with_restart line x whole ok has is) (without_restart has_too none_too) alike same = never (sym none_too ∙ sym alike ∙ restarts_with a x vsn line is)
-same_install k vsn a b (restart_in_doubt has told one) (without_restart has_too none_too) alike same = never (sym none_too ∙ sym alike ∙ one)
+same_install k vsn a b (restart_in_doubt has reported one) (without_restart has_too none_too) alike same = never (sym none_too ∙ sym alike ∙ one)
 
 -- one that does nothing
 idle : (a b x y : Reply) → a ≡ x → b ≡ y → effect_of x ≡ effect_of y → effect_of a ≡ effect_of b
 idle a b x y is also same = ap effect_of is ∙ same ∙ sym (ap effect_of also)
 
--- an action but an installation has the effect that its answer tells
+-- an action but an installation has the effect that its answer reports
 abbrev acted : Kind → Transition.Action → Report → Effect
 acted k (answers text) t = effect nothing k
 acted k (makes_node b) t = created k (bundle_brought b) (own_refusal b) t
@@ -304,7 +304,7 @@ acted k (changes_node c) t = changed k c t
 acted k (installs vsn) t = effect nothing k
 acted k (reboots_node vsn) t = rebooted k vsn t
 acted k boots_node t = booted k t
-acted k tells_start t = tells k t
+acted k reports_start t = reports k t
 acted k (calls c) t = effect nothing k
 
 abbrev HasEffectOf : Kind → Transition.Action → Reply → Type 0
@@ -339,11 +339,11 @@ acts (raw x) (reboots_node vsn) a is = effect_as (rebooted of_bytes vsn) a _ is 
 acts (closed s) (reboots_node vsn) a is = effect_as (rebooted at_rest vsn) a _ is refl
 acts (dead s) (reboots_node vsn) a is = effect_as (rebooted fails vsn) a _ is refl
 acts p boots_node a is = boots p a is
-acts (running events extent ps) tells_start a (inl is) = effect_as (tells runs) a _ is refl
-acts (running events extent ps) tells_start a (inr is) = effect_as (tells runs) a _ is refl
-acts (raw x) tells_start a is = effect_as (tells of_bytes) a _ is refl
-acts (closed s) tells_start a is = effect_as (tells at_rest) a _ is refl
-acts (dead s) tells_start a is = effect_as (tells fails) a _ is refl
+acts (running events extent ps) reports_start a (inl is) = effect_as (reports runs) a _ is refl
+acts (running events extent ps) reports_start a (inr is) = effect_as (reports runs) a _ is refl
+acts (raw x) reports_start a is = effect_as (reports of_bytes) a _ is refl
+acts (closed s) reports_start a is = effect_as (reports at_rest) a _ is refl
+acts (dead s) reports_start a is = effect_as (reports fails) a _ is refl
 acts (running events extent ps) (calls c) a is = effect_as (acted runs (calls c)) a _ is refl
 acts (raw x) (calls c) a is = effect_as (acted of_bytes (calls c)) a _ is refl
 acts (closed s) (calls c) a is = effect_as (acted at_rest (calls c)) a _ is refl
@@ -357,14 +357,14 @@ same_effects k (makes_node found) a b is also alike same = same_effect (acted k 
 same_effects k (changes_node c) a b is also alike same = same_effect (acted k (changes_node c)) a b is also same
 same_effects k (reboots_node vsn) a b is also alike same = same_effect (acted k (reboots_node vsn)) a b is also same
 same_effects k boots_node a b is also alike same = same_effect (acted k boots_node) a b is also same
-same_effects k tells_start a b is also alike same = same_effect (acted k tells_start) a b is also same
+same_effects k reports_start a b is also alike same = same_effect (acted k reports_start) a b is also same
 same_effects k (calls c) a b is also alike same = same_effect (acted k (calls c)) a b is also same
 
 pub one_effect : (source : Source) → GivesOne source → (p q : Place) (c : Command) (a b : Reply) → kind_of p ≡ kind_of q → have_restart (events_of a.outcome) ≡ have_restart (events_of b.outcome) → a.answer ≡ b.answer
     → Transition.Transition source p c a → Transition.Transition source q c b → effect_of a ≡ effect_of b
 one_effect source one p q c a b kinds alike same (x, comes, is) (y, comes_too, also) = go (one_action source one p q c x y kinds comes comes_too)
   where
-    go : (x ≡ y) ⊎ AreTold p q x y → effect_of a ≡ effect_of b
+    go : (x ≡ y) ⊎ AreReported p q x y → effect_of a ≡ effect_of b
     go (inl one) =
         same_effects (kind_of p) x a b (acts p x a is)
         (subst (λ k. HasEffectOf k x b) (sym kinds) (subst (λ z. HasEffectOf (kind_of q) z b) (sym one) (acts q y b also))) alike same

@@ -19,7 +19,7 @@ use Rattle.relup_file.specs.Form.{entry_term}
 use Rattle.relup_file.specs.Relup.{RelupForm}
 use Rattle.relup_translate.specs.Fault.{FaultForm}
 use Rattle.relup_translate.specs.Fault.FaultForm.{no_appup, no_entry, unknown_module, regex_version, needs_new_emulator, unsupported}
-use Rattle.relup_command.proofs.RelupLines.{TellsLineFault, IsLineTranslation}
+use Rattle.relup_command.proofs.RelupLines.{ReportsLineFault, IsLineTranslation}
 use Rattle.relup_command.specs.Answer.{fault_line, relup_lines, translation_lines}
 use Rattle.rel_list.specs.Releases.{Releases, Entry}
 use Rattle.rel_list.specs.Status.{status_word}
@@ -133,7 +133,7 @@ trouble_plain (faulty f) = fault_plain f
 trouble_plain (faulty_relup f) = relup_fault_plain f
 trouble_plain misshapen = refl
 
--- the path or the name that a refusal tells is within a line
+-- the path or the name that a refusal reports is within a line
 abbrev pub HasLine : NodeRefusal → Type 0
 HasLine (lib_differs app) = is_one_line app ≡ true
 HasLine (no_table app) = is_one_line app ≡ true
@@ -213,7 +213,7 @@ installed_whole other descr stale behind =
     ap (λ t. codes "ok " ++ t)
     (ends_behind (text_of (text_term other)) (codes " " ++ (text_of descr ++ (codes " " ++ (text_of (atoms_term stale) ++ codes "\n")))) (term_line (text_term other)) (λ more. ap (λ t. 32 ∷ t) (later more)) behind)
 
--- a line that tells a tuple, and then an answer's rest
+-- a line that reports a tuple, and then an answer's rest
 pub tuple_line : (vs : Values) (end rest : List ℕ) → EndsLine end → IsWhole rest → IsWhole ((text_of (tuple vs) ++ end) ++ rest)
 tuple_line vs end rest ends whole behind =
     let inner = with_commas (texts_of vs) ++ codes "}" in
@@ -271,7 +271,7 @@ term_whole u v w =
 relup_whole : (r : RelupForm) → IsWhole (relup_lines r)
 relup_whole r = term_whole (text_term r.vsn) (list_of (map entry_term r.ups)) (list_of (map entry_term r.downs))
 
-fault_whole : (f : FaultForm) → TellsLineFault f → IsWhole (fault_line f)
+fault_whole : (f : FaultForm) → ReportsLineFault f → IsWhole (fault_line f)
 fault_whole (no_appup app) line behind = ap (λ t. codes "error relup 1 NoAppup " ++ t) (ends_behind app (codes "\n") line newline behind)
 fault_whole (no_entry app vsn) (line, vsn_line) behind =
     ap (λ t. codes "error relup 2 NoEntry " ++ t)

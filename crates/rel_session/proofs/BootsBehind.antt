@@ -1,5 +1,5 @@
--- What is replied where a node commits an event and boots behind it: the reply is that of the boot, with the event in front, and its
--- answer stands behind a line.
+-- What is replied where a node commits an event and boots behind it: the reply is that of the boot, with the event in front, and
+-- its answer stands behind a line.
 use Rattle.std.proofs.Common.{◌≡◌, ◌⊎◌, inl, inr, ℕ, true, false, List, [], ◌∷◌, ◌++◌, Some, None, Option, Result, Ok, Err, refl, sym, ap, ◌∙◌, subst, arith}
 use Rattle.std.specs.Prelude.{String, string_bytes}
 use Rattle.std.specs.declared.alloc.Global.{Global}
@@ -18,7 +18,7 @@ use Rattle.node_command.specs.declared.error.HandlerError.{HandlerError}
 use Rattle.node_command.specs.declared.error.HandlerError.TheVariants as handler_error
 use Rattle.rel_session.specs.Booting.{Boots, BootsStore, store_behind}
 use Rattle.rel_session.specs.Device.{Device, LeavesOnly}
-use Rattle.rel_session.specs.InMemory.{disk_at, IsAt, Replied, Leads, NothingDone, TellsOrStops, AnswersOrStops}
+use Rattle.rel_session.specs.InMemory.{disk_at, IsAt, Replied, Leads, NothingDone, ReportsOrStops, AnswersOrStops}
 use Rattle.rel_session.specs.Node.{Place, CommandOutcome, Reply, reply, done, behind, releases_after, list_or_none, with_text}
 use Rattle.rel_session.specs.Node.Place.{raw, closed, running, dead}
 use Rattle.rel_session.specs.Run.{Holds, Happens, IsReached, events_of}
@@ -33,11 +33,11 @@ use Rattle.rel_session.proofs.ListLemmas.{list_after-push}
 use Rattle.rel_session.proofs.Prefixes.{stored, reached, reached_sooner, reached_behind, reached_with}
 use Rattle.rel_session.proofs.Replies.{leaves_all}
 
--- The result of the action tells that of the boot, behind this line; or memory was refused.
-abbrev pub TellsBehind : List ℕ → Result (String Global) AllocError → Result (String Global) HandlerError → Type 0
-TellsBehind line (Ok answer) (Ok text) = string_bytes text ≡ line ++ string_bytes answer
-TellsBehind line (Err f) (Ok text) = ⊥
-TellsBehind line boot (Err why) = why ≡ handler_error.NoMemory
+-- The result of the action reports that of the boot, behind this line; or memory was refused.
+abbrev pub ReportsBehind : List ℕ → Result (String Global) AllocError → Result (String Global) HandlerError → Type 0
+ReportsBehind line (Ok answer) (Ok text) = string_bytes text ≡ line ++ string_bytes answer
+ReportsBehind line (Err f) (Ok text) = ⊥
+ReportsBehind line boot (Err why) = why ≡ handler_error.NoMemory
 
 module _ {D : Type 0} (v : Device D) (laws : IsDevice v) (e : Event) (size : ℕ) (n new : BootedNode D) (alive : is_dead n.handler ≡ false)
     (commits : Commits v e size n.handler new.handler) (is_done : IsDone v e size n.handler new.handler) (gone : is_dead new.handler ≡ true) (started : HasStarted v.may_leave new.handler) where
@@ -143,24 +143,24 @@ module _ {D : Type 0} (v : Device D) (laws : IsDevice v) (e : Event) (size : ℕ
     where_it_runs P there (running events extent ps) at = there events extent ps at
     where_it_runs P there (dead s) at = never (sym alive ∙ at.1)
 
-    pub boots_behind : (final : PlaceInMemory D) (boot : Result (String Global) AllocError) (result : Result (String Global) HandlerError) → TellsBehind line boot result
-        → TellsOrStops v Boots (λ p a. StopsWithin p boots_node a) boot (memory.Made new) final → AnswersOrStops v Does Stops result (memory.Made n) final
-    boots_behind final (Ok answer) (Ok text) is told =
+    pub boots_behind : (final : PlaceInMemory D) (boot : Result (String Global) AllocError) (result : Result (String Global) HandlerError) → ReportsBehind line boot result
+        → ReportsOrStops v Boots (λ p a. StopsWithin p boots_node a) boot (memory.Made new) final → AnswersOrStops v Does Stops result (memory.Made n) final
+    boots_behind final (Ok answer) (Ok text) is reported =
         where_it_runs (λ p. Replied v p (λ a. Does p a × (a.answer ≡ string_bytes text)) (memory.Made n) final) (λ events extent ps at.
         subst (λ t. Replied v (running events extent ps) (λ a. Does (running events extent ps) a × (a.answer ≡ t)) (memory.Made n) final) (sym is)
-        (answered final events extent ps at (string_bytes answer) (told (dead (store_behind events e (extent_in new.handler))) (at_there events extent ps at))))
-    boots_behind final (Ok answer) (Err why) is told = λ p at. inr (is, inl (by_place p at))
+        (answered final events extent ps at (string_bytes answer) (reported (dead (store_behind events e (extent_in new.handler))) (at_there events extent ps at))))
+    boots_behind final (Ok answer) (Err why) is reported = λ p at. inr (is, inl (by_place p at))
       where
         by_place : (p : Place) → IsAt v (memory.Made n) p → Leads v p (λ a. Does p a ⊎ Stops p a) (memory.Made n) final
         by_place = where_it_runs (λ p. Leads v p (λ a. Does p a ⊎ Stops p a) (memory.Made n) final) (λ events extent ps at.
-            let r = answered final events extent ps at (string_bytes answer) (told (dead (store_behind events e (extent_in new.handler))) (at_there events extent ps at)) in
+            let r = answered final events extent ps at (string_bytes answer) (reported (dead (store_behind events e (extent_in new.handler))) (at_there events extent ps at)) in
             record { given = r.given; right = inl r.right.0; happens = r.happens })
-    boots_behind final (Err f) (Ok text) is told = absurd is
-    boots_behind final (Err f) (Err why) is told = λ p at. inr (is, inl (by_place p at))
+    boots_behind final (Err f) (Ok text) is reported = absurd is
+    boots_behind final (Err f) (Err why) is reported = λ p at. inr (is, inl (by_place p at))
       where
         by_place : (p : Place) → IsAt v (memory.Made n) p → Leads v p (λ a. Does p a ⊎ Stops p a) (memory.Made n) final
         by_place = where_it_runs (λ p. Leads v p (λ a. Does p a ⊎ Stops p a) (memory.Made n) final) (λ events extent ps at.
-            left final events extent ps at (told (dead (store_behind events e (extent_in new.handler))) (at_there events extent ps at)))
+            left final events extent ps at (reported (dead (store_behind events e (extent_in new.handler))) (at_there events extent ps at)))
 
     -- Memory was refused before the boot.
     pub ends_before_boot : AnswersOrStops v Does Stops (Err handler_error.NoMemory) (memory.Made n) (memory.Made new)

@@ -33,7 +33,7 @@ use Rattle.rel_session.proofs.ExtentLemmas.{reach_at}
 use Rattle.rel_session.proofs.DeviceLemmas.{IsDevice, weakened}
 use Rattle.rel_session.proofs.ListLemmas.{list_after-push}
 use Rattle.rel_session.proofs.Prefixes.{reached_with}
-use Rattle.rel_session.proofs.Replies.{stays, leaves_all, same_at, runs_at, tells, answers_line}
+use Rattle.rel_session.proofs.Replies.{stays, leaves_all, same_at, runs_at, reports, answers_line}
 
 module _ {D : Type 0} (v : Device D) (laws : IsDevice v) (P : Place → Reply → Type 0) (n : BootedNode D) (alive : is_dead n.handler ≡ false) where
   -- An event comes to the node. Done says what is replied where it was committed.
@@ -158,8 +158,8 @@ module _ {D : Type 0} (v : Device D) (laws : IsDevice v) (P : Place → Reply �
     -- it is done, and answered by this line
     pub changes : is_dead new.handler ≡ false → IsDone v change.event (change.size (list_in n.handler)) n.handler new.handler → (line : Result (String Global) AllocError) (result : Result (String Global) HandlerError)
         → MatchResult line (λ text. result ≡ Ok text) (λ _. result ≡ Err handler_error.NoMemory) → IfOk line (λ text. string_bytes text ≡ Transition.done_line (change.details (list_in n.handler))) → Answers v P result (memory.Made n) (memory.Made new)
-    changes works is_done line result is told =
-        answers_line v laws P line result (memory.Made n) (memory.Made new) is (tells v laws P line _ (memory.Made n) (memory.Made new) told (replies_done works is_done))
+    changes works is_done line result is reported =
+        answers_line v laws P line result (memory.Made n) (memory.Made new) is (reports v laws P line _ (memory.Made n) (memory.Made new) reported (replies_done works is_done))
 
     -- it isn't
     pub changes_none : (e : HandlerError) → CommandRefused v.failures change.event (change.size (list_in n.handler)) n.handler new.handler e → Answers v P (Err e) (memory.Made n) (memory.Made new)

@@ -34,8 +34,8 @@ use Rattle.rel_session.specs.Transition
 use Rattle.rel_session.specs.Transition.Action.{makes_node}
 use Rattle.rel_session.specs.Transition.StopsWithin.{without_its_node}
 use Rattle.rel_session.proofs.DeviceLemmas.{IsDevice}
-use Rattle.rel_session.proofs.ReleaseLemmas.{files_refuse, told_alike, creation_refused}
-use Rattle.rel_session.proofs.Replies.{HasBooted, held, kept, quiet, moments_of_nothing, stays, booted_at, starts, answers_or_stops, tells_refusal, refuses_anywhere}
+use Rattle.rel_session.proofs.ReleaseLemmas.{files_refuse, reported_alike, creation_refused}
+use Rattle.rel_session.proofs.Replies.{HasBooted, held, kept, quiet, moments_of_nothing, stays, booted_at, starts, answers_or_stops, reports_refusal, refuses_anywhere}
 
 module _ {D : Type 0} (v : Device D) (laws : IsDevice v) (source : Source) (path : List ℕ) where
   abbrev Creates : Place → Reply → Type 0
@@ -97,8 +97,8 @@ module _ {D : Type 0} (v : Device D) (laws : IsDevice v) (source : Source) (path
 
       pub creates : (line : Result (String Global) AllocError) (result : Result (String Global) HandlerError) (place : PlaceInMemory D) → MatchResult line (λ text. result ≡ Ok text) (λ _. result ≡ Err handler_error.NoMemory)
           → IsNodeStarted h line place → AnswersCommand v source (create path) result (memory.Idle disk) place
-      creates line result place is told = answers_or_stops v laws Creates Stops line result (memory.Idle disk) place is
-          (starts v laws Creates Stops (λ p b (does, comes, acts). (does, comes, without_its_node b acts refl)) h (memory.Idle disk) replies line place told)
+      creates line result place is reported = answers_or_stops v laws Creates Stops line result (memory.Idle disk) place is
+          (starts v laws Creates Stops (λ p b (does, comes, acts). (does, comes, without_its_node b acts refl)) h (memory.Idle disk) replies line place reported)
 
     -- It isn't.
     module _ (new : D) (counted : v.failures disk ≤ v.failures new) where
@@ -127,16 +127,16 @@ module _ {D : Type 0} (v : Device D) (laws : IsDevice v) (source : Source) (path
 
       -- the files are why
       unread : (why : HandlerError) → IsOfFiles source path why → WritesNothing v.seen v.may_leave v.moment v.left_since disk new → Answers v Creates (Err why) (memory.Idle disk) (memory.Idle new)
-      unread why of u = tells_refusal v laws Creates why (memory.Idle disk) (memory.Idle new)
+      unread why of u = reports_refusal v laws Creates why (memory.Idle disk) (memory.Idle new)
           (λ known p at. refuses p (refusal_of why) at u (creation_refused source path (refusal_of why) p (files_refuse source path why of known))) (nothing_done u)
 
       -- the files of its applications are
       barred : (why : HandlerError) → IsNotBegun v source path disk new why → Answers v Creates (Err why) (memory.Idle disk) (memory.Idle new)
-      barred why n = tells_refusal v laws Creates why (memory.Idle disk) (memory.Idle new)
+      barred why n = reports_refusal v laws Creates why (memory.Idle disk) (memory.Idle new)
           (λ known p at. refuses p (refusal_of why) at n.unwritten (making n.brought n.read p _ (subst (λ w. Transition.MakesNode p n.brought (refused w p)) is (there p at)))) (nothing_done n.unwritten)
         where
           is : refusal_for (of_files.refusal_of n.barred.error) ≡ refusal_of why
-          is = sym (told_alike n.barred.error) ∙ ap refusal_of (sym n.barred.told)
+          is = sym (reported_alike n.barred.error) ∙ ap refusal_of (sym n.barred.reported)
 
           there : (p : Place) → IsAt v (memory.Idle disk) p → Transition.MakesNode p n.brought (refused (refusal_for (of_files.refusal_of n.barred.error)) p)
           there (raw bytes) at = on_raw n.brought bytes false _ (ap holds_a_store (sym at) ∙ n.free) (by_refusal n.brought bytes _ _ n.barred.refused refl)

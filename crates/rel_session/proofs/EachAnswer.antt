@@ -34,7 +34,7 @@ use Rattle.rel_session.specs.Booting.{boot_line}
 use Rattle.rel_session.specs.Run.Ending.{ended, cut_off}
 use Rattle.rel_session.specs.AnswerLaws.{EachHasAnAnswer, HasAnswer, HasList, IsCertain, IsCompact, LeavesCompactStore, RunsOneShot}
 use Rattle.rel_session.specs.Transition
-use Rattle.rel_session.specs.Transition.Action.{answers, makes_node, changes_node, installs, reboots_node, boots_node, tells_start, calls}
+use Rattle.rel_session.specs.Transition.Action.{answers, makes_node, changes_node, installs, reboots_node, boots_node, reports_start, calls}
 use Rattle.node_command.proofs.CommandLemmas.{commanded_step}
 use Rattle.node_command.specs.Installing.{installation}
 use Rattle.node_upgrade.specs.Failure.{Failure}
@@ -85,8 +85,8 @@ fair_reply : (P : Reply → Type 0) (a : Reply) → P a → a.outcome.failed ≡
 fair_reply P a is works fair compact = record { given = a; is = is; works = works; fair = fair; compact = compact }
 
 -- an answer alone
-told_reply : (P : Reply → Type 0) (text : List ℕ) (p : Place) → P (reply text nothing p) → IsFair p → Has P
-told_reply P text p is fair = fair_reply P (reply text nothing p) is refl fair (λ r. absurd r)
+reported_reply : (P : Reply → Type 0) (text : List ℕ) (p : Place) → P (reply text nothing p) → IsFair p → Has P
+reported_reply P text p is fair = fair_reply P (reply text nothing p) is refl fair (λ r. absurd r)
 
 mapped : (P Q : Reply → Type 0) → ((a : Reply) → P a → Q a) → Has P → Has Q
 mapped P Q f has = record { given = has.given; is = f has.given has.is; works = has.works; fair = has.fair; compact = has.compact }
@@ -106,10 +106,10 @@ commits events extent ps list c size P after done = by_list (commanded c (releas
         let allowed : commanded c list ≡ Ok grown = ap (λ o. commanded c (list_or_none o)) (sym after) ∙ e in
         mapped (P (reach events extent c size)) (Transition.IsCommit events extent ps c size (Ok grown) P) (λ a is. inl (fits, inl (reach events extent c size, inl refl, is)))
         (done grown (list_after-push events c list grown after (commanded_step c list grown allowed)))
-    by_room grown e (inr over_it) = told_reply _ _ _ (inr (over_it, refl)) (runs events extent ps list after)
+    by_room grown e (inr over_it) = reported_reply _ _ _ (inr (over_it, refl)) (runs events extent ps list after)
 
     by_list : (o : Result Releases HandlerError) → commanded c (releases_after events) ≡ o → Has (Transition.IsCommit events extent ps c size o P)
-    by_list (Err why) e = told_reply _ _ _ refl (runs events extent ps list after)
+    by_list (Err why) e = reported_reply _ _ _ refl (runs events extent ps list after)
     by_list (Ok grown) e = by_room grown e (fits_or_not extent size)
 
 -- so short it is behind a commit
@@ -117,7 +117,7 @@ stays_compact : (events : Events) (extent : Extent) (e : Event) (size : ℕ) →
 stays_compact events extent e size = compacted_twice (extent_behind extent size) (releases_after (events ++ e ∷ []))
 
 changes : (events : Events) (extent : Extent) (ps : Processes) (list : Releases) (c : Transition.Change) (f : Option Refusal) → list_after events ≡ Some list → Has (Transition.Changes events extent ps c (releases_after events) f (commanded c.event (releases_after events)))
-changes events extent ps list c (Some why) after = told_reply _ _ _ refl (runs events extent ps list after)
+changes events extent ps list c (Some why) after = reported_reply _ _ _ refl (runs events extent ps list after)
 changes events extent ps list c None after =
     let size = c.size (releases_after events) in
     commits events extent ps list c.event size (λ x a. a ≡ Transition.changed events x ps c (releases_after events)) after (λ grown then.
@@ -125,23 +125,23 @@ changes events extent ps list c None after =
     (leaves_compact (c.event ∷ []) (running (events ++ c.event ∷ []) (reach events extent c.event size) ps) (stays_compact events extent c.event size)))
 
 makes_with : (x : List ℕ) (p : Bundle) (size : ℕ) (why : Option Refusal) → Has (Transition.MakesWith x p size why)
-makes_with x p size (Some why) = told_reply _ _ _ refl (of_raw x)
+makes_with x p size (Some why) = reported_reply _ _ _ refl (of_raw x)
 makes_with x p size None = go (fits_or_not first_extent size)
   where
     go : HasSpace first_extent size ⊎ (HasSpace first_extent size → ⊥) → Has (Transition.MakesWith x p size None)
     go (inl fits) = fair_reply _ _ (inl (fits, refl)) refl (runs (made p ∷ booting ∷ []) (extent_behind first_extent size) (fresh (entry p Permanent ∷ [])) (entry p Permanent ∷ []) refl) (λ r. refl)
-    go (inr over_it) = told_reply _ _ _ (inr (over_it, refl)) (of_raw x)
+    go (inr over_it) = reported_reply _ _ _ (inr (over_it, refl)) (of_raw x)
 
 makes_on : (x : List ℕ) (b : Brought) (there : Bool) → Has (Transition.MakesOn x b there)
-makes_on x b true = told_reply _ _ _ refl (of_raw x)
+makes_on x b true = reported_reply _ _ _ refl (of_raw x)
 makes_on x b false = makes_with x (bundle_brought b) (made_size b) (own_refusal b)
 
 makes : (p : Place) (found : Brought) → IsFair p → Has (Transition.MakesNode p found)
 makes p found (of_raw x) =
     mapped (Transition.MakesOn x found (holds_a_store x)) (Transition.MakesNode (raw x) found) (λ a is. inl is) (makes_on x found (holds_a_store x))
-makes p found (rests ran events extent list since after) = told_reply _ _ _ (inl refl) (rests ran events extent list since after)
-makes p found (runs events extent ps list after) = told_reply _ _ _ refl (runs events extent ps list after)
-makes p found (died ran events extent list since after) = told_reply _ _ _ refl (died ran events extent list since after)
+makes p found (rests ran events extent list since after) = reported_reply _ _ _ (inl refl) (rests ran events extent list since after)
+makes p found (runs events extent ps list after) = reported_reply _ _ _ refl (runs events extent ps list after)
+makes p found (died ran events extent list since after) = reported_reply _ _ _ refl (died ran events extent list since after)
 
 booted_there : (events : Events) (extent : Extent) (list : Releases) → list_after events ≡ Some list → Has (Transition.AnswersBoot events extent)
 booted_there events extent list after =
@@ -156,7 +156,7 @@ boots_bytes laws x = go (laws.either x)
         let (events, before) = events_of_image x es image still in
         let extent = extent_of x in
         mapped (Transition.AnswersBoot events extent) (Transition.BootsBytes x) (λ a is. inl (events, es, extent, before, record { image_of = image; reaches = refl }, is)) (booted_there events extent es before)
-    go (inr (why, is)) = told_reply _ (boot_line why) (raw x) (inr (inl (why, is, refl))) (of_raw x)
+    go (inr (why, is)) = reported_reply _ (boot_line why) (raw x) (inr (inl (why, is, refl))) (of_raw x)
 
 boots : BootLaws → (p : Place) → IsFair p → Has (Transition.Boots p)
 boots laws p (of_raw x) = boots_bytes laws x
@@ -184,15 +184,15 @@ reboots events extent ps list vsn after =
     (booted_compact (events ++ e ∷ []) x booted.is.0 (none_rebooted events vsn) booted.is.1 (stays_compact events extent e size))))
 
 rebooted : (p : Place) (vsn : List ℕ) → IsFair p → Has (Transition.Acts p (reboots_node vsn))
-rebooted p vsn (of_raw x) = told_reply _ _ _ refl (of_raw x)
-rebooted p vsn (rests ran events extent list since after) = told_reply _ _ _ refl (rests ran events extent list since after)
-rebooted p vsn (died ran events extent list since after) = told_reply _ _ _ refl (died ran events extent list since after)
+rebooted p vsn (of_raw x) = reported_reply _ _ _ refl (of_raw x)
+rebooted p vsn (rests ran events extent list since after) = reported_reply _ _ _ refl (rests ran events extent list since after)
+rebooted p vsn (died ran events extent list since after) = reported_reply _ _ _ refl (died ran events extent list since after)
 rebooted p vsn (runs events extent ps list after) = reboots events extent ps list vsn after
 
 changed : (p : Place) (c : Transition.Change) → IsFair p → Has (Transition.Acts p (changes_node c))
-changed p c (of_raw x) = told_reply _ _ _ refl (of_raw x)
-changed p c (rests ran events extent list since after) = told_reply _ _ _ refl (rests ran events extent list since after)
-changed p c (died ran events extent list since after) = told_reply _ _ _ refl (died ran events extent list since after)
+changed p c (of_raw x) = reported_reply _ _ _ refl (of_raw x)
+changed p c (rests ran events extent list since after) = reported_reply _ _ _ refl (rests ran events extent list since after)
+changed p c (died ran events extent list since after) = reported_reply _ _ _ refl (died ran events extent list since after)
 changed p c (runs events extent ps list after) = changes events extent ps list c (c.files (releases_after events)) after
 
 -- Behind an installation with a restart the node boots: it starts a one-shot, or the store is as short as it was.
@@ -226,8 +226,8 @@ installs_there events extent ps list vsn after = by_found (installation vsn (rel
             (restart_compact (events ++ e ∷ []) x (stays_compact events extent e size) booted.given booted.is)
 
     by_outcome : (f : FoundForm) → installation vsn (releases_after events) ≡ Ok f → (o : script.Outcome) → Has (RepliesTo events extent ps vsn (releases_after events) f o)
-    by_outcome f found (script.Outcome.refuses n c) = told_reply _ _ _ refl (runs events extent ps list after)
-    by_outcome f found (script.Outcome.breaks n c) = told_reply _ _ _ refl (died events events extent list (with_themselves events) after)
+    by_outcome f found (script.Outcome.refuses n c) = reported_reply _ _ _ refl (runs events extent ps list after)
+    by_outcome f found (script.Outcome.breaks n c) = reported_reply _ _ _ refl (died events events extent list (with_themselves events) after)
     by_outcome f found (script.Outcome.ends r) =
         let size = install_size vsn (releases_after events) in
         let x = reach events extent (installation_event (needs_restart vsn (releases_after events)) vsn) size in
@@ -235,42 +235,42 @@ installs_there events extent ps list vsn after = by_found (installation vsn (rel
 
     by_room : (f : FoundForm) → installation vsn (releases_after events) ≡ Ok f → HasSpace extent (install_room vsn (releases_after events)) ⊎ (HasSpace extent (install_room vsn (releases_after events)) → ⊥) → Has (RunsUnless events extent ps vsn (releases_after events) f None)
     by_room f found (inl fits) = mapped _ (RunsUnless events extent ps vsn (releases_after events) f None) (λ a is. inl (fits, is)) (by_outcome f found (upgrade_outcome vsn (releases_after events) f ps))
-    by_room f found (inr over_it) = told_reply _ _ _ (inr (over_it, refl)) (runs events extent ps list after)
+    by_room f found (inr over_it) = reported_reply _ _ _ (inr (over_it, refl)) (runs events extent ps list after)
 
     by_failure : (f : FoundForm) → installation vsn (releases_after events) ≡ Ok f → (o : Option Failure) → Has (RunsUnless events extent ps vsn (releases_after events) f o)
-    by_failure f found (Some why) = told_reply _ _ _ refl (runs events extent ps list after)
+    by_failure f found (Some why) = reported_reply _ _ _ refl (runs events extent ps list after)
     by_failure f found None = by_room f found (fits_or_not extent (install_room vsn (releases_after events)))
 
     by_found : (o : Result FoundForm HandlerError) → installation vsn (releases_after events) ≡ o → Has (Installs events extent ps vsn (releases_after events) o)
-    by_found (Err why) found = told_reply _ _ _ refl (runs events extent ps list after)
+    by_found (Err why) found = reported_reply _ _ _ refl (runs events extent ps list after)
     by_found (Ok f) found = by_failure f found (script_failure vsn (releases_after events) f)
 
 installed_there : (p : Place) (vsn : List ℕ) → IsFair p → Has (Transition.Acts p (installs vsn))
-installed_there p vsn (of_raw x) = told_reply _ _ _ refl (of_raw x)
-installed_there p vsn (rests ran events extent list since after) = told_reply _ _ _ refl (rests ran events extent list since after)
-installed_there p vsn (died ran events extent list since after) = told_reply _ _ _ refl (died ran events extent list since after)
+installed_there p vsn (of_raw x) = reported_reply _ _ _ refl (of_raw x)
+installed_there p vsn (rests ran events extent list since after) = reported_reply _ _ _ refl (rests ran events extent list since after)
+installed_there p vsn (died ran events extent list since after) = reported_reply _ _ _ refl (died ran events extent list since after)
 installed_there p vsn (runs events extent ps list after) = installs_there events extent ps list vsn after
 
-told : (p : Place) → IsFair p → Has (Transition.Acts p tells_start)
-told p (of_raw x) = told_reply _ _ _ refl (of_raw x)
-told p (rests ran events extent list since after) = told_reply _ _ _ refl (rests ran events extent list since after)
-told p (died ran events extent list since after) = told_reply _ _ _ refl (died ran events extent list since after)
-told p (runs events extent ps list after) = told_reply _ _ _ (inl refl) (runs events extent ps list after)
+reported : (p : Place) → IsFair p → Has (Transition.Acts p reports_start)
+reported p (of_raw x) = reported_reply _ _ _ refl (of_raw x)
+reported p (rests ran events extent list since after) = reported_reply _ _ _ refl (rests ran events extent list since after)
+reported p (died ran events extent list since after) = reported_reply _ _ _ refl (died ran events extent list since after)
+reported p (runs events extent ps list after) = reported_reply _ _ _ (inl refl) (runs events extent ps list after)
 
 called_there : (p : Place) (c : Calls) → IsFair p → Has (Transition.Acts p (calls c))
-called_there p c (of_raw x) = told_reply _ _ _ refl (of_raw x)
-called_there p c (rests ran events extent list since after) = told_reply _ _ _ refl (rests ran events extent list since after)
-called_there p c (died ran events extent list since after) = told_reply _ _ _ refl (died ran events extent list since after)
-called_there p c (runs events extent ps list after) = told_reply _ _ _ refl (runs events extent (left_by c ps) list after)
+called_there p c (of_raw x) = reported_reply _ _ _ refl (of_raw x)
+called_there p c (rests ran events extent list since after) = reported_reply _ _ _ refl (rests ran events extent list since after)
+called_there p c (died ran events extent list since after) = reported_reply _ _ _ refl (died ran events extent list since after)
+called_there p c (runs events extent ps list after) = reported_reply _ _ _ refl (runs events extent (left_by c ps) list after)
 
 acts : BootLaws → (p : Place) (does : Transition.Action) → IsFair p → Has (Transition.Acts p does)
-acts laws p (answers text) fair = told_reply _ text p refl fair
+acts laws p (answers text) fair = reported_reply _ text p refl fair
 acts laws p (makes_node found) fair = makes p found fair
 acts laws p (changes_node c) fair = changed p c fair
 acts laws p (installs vsn) fair = installed_there p vsn fair
 acts laws p (reboots_node vsn) fair = rebooted p vsn fair
 acts laws p boots_node fair = boots laws p fair
-acts laws p tells_start fair = told p fair
+acts laws p reports_start fair = reported p fair
 acts laws p (calls c) fair = called_there p c fair
 
 -- A reply to the first command, and what follows it.

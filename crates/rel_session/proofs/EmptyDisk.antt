@@ -16,7 +16,7 @@ use Rattle.rel_session.specs.Node.Place.{raw}
 use Rattle.rel_session.specs.Run.{Executes, MayLeave, Replies, Ending}
 use Rattle.rel_session.specs.RunLaws.{acknowledged_at, BecomesKnown, NoneFails, NoneAcknowledged, BeginsWithAMaking}
 use Rattle.rel_session.specs.Transition
-use Rattle.rel_session.specs.Transition.Action.{answers, makes_node, changes_node, installs, reboots_node, boots_node, tells_start, calls}
+use Rattle.rel_session.specs.Transition.Action.{answers, makes_node, changes_node, installs, reboots_node, boots_node, reports_start, calls}
 use Rattle.rel_session.proofs.AcknowledgedEvents.{first_answered, loses_nothing}
 use Rattle.rel_session.proofs.DeviceLemmas.{IsDevice}
 use Rattle.rel_session.proofs.Transitions.{rest_acknowledged}
@@ -48,7 +48,7 @@ makes b a (inr is) = makes_fails (bundle_brought b) (own_refusal b) a is
 
 boots : (a : Reply) → Transition.BootsBytes [] a → OnEmpty a
 boots a (inl (events, list, extent, after, image, is)) = cc image.image_of.store
-boots a (inr (inl (why, told, is))) = on_empty_as a _ is (inl (refl, inl refl))
+boots a (inr (inl (why, reported, is))) = on_empty_as a _ is (inl (refl, inl refl))
 boots a (inr (inr (torn, is))) = on_empty_as a _ is (inl (refl, inr refl))
 
 acts : (does : Transition.Action) (a : Reply) → Transition.Acts (raw []) does a → OnEmpty a
@@ -58,7 +58,7 @@ acts (changes_node change) a is = on_empty_as a _ is (inl (refl, inl refl))
 acts (installs vsn) a is = on_empty_as a _ is (inl (refl, inl refl))
 acts (reboots_node vsn) a is = on_empty_as a _ is (inl (refl, inl refl))
 acts boots_node a is = boots a is
-acts tells_start a is = on_empty_as a _ is (inl (refl, inl refl))
+acts reports_start a is = on_empty_as a _ is (inl (refl, inl refl))
 acts (calls c) a is = on_empty_as a _ is (inl (refl, inl refl))
 
 -- where its node is lost too

@@ -1,4 +1,4 @@
--- What a failure of the device is told as, and that nothing else leaves a doubt.
+-- What a failure of the device is reported as, and that nothing else leaves a doubt.
 use Rattle.std.proofs.Common.{◌≡◌, ◌⊎◌, inl, inr, ℕ, ◌≤◌, Bool, true, false, List, [], ◌∷◌, Option, Some, None, Result, Ok, Err, refl, sym, ap, ◌∙◌, subst, arith}
 use Rattle.rel_list.specs.Releases.{Releases, libraries_at}
 use Rattle.rel_list.specs.Event.{Event}
@@ -24,16 +24,16 @@ use Rattle.rel_session.specs.Installation.{restarted, restarted_reply}
 use Rattle.rel_session.specs.Node.{Place, Reply, releases_after}
 use Rattle.rel_session.specs.Node.Place.{raw, closed, running, dead}
 use Rattle.rel_session.specs.Run.{Executes, MayLeave}
-use Rattle.rel_session.specs.AnswerLaws.{FailsOnlyWithTheDevice, TellsDoubt, TellsFailure}
+use Rattle.rel_session.specs.AnswerLaws.{FailsOnlyWithTheDevice, ReportsDoubt, ReportsFailure}
 use Rattle.rel_session.specs.Transition
-use Rattle.rel_session.specs.Transition.Action.{answers, makes_node, changes_node, installs, reboots_node, boots_node, tells_start, calls}
+use Rattle.rel_session.specs.Transition.Action.{answers, makes_node, changes_node, installs, reboots_node, boots_node, reports_start, calls}
 use Rattle.rel_session.proofs.AcknowledgedEvents.{first_answered}
 use Rattle.rel_session.proofs.DeviceLemmas.{failed_first, failed_behind}
 use Rattle.rel_session.proofs.InstallationLemmas.{each_reply}
 
--- Nothing is in doubt, or the device failed and that is told.
+-- Nothing is in doubt, or the device failed and that is reported.
 abbrev IsPlain : Reply → Type 0
-IsPlain a = (a.outcome.in_doubt ≡ None) ⊎ ((a.outcome.failed ≡ true) × TellsFailure a.answer)
+IsPlain a = (a.outcome.in_doubt ≡ None) ⊎ ((a.outcome.failed ≡ true) × ReportsFailure a.answer)
 
 plain : (a b : Reply) → a ≡ b → IsPlain b → IsPlain a
 plain a b is of = subst IsPlain (sym is) of
@@ -87,7 +87,7 @@ reboots events extent ps vsn l o = commits events extent ps (rebooting vsn) _ o 
 
 boots : (p : Place) (a : Reply) → Transition.Boots p a → IsPlain a
 boots (raw bytes) a (inl (events, list, extent, after, image, (list_then, after_then, is))) = plain a _ is (inl refl)
-boots (raw bytes) a (inr (inl (why, told, is))) = plain a _ is (inl refl)
+boots (raw bytes) a (inr (inl (why, reported, is))) = plain a _ is (inl refl)
 boots (raw bytes) a (inr (inr (torn, is))) = plain a _ is (inr (refl, inr (inl refl)))
 boots (closed s) a is = boots_store s a is
 boots (running events extent ps) a is = boots_store (certain events extent) a is
@@ -119,11 +119,11 @@ acts (raw bytes) (reboots_node vsn) a is = plain a _ is (inl refl)
 acts (closed s) (reboots_node vsn) a is = plain a _ is (inl refl)
 acts (dead s) (reboots_node vsn) a is = plain a _ is (inl refl)
 acts p boots_node a is = boots p a is
-acts (running events extent ps) tells_start a (inl is) = plain a _ is (inl refl)
-acts (running events extent ps) tells_start a (inr is) = plain a _ is (inl refl)
-acts (raw bytes) tells_start a is = plain a _ is (inl refl)
-acts (closed s) tells_start a is = plain a _ is (inl refl)
-acts (dead s) tells_start a is = plain a _ is (inl refl)
+acts (running events extent ps) reports_start a (inl is) = plain a _ is (inl refl)
+acts (running events extent ps) reports_start a (inr is) = plain a _ is (inl refl)
+acts (raw bytes) reports_start a is = plain a _ is (inl refl)
+acts (closed s) reports_start a is = plain a _ is (inl refl)
+acts (dead s) reports_start a is = plain a _ is (inl refl)
 acts (running events extent ps) (calls c) a is = plain a _ is (inl refl)
 acts (raw bytes) (calls c) a is = plain a _ is (inl refl)
 acts (closed s) (calls c) a is = plain a _ is (inl refl)
@@ -132,17 +132,17 @@ acts (dead s) (calls c) a is = plain a _ is (inl refl)
 is_plain : (source : Source) (p : Place) (c : Command) (a : Reply) → Transition.Transition source p c a → IsPlain a
 is_plain source p c a (does, comes, is) = acts p does a is
 
-pub tells_doubt : (source : Source) → TellsDoubt source
-tells_doubt source p c a e is doubt = go (is_plain source p c a is)
+pub reports_doubt : (source : Source) → ReportsDoubt source
+reports_doubt source p c a e is doubt = go (is_plain source p c a is)
   where
-    go : IsPlain a → (a.outcome.failed ≡ true) × TellsFailure a.answer
+    go : IsPlain a → (a.outcome.failed ≡ true) × ReportsFailure a.answer
     go (inl none) = let lost : Some e ≡ None = sym doubt ∙ none in absurd cc
-    go (inr told) = told
+    go (inr reported) = reported
 
 -- a reply in which the device does not fail leaves nothing in doubt
 sure : (a : Reply) → IsPlain a → a.outcome.failed ≡ false → a.outcome.in_doubt ≡ None
 sure a (inl none) works = none
-sure a (inr (failed, told)) works = let lost : true ≡ false = sym failed ∙ works in absurd cc
+sure a (inr (failed, reported)) works = let lost : true ≡ false = sym failed ∙ works in absurd cc
 
 stopped_sure : (p : Place) (does : Transition.Action) (a : Reply) → Transition.StopsWithin p does a → a.outcome.failed ≡ false → a.outcome.in_doubt ≡ None
 stopped_sure p does a (Transition.StopsWithin.without_its_boot alone) works = ap (λ (r : Reply). r.outcome.in_doubt) alone.is

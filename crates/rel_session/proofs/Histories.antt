@@ -38,8 +38,8 @@ kept_by (a ∷ given) es next is =
 is_one : (n : ℕ) → (n == 1) ≡ true → n ≡ 1
 is_one n e = grind (arith, nat_tests)
 
-as_told : (es : Releases) → IsOrderly es → recorded es ≡ es → has_one_permanent es ≡ true → IsRecorded es
-as_told es orderly still one = record {
+as_reported : (es : Releases) → IsOrderly es → recorded es ≡ es → has_one_permanent es ≡ true → IsRecorded es
+as_reported es orderly still one = record {
   distinct = orderly.distinct;
   as_recorded = still;
   one_permanent = is_one (length (of_status is_permanent es)) one;
@@ -71,7 +71,7 @@ behind_record (images xs ls) [] next orderly still one taken =
     let by = restored_by xs ls next taken in
     let before = orderly-after by.events by.before by.leads in
     let so = statuses_orderly (map own_status xs) by.before next by.set before in
-    let (more, reached) = recorded_reached by.before next (as_told by.before before by.settled by.one) (as_told next so (settled_behind (images xs ls) [] next is refl) permanent) (kept_by (map own_status xs) by.before next by.set) in
+    let (more, reached) = recorded_reached by.before next (as_reported by.before before by.settled by.one) (as_reported next so (settled_behind (images xs ls) [] next is refl) permanent) (kept_by (map own_status xs) by.before next by.set) in
     (by.events ++ more, list_from-append [] by.events more by.before next by.leads reached)
 behind_record (assigns given) es next orderly still one taken = by_one one
   where
@@ -81,8 +81,8 @@ behind_record (assigns given) es next orderly still one taken = by_one one
     by_one : (es ≡ []) ⊎ (has_one_permanent es ≡ true) → Leads es next
     by_one (inl none) = absurd (none_permanent next (kept_by given es next assigned_there ∙ ap bundles_of none) (assigned_so (assigns given) es next taken).1)
     by_one (inr permanent) =
-        recorded_reached es next (as_told es orderly still permanent)
-        (as_told next (statuses_orderly given es next assigned_there orderly) (settled_behind (assigns given) es next assigned_there still) (assigned_so (assigns given) es next taken).1)
+        recorded_reached es next (as_reported es orderly still permanent)
+        (as_reported next (statuses_orderly given es next assigned_there orderly) (settled_behind (assigns given) es next assigned_there still) (assigned_so (assigns given) es next taken).1)
         (kept_by given es next assigned_there)
 
 events_behind : (format : ℕ) (events : Events) (es : Releases) (bodies : List (List ℕ)) (end : Releases) → list_after events ≡ Some es → recorded es ≡ es → (es ≡ []) ⊎ (has_one_permanent es ≡ true)
@@ -94,7 +94,7 @@ events_behind format events es (body ∷ bodies) end after still one (r, between
     let (next, permanent) = assigned_so r es between taken in
     events_behind format (events ++ more) between bodies end (list_from-append [] events more es between after leads) (settled_behind r es between next still) (inr permanent) rest
 
--- A list that a disk stands for is one behind events, where it is as records tell it.
+-- A list that a disk stands for is one behind events, where it is as records report it.
 pub events_of_image : (image : List ℕ) (es : Releases) → IsImageOf image es → recorded es ≡ es → (events : Events) × (list_after events ≡ Some es)
 events_of_image image es of still =
     let (events, after) = events_behind (format_of image) [] [] of.bodies (recorded es) refl refl (inl refl) of.list.makes.0 in

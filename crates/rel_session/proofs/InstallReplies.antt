@@ -41,7 +41,7 @@ use Rattle.rel_session.specs.declared.booted_node.BootedNode.{BootedNode}
 use Rattle.rel_session.specs.declared.place.Place.TheVariants as memory
 use Rattle.rel_session.specs.Device.{Device, LeavesOnly, HasFailed}
 use Rattle.rel_session.specs.Booting.{Boots, BootsStore, store_behind}
-use Rattle.rel_session.specs.InMemory.{state_in, HasInstalled, IsAt, Replied, Answers, AnswersAction, NothingDone, TellsInstallation, TellsOrStops}
+use Rattle.rel_session.specs.InMemory.{state_in, HasInstalled, IsAt, Replied, Answers, AnswersAction, NothingDone, ReportsInstallation, ReportsOrStops}
 use Rattle.node_answer.specs.Lines.{installed_line, installed_text}
 use Rattle.rel_session.specs.Installation.{RunsUnless, Installs, IsInstallationReply, RepliesTo, installed_reply, restarted_reply, upgrade_outcome}
 use Rattle.rel_session.specs.Node.{Place, Reply, reply, done, refused, failed, behind, releases_after, list_or_none, with_text}
@@ -54,7 +54,7 @@ use Rattle.rel_session.specs.Transition
 use Rattle.rel_session.specs.Transition.{StopsWithin}
 use Rattle.rel_session.specs.Transition.Action.{installs, boots_node}
 use Rattle.rel_session.specs.Transition.StopsWithin.{without_its_restart, without_its_node}
-use Rattle.rel_session.proofs.BootsBehind.{TellsBehind, boots_behind, ends_before_boot, reaches_there}
+use Rattle.rel_session.proofs.BootsBehind.{ReportsBehind, boots_behind, ends_before_boot, reaches_there}
 use Rattle.rel_session.proofs.Contradiction.{never}
 use Rattle.rel_session.proofs.ExtentLemmas.{reach_at}
 use Rattle.rel_session.proofs.DeviceLemmas.{IsDevice, weakened, still}
@@ -98,10 +98,10 @@ module _ {D : Type 0} (v : Device D) (laws : IsDevice v) (vsn : List ℕ) (n new
   where_it_runs P there (running events extent qs) (here, living, after, stop, has) = subst (λ q. P (running events extent q)) has (there events extent (here, living, after, stop, refl))
   where_it_runs P there (dead s) at = never (sym alive ∙ at.1)
 
-  -- A line that tells what was done, or memory was refused for it.
-  abbrev TellsLine : List ℕ → Result (String Global) HandlerError → Type 0
-  TellsLine line (Ok text) = string_bytes text ≡ line
-  TellsLine line (Err why) = why ≡ handler_error.NoMemory
+  -- A line that reports what was done, or memory was refused for it.
+  abbrev ReportsLine : List ℕ → Result (String Global) HandlerError → Type 0
+  ReportsLine line (Ok text) = string_bytes text ≡ line
+  ReportsLine line (Err why) = why ≡ handler_error.NoMemory
 
   abbrev RepliesAt : List ℕ → Place → Type 0
   RepliesAt line p = Replied v p (λ a. Does p a × (a.answer ≡ line)) (memory.Made n) (memory.Made new)
@@ -109,13 +109,13 @@ module _ {D : Type 0} (v : Device D) (laws : IsDevice v) (vsn : List ℕ) (n new
   abbrev Replies : List ℕ → Type 0
   Replies line = (p : Place) → IsAt v (memory.Made n) p → RepliesAt line p
 
-  concludes : (line : List ℕ) (result : Result (String Global) HandlerError) → TellsLine line result → Replies line → Answers v Does result (memory.Made n) (memory.Made new)
-  concludes line (Ok text) told replies = λ p at.
+  concludes : (line : List ℕ) (result : Result (String Global) HandlerError) → ReportsLine line result → Replies line → Answers v Does result (memory.Made n) (memory.Made new)
+  concludes line (Ok text) reported replies = λ p at.
       let r = replies p at in
-      record { given = r.given; right = (r.right.0, r.right.1 ∙ sym told); at = r.at; happens = r.happens }
-  concludes line (Err why) told replies = λ p at.
+      record { given = r.given; right = (r.right.0, r.right.1 ∙ sym reported); at = r.at; happens = r.happens }
+  concludes line (Err why) reported replies = λ p at.
       let r = replies p at in
-      inr (told, inl (record { given = r.given; right = r.right.0; at = r.at; happens = r.happens }))
+      inr (reported, inl (record { given = r.given; right = r.right.0; at = r.at; happens = r.happens }))
 
   moments_at : (events : Events) → list_after events ≡ Some es → LeavesOnly v (disk_in n.handler) (disk_in new.handler) (IsReached (settled events) (e ∷ []))
   moments_at events after = weakened v (disk_in n.handler) (disk_in new.handler) _ _ (reached_with events (extent_in n.handler) e size) (commits.any_moment alive events after)
@@ -150,7 +150,7 @@ module _ {D : Type 0} (v : Device D) (laws : IsDevice v) (vsn : List ℕ) (n new
     abbrev r : Run
     r = carried_out.0
 
-    -- the line that tells it
+    -- the line that reports it
     line_is : installed_line u.found (stale_modules (behind_run r).modules (libraries_at vsn es)) ≡ line_of i
     line_is =
         let target_is : u.target ≡ libraries_at vsn es = ap (λ (w : UpgradeForm). w.target) by_script.1.is in
@@ -208,8 +208,8 @@ module _ {D : Type 0} (v : Device D) (laws : IsDevice v) (vsn : List ℕ) (n new
       right_then events extent qs (here, living, after, stop, has) b boot =
           let x = extent_in new.handler in
           let at : IsAt v (memory.Made n) (running events extent ps) = (here, living, after, stop, refl) in
-          let told : with_text (line_of i) (behind e b) ≡ restarted_reply vsn es u.found (behind_run r) b = (λ j. with_text (sym line_is j) (behind (restart_is j) b)) in
-          let is : IsInstallationReply true events x vsn es u.found (behind_run r) (with_text (line_of i) (behind e b)) = (b, subst (λ f. BootsStore (store_behind events f x) b) restart_is boot, told) in
+          let reported : with_text (line_of i) (behind e b) ≡ restarted_reply vsn es u.found (behind_run r) b = (λ j. with_text (sym line_is j) (behind (restart_is j) b)) in
+          let is : IsInstallationReply true events x vsn es u.found (behind_run r) (with_text (line_of i) (behind e b)) = (b, subst (λ f. BootsStore (store_behind events f x) b) restart_is boot, reported) in
           here_so qs (λ q. Does (running events extent q) (with_text (line_of i) (behind e b))) has
           (done_so events extent _ at (reaches events extent ps at) (subst (λ c. IsInstallationReply c events x vsn es u.found (behind_run r) (with_text (line_of i) (behind e b))) (sym restart) is))
 
@@ -241,13 +241,13 @@ module _ {D : Type 0} (v : Device D) (laws : IsDevice v) (vsn : List ℕ) (n new
           }))
 
       -- the boot was done, or refused, or memory was refused to it
-      pub restarts_so : (final : PlaceInMemory D) (boot : Result (String Global) AllocError) (result : Result (String Global) HandlerError) → TellsBehind (line_of i) boot result
-          → TellsOrStops v Boots (λ p a. StopsWithin p boots_node a) boot (memory.Made new) final → AnswersAction v (installs vsn) result (memory.Made n) final
+      pub restarts_so : (final : PlaceInMemory D) (boot : Result (String Global) AllocError) (result : Result (String Global) HandlerError) → ReportsBehind (line_of i) boot result
+          → ReportsOrStops v Boots (λ p a. StopsWithin p boots_node a) boot (memory.Made new) final → AnswersAction v (installs vsn) result (memory.Made n) final
       restarts_so = boots_behind v laws e size n new alive commits is_done gone started (line_of i) Does Stops right_then alone_then (λ p b is. without_its_node b is refl)
 
       -- memory was refused to its own line
-      pub restarts_untold : AnswersAction v (installs vsn) (Err handler_error.NoMemory) (memory.Made n) (memory.Made new)
-      restarts_untold = ends_before_boot v laws e size n new alive commits is_done gone started (line_of i) Does Stops right_then alone_then (λ p b is. without_its_node b is refl)
+      pub restarts_unreported : AnswersAction v (installs vsn) (Err handler_error.NoMemory) (memory.Made n) (memory.Made new)
+      restarts_unreported = ends_before_boot v laws e size n new alive commits is_done gone started (line_of i) Does Stops right_then alone_then (λ p b is. without_its_node b is refl)
 
   -- the script was carried out, and the device failed behind it
   device_replies : (u : UpgradeForm) → MayBegin vsn n.handler u → IsFinished (site_for u ps.modules) (start_in (state_in n)) u.found.script (listed_in new.processes.loaded) new.processes.tree new.processes.seat.view
@@ -275,23 +275,23 @@ module _ {D : Type 0} (v : Device D) (laws : IsDevice v) (vsn : List ℕ) (n new
 
   broken_replies : (f : ScriptFailure) (u : UpgradeForm) → MayBegin vsn n.handler u → RunRefused u (state_in n) (state_in new) (install_error.MustReboot f) → (failure_of f).why ≢ fails no_memory → IsLost n.handler new.handler
       → Replies (refusal_line (must_reboot (failure_of f)))
-  broken_replies f u (is, fits) (c, told, broke) known lost =
+  broken_replies f u (is, fits) (c, reported, broke) known lost =
       ⊎_elim (λ (broken, apps). where_it_runs (RepliesAt (refusal_line (must_reboot (failure_of f)))) (there broken))
-      (λ (memory, at_its_end, finished). absurd (known (ap (λ (g : Failure). g.why) told ∙ ap fails memory))) broke.stopped
+      (λ (memory, at_its_end, finished). absurd (known (ap (λ (g : Failure). g.why) reported ∙ ap fails memory))) broke.stopped
     where
       there : IsBroken (site_for u ps.modules) (start_in (state_in n)) u.found.script f.instr c new.processes.seat.view
           → (events : Events) (extent : Extent) → IsAt v (memory.Made n) (running events extent ps) → RepliesAt (refusal_line (must_reboot (failure_of f))) (running events extent ps)
       there broken events extent (here, living, after, stop, has) =
           let comes =
           script_breaks (site_for u ps.modules) n.processes.seat.view n.processes.tree ps.modules u.found.script f.instr c new.processes.seat.view sound.alone
-          (λ memory. known (ap (λ (g : Failure). g.why) told ∙ ap fails memory)) broken in
+          (λ memory. known (ap (λ (g : Failure). g.why) reported ∙ ap fails memory)) broken in
           let a = refused (must_reboot (failure f.instr (fails c))) (dead (certain events extent)) in
           let holds : Holds v (dead (certain events extent)) (disk_in new.handler) = subst (λ d. Holds v (dead (certain events extent)) d) (sym lost.disk) here in
           record {
             given = a;
             right = (
               right_for events extent a after (leads_so u is events extent a (breaks f.instr c) (subst (λ m. HasSpace m room) stop fits) (comes_to u is (breaks f.instr c) comes) refl),
-              ap (λ g. refusal_line (must_reboot g)) (sym told),
+              ap (λ g. refusal_line (must_reboot g)) (sym reported),
             );
             at = (holds, lost.dead);
             happens = record {
@@ -341,11 +341,11 @@ module _ {D : Type 0} (v : Device D) (laws : IsDevice v) (vsn : List ℕ) (n new
 
     -- an instruction before the point fails
     turned_back : (f : ScriptFailure) (u : UpgradeForm) → MayBegin vsn n.handler u → RunRefused u (state_in n) (state_in new) (install_error.Refused f) → Replies (refusal_line (script_refused (failure_of f)))
-    turned_back f u (is, fits) (c, known, told, refused_so, untouched) =
+    turned_back f u (is, fits) (c, known, reported, refused_so, untouched) =
         let comes = script_refuses (site_for u ps.modules) n.processes.seat.view n.processes.tree ps.modules u.found.script f.instr c new.processes.seat.view sound.alone known refused_so in
         same_replies (script_refused (failure_of f)) (λ events extent stop.
         leads_so u is events extent _ (refuses f.instr c) (subst (λ m. HasSpace m room) stop fits) (comes_to u is (refuses f.instr c) comes)
-        (ap (λ g. refused (script_refused g) (running events extent ps)) told))
+        (ap (λ g. refused (script_refused g) (running events extent ps)) reported))
 
   -- what the handler refused
   command_refused : (why : HandlerError) → InstallRefused v.failures vsn n.handler new.handler (state_in n) (state_in new) (install_error.Command why) → Answers v Does (Err why) (memory.Made n) (memory.Made new)
@@ -372,37 +372,37 @@ module _ {D : Type 0} (v : Device D) (laws : IsDevice v) (vsn : List ℕ) (n new
   script_refused_so f (living, inl none, same) = not_begun same f none
   script_refused_so f (living, inr (u, may, why), same) = turned_back same f u may why
 
-  -- So is what is told of it, where the node has not to boot.
-  pub answers_install : (done : Result Installed InstallError) (result : Result (String Global) HandlerError) → TellsInstallation done result → OnOk done (is_dead new.handler ≡ false)
+  -- So is what is reported of it, where the node has not to boot.
+  pub answers_install : (done : Result Installed InstallError) (result : Result (String Global) HandlerError) → ReportsInstallation done result → OnOk done (is_dead new.handler ≡ false)
       → IfOk done (HasInstalled v vsn n new) → IfErr done (InstallRefused v.failures vsn n.handler new.handler (state_in n) (state_in new)) → Answers v Does result (memory.Made n) (memory.Made new)
-  answers_install (Ok i) (Ok text) told works of refused_so = concludes (line_of i) (Ok text) told (done_replies i of.is_done of.fits of.by_script works (sym of.restarts ∙ works))
-  answers_install (Ok i) (Err why) told works of refused_so = concludes (line_of i) (Err why) told (done_replies i of.is_done of.fits of.by_script works (sym of.restarts ∙ works))
-  answers_install (Err (install_error.Command why)) result told works of refused_so =
-      subst (λ r. Answers v Does r (memory.Made n) (memory.Made new)) (sym told) (command_refused why refused_so)
-  answers_install (Err (install_error.Refused f)) (Ok text) told works of refused_so = concludes (refusal_line (script_refused (failure_of f))) (Ok text) told (script_refused_so f refused_so)
-  answers_install (Err (install_error.Refused f)) (Err why) told works of refused_so = concludes (refusal_line (script_refused (failure_of f))) (Err why) told (script_refused_so f refused_so)
-  answers_install (Err (install_error.MustReboot f)) (Ok text) (told, known) works of (living, (u, may, why), lost) =
-      concludes (refusal_line (must_reboot (failure_of f))) (Ok text) told (broken_replies f u may why known lost)
-  answers_install (Err (install_error.MustReboot f)) (Err why) told works of (living, (u, may, so), lost) = λ p at. inr (told, inr (broken_silently lost p at))
+  answers_install (Ok i) (Ok text) reported works of refused_so = concludes (line_of i) (Ok text) reported (done_replies i of.is_done of.fits of.by_script works (sym of.restarts ∙ works))
+  answers_install (Ok i) (Err why) reported works of refused_so = concludes (line_of i) (Err why) reported (done_replies i of.is_done of.fits of.by_script works (sym of.restarts ∙ works))
+  answers_install (Err (install_error.Command why)) result reported works of refused_so =
+      subst (λ r. Answers v Does r (memory.Made n) (memory.Made new)) (sym reported) (command_refused why refused_so)
+  answers_install (Err (install_error.Refused f)) (Ok text) reported works of refused_so = concludes (refusal_line (script_refused (failure_of f))) (Ok text) reported (script_refused_so f refused_so)
+  answers_install (Err (install_error.Refused f)) (Err why) reported works of refused_so = concludes (refusal_line (script_refused (failure_of f))) (Err why) reported (script_refused_so f refused_so)
+  answers_install (Err (install_error.MustReboot f)) (Ok text) (reported, known) works of (living, (u, may, why), lost) =
+      concludes (refusal_line (must_reboot (failure_of f))) (Ok text) reported (broken_replies f u may why known lost)
+  answers_install (Err (install_error.MustReboot f)) (Err why) reported works of (living, (u, may, so), lost) = λ p at. inr (reported, inr (broken_silently lost p at))
 
-  -- Where it has, it boots behind the line that tells the installation.
-  pub answers_restart : (done : Result Installed InstallError) (line : String Global) → TellsInstallation done (Ok line) → IsOk done → is_dead new.handler ≡ true → IfOk done (HasInstalled v vsn n new)
-      → (final : PlaceInMemory D) (boot : Result (String Global) AllocError) (result : Result (String Global) HandlerError) → TellsBehind (string_bytes line) boot result
-      → TellsOrStops v Boots (λ p a. StopsWithin p boots_node a) boot (memory.Made new) final → AnswersAction v (installs vsn) result (memory.Made n) final
-  answers_restart (Ok i) line told ok gone of final boot result is booted =
-      restarts_so i of.is_done of.fits of.by_script gone of.started (sym of.restarts ∙ gone) final boot result (subst (λ l. TellsBehind l boot result) told is) booted
-  answers_restart (Err error) line told ok gone of final boot result is booted = never ok
+  -- Where it has, it boots behind the line that reports the installation.
+  pub answers_restart : (done : Result Installed InstallError) (line : String Global) → ReportsInstallation done (Ok line) → IsOk done → is_dead new.handler ≡ true → IfOk done (HasInstalled v vsn n new)
+      → (final : PlaceInMemory D) (boot : Result (String Global) AllocError) (result : Result (String Global) HandlerError) → ReportsBehind (string_bytes line) boot result
+      → ReportsOrStops v Boots (λ p a. StopsWithin p boots_node a) boot (memory.Made new) final → AnswersAction v (installs vsn) result (memory.Made n) final
+  answers_restart (Ok i) line reported ok gone of final boot result is booted =
+      restarts_so i of.is_done of.fits of.by_script gone of.started (sym of.restarts ∙ gone) final boot result (subst (λ l. ReportsBehind l boot result) reported is) booted
+  answers_restart (Err error) line reported ok gone of final boot result is booted = never ok
 
   -- Where memory is refused to that line, nothing is booted.
-  pub answers_untold : (done : Result Installed InstallError) (why : HandlerError) → TellsInstallation done (Err why) → IfOk done (HasInstalled v vsn n new)
+  pub answers_unreported : (done : Result Installed InstallError) (why : HandlerError) → ReportsInstallation done (Err why) → IfOk done (HasInstalled v vsn n new)
       → IfErr done (InstallRefused v.failures vsn n.handler new.handler (state_in n) (state_in new)) → AnswersAction v (installs vsn) (Err why) (memory.Made n) (memory.Made new)
-  answers_untold (Ok i) why told of refused_so = by_life (is_dead new.handler) refl
+  answers_unreported (Ok i) why reported of refused_so = by_life (is_dead new.handler) refl
     where
       by_life : (b : Bool) → is_dead new.handler ≡ b → AnswersAction v (installs vsn) (Err why) (memory.Made n) (memory.Made new)
       by_life true gone =
-          subst (λ w. AnswersAction v (installs vsn) (Err w) (memory.Made n) (memory.Made new)) (sym told) (restarts_untold i of.is_done of.fits of.by_script gone of.started (sym of.restarts ∙ gone))
-      by_life false works = never_stops v laws Does Stops (Err why) (memory.Made n) (memory.Made new) (answers_install (Ok i) (Err why) told works of refused_so)
-  answers_untold (Err error) why told of refused_so = never_stops v laws Does Stops (Err why) (memory.Made n) (memory.Made new) (answers_install (Err error) (Err why) told tt of refused_so)
+          subst (λ w. AnswersAction v (installs vsn) (Err w) (memory.Made n) (memory.Made new)) (sym reported) (restarts_unreported i of.is_done of.fits of.by_script gone of.started (sym of.restarts ∙ gone))
+      by_life false works = never_stops v laws Does Stops (Err why) (memory.Made n) (memory.Made new) (answers_install (Ok i) (Err why) reported works of refused_so)
+  answers_unreported (Err error) why reported of refused_so = never_stops v laws Does Stops (Err why) (memory.Made n) (memory.Made new) (answers_install (Err error) (Err why) reported tt of refused_so)
 
 -- What is so anyway is so where it was done; and where it wasn't, nothing is owed.
 pub on_done : (done : Result Installed InstallError) (P : Type 0) → P → OnOk done P
@@ -414,14 +414,14 @@ on_undone (Ok i) P undone = never (sym undone)
 on_undone (Err error) P undone = tt
 
 -- The answer is that of the boot behind the installation's own line.
-pub tells_appended : (line : List ℕ) (boot joined : Result (String Global) AllocError) (result : Result (String Global) HandlerError) → IfOk joined (λ text. IsOkAnd boot (λ b. string_bytes text ≡ line ++ string_bytes b))
-    → MatchResult joined (λ text. result ≡ Ok text) (λ _. result ≡ Err handler_error.NoMemory) → TellsBehind line boot result
-tells_appended line (Ok b) (Ok text) result told is = subst (TellsBehind line (Ok b)) (sym is) told
-tells_appended line (Err e) (Ok text) result told is = absurd told
-tells_appended line (Ok b) (Err e) result told is = subst (TellsBehind line (Ok b)) (sym is) refl
-tells_appended line (Err f) (Err e) result told is = subst (TellsBehind line (Err f)) (sym is) refl
+pub reports_appended : (line : List ℕ) (boot joined : Result (String Global) AllocError) (result : Result (String Global) HandlerError) → IfOk joined (λ text. IsOkAnd boot (λ b. string_bytes text ≡ line ++ string_bytes b))
+    → MatchResult joined (λ text. result ≡ Ok text) (λ _. result ≡ Err handler_error.NoMemory) → ReportsBehind line boot result
+reports_appended line (Ok b) (Ok text) result reported is = subst (ReportsBehind line (Ok b)) (sym is) reported
+reports_appended line (Err e) (Ok text) result reported is = absurd reported
+reports_appended line (Ok b) (Err e) result reported is = subst (ReportsBehind line (Ok b)) (sym is) refl
+reports_appended line (Err f) (Err e) result reported is = subst (ReportsBehind line (Err f)) (sym is) refl
 
--- What an installation that was done is, as the handler's clauses tell it.
+-- What an installation that was done is, as the handler's clauses report it.
 pub has_installed : {D : Type 0} (v : Device D) (vsn : List ℕ) (n new : BootedNode D) (done : Result Installed InstallError) → OnOk done (is_dead new.handler ≡ needs_restart vsn (list_in n.handler))
     → OnOk done (IsDone v (install_event vsn (list_in n.handler)) (install_size vsn (list_in n.handler)) n.handler new.handler) → OnOk done (HasSpace (extent_in n.handler) (install_room vsn (list_in n.handler)))
     → OnOk done (HasStarted v.may_leave new.handler) → IfOk done (λ i. IsInstalledBy vsn (list_in n.handler) (state_in n) i (state_in new)) → IfOk done (HasInstalled v vsn n new)

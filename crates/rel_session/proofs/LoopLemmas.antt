@@ -236,18 +236,18 @@ module _ {D : Type 0} (v : Device D) (laws : IsDevice v) (base : Source) where
       let (commands, are, text) = run start starts in
       (commands, are_all known commands (subst (λ l. AreLeft l commands) same are), text)
 
--- the error that is told was that of the input
-pub cut_told : {V : Type 0} (Shows : V → Command → Type 0) (e : SessionError) (now new : Option (Feed Command))
+-- the error that is reported was that of the input
+pub cut_reported : {V : Type 0} (Shows : V → Command → Type 0) (e : SessionError) (now new : Option (Feed Command))
     → IsErrOf {T = Unit {0}} (Err e) Limit → IsNext Shows (Err e) now new → EndsAs cut now new
-cut_told {V} Shows e now new is n = subst (λ x. IsNext {V = V} Shows (Err x) now new) (let same : e ≡ Limit = cc in same) n
+cut_reported {V} Shows e now new is n = subst (λ x. IsNext {V = V} Shows (Err x) now new) (let same : e ≡ Limit = cc in same) n
 
--- no error is told where there is none
+-- no error is reported where there is none
 pub no_error : (e : SessionError) → IsErrOf (Ok (tt {0})) e → ⊥
 no_error e is = cc is
 
--- one error is told as no other
-pub one_error : (told e other : SessionError) → told ≡ e → (e ≡ other → ⊥) → IsErrOf {T = Unit {0}} (Err told) other → ⊥
-one_error told e other is differ also = differ (sym is ∙ (let same : told ≡ other = cc in same))
+-- one error is reported as no other
+pub one_error : (reported e other : SessionError) → reported ≡ e → (e ≡ other → ⊥) → IsErrOf {T = Unit {0}} (Err reported) other → ⊥
+one_error reported e other is differ also = differ (sym is ∙ (let same : reported ≡ other = cc in same))
 
 pub Write≢Read : Write ≡ Read → ⊥
 Write≢Read is = cc is
@@ -265,12 +265,12 @@ pub NoMemory≢Limit : NoMemory ≡ Limit → ⊥
 NoMemory≢Limit is = cc is
 
 -- the error of the input has its cause
-pub read_told : {R : Type 0} (e : SessionError) (first : ℕ) (old new : Input R) → failed_reads old ≡ first → HasCause {V = Option CommandInMemory} (Err e) old new → IsErrOf {T = Unit {0}} (Err e) Read → HasRisen first (failed_reads new)
-read_told e first old new same cause is =
+pub read_reported : {R : Type 0} (e : SessionError) (first : ℕ) (old new : Input R) → failed_reads old ≡ first → HasCause {V = Option CommandInMemory} (Err e) old new → IsErrOf {T = Unit {0}} (Err e) Read → HasRisen first (failed_reads new)
+read_reported e first old new same cause is =
     subst (λ n. HasRisen n (failed_reads new)) same (subst (λ x. HasCause {V = Option CommandInMemory} (Err x) old new) (let known : e ≡ Read = cc in known) cause)
 
-pub write_told : {R : Type 0} (e : SessionError) (old new : Input R) → HasCause {V = Option CommandInMemory} (Err e) old new → IsErrOf {T = Unit {0}} (Err e) Write → ⊥
-write_told e old new cause is = subst (λ x. HasCause {V = Option CommandInMemory} (Err x) old new) (let known : e ≡ Write = cc in known) cause
+pub write_reported : {R : Type 0} (e : SessionError) (old new : Input R) → HasCause {V = Option CommandInMemory} (Err e) old new → IsErrOf {T = Unit {0}} (Err e) Write → ⊥
+write_reported e old new cause is = subst (λ x. HasCause {V = Option CommandInMemory} (Err x) old new) (let known : e ≡ Write = cc in known) cause
 
-pub limit_told : {R : Type 0} (e : SessionError) (old new : Input R) → HasCause {V = Option CommandInMemory} (Err e) old new → IsErrOf {T = Unit {0}} (Err e) Limit → taken new ≡ most_bytes
-limit_told e old new cause is = subst (λ x. HasCause {V = Option CommandInMemory} (Err x) old new) (let known : e ≡ Limit = cc in known) cause
+pub limit_reported : {R : Type 0} (e : SessionError) (old new : Input R) → HasCause {V = Option CommandInMemory} (Err e) old new → IsErrOf {T = Unit {0}} (Err e) Limit → taken new ≡ most_bytes
+limit_reported e old new cause is = subst (λ x. HasCause {V = Option CommandInMemory} (Err x) old new) (let known : e ≡ Limit = cc in known) cause

@@ -36,10 +36,10 @@ use Rattle.rel_session.specs.Run.Ending.{ended, cut_off, unread, early}
 use Rattle.rel_session.specs.AnswerLaws.{AreSame, HaveOneAnswer, IsCertain, IsCompact, LeaveCompactStores, LeavesCompactStore, RunsOneShot}
 use Rattle.rel_session.specs.RunLaws.{NoneFails}
 use Rattle.rel_session.specs.Transition
-use Rattle.rel_session.specs.Transition.Action.{answers, makes_node, changes_node, installs, reboots_node, boots_node, tells_start, calls}
+use Rattle.rel_session.specs.Transition.Action.{answers, makes_node, changes_node, installs, reboots_node, boots_node, reports_start, calls}
 use Rattle.rel_session.proofs.AcknowledgedEvents.{next_answered, none_left}
 use Rattle.rel_session.proofs.SourceLemmas.{gives_one}
-use Rattle.rel_session.proofs.ActionLemmas.{AreTold, has_record, HasRecordOf, kind_of, one_action}
+use Rattle.rel_session.proofs.ActionLemmas.{AreReported, has_record, HasRecordOf, kind_of, one_action}
 use Rattle.rel_session.proofs.ExtentLemmas.{booted_reach, has_only, none_rebooted, one_reach, reach_beside_one_shot, releases-booted}
 use Rattle.node_command.specs.Installing.{installation}
 use Rattle.node_processes.specs.Scripts.{behind_run}
@@ -54,7 +54,7 @@ use Rattle.rel_session.specs.Installation.{RunsUnless, installed_reply, Installs
 use Rattle.rel_handler.specs.Installing.{install_size, installation_event, needs_restart}
 use Rattle.rel_session.proofs.ListLemmas.{current-booted, list_after-push, same_list}
 
--- Two places that nothing tells apart: the events of a boot of bytes are any that have the list.
+-- Two places that nothing distinguishes: the events of a boot of bytes are any that have the list.
 data Alike : Place → Place → Type 0 where
   same_bytes : (x : List ℕ) → Alike (raw x) (raw x)
   same_store : (ran events : Events) (extent : Extent) → Alike (closed (at_rest_since ran events extent)) (closed (at_rest_since ran events extent))
@@ -78,15 +78,15 @@ same_action source one p q c x y alike comes comes_too = go (one_action source o
     same_kind p q (same_lists events others extent ps qs same one) = refl
     same_kind p q (same_dead ran began events others extent same) = refl
 
-    told_same : (says : Releases → Processes → List ℕ) (p q : Place) → Alike p q → Transition.told says p ≡ Transition.told says q
-    told_same says p q (same_bytes b) = refl
-    told_same says p q (same_store ran events extent) = refl
-    told_same says p q (same_dead ran began events others extent same) = refl
-    told_same says p q (same_lists events others extent ps qs same one) = ap (λ o. says (list_or_none o) ps) same ∙ ap (λ r. says (releases_after others) r) one
+    reported_same : (says : Releases → Processes → List ℕ) (p q : Place) → Alike p q → Transition.reported says p ≡ Transition.reported says q
+    reported_same says p q (same_bytes b) = refl
+    reported_same says p q (same_store ran events extent) = refl
+    reported_same says p q (same_dead ran began events others extent same) = refl
+    reported_same says p q (same_lists events others extent ps qs same one) = ap (λ o. says (list_or_none o) ps) same ∙ ap (λ r. says (releases_after others) r) one
 
-    go : (x ≡ y) ⊎ AreTold p q x y → x ≡ y
+    go : (x ≡ y) ⊎ AreReported p q x y → x ≡ y
     go (inl one) = one
-    go (inr (says, here, here_too)) = here ∙ ap answers (told_same says p q alike) ∙ sym here_too
+    go (inr (says, here, here_too)) = here ∙ ap answers (reported_same says p q alike) ∙ sym here_too
 
 abbrev Same : Reply → Reply → Type 0
 Same a b = (a.answer ≡ b.answer) × (a.outcome ≡ b.outcome) × Alike a.after b.after
@@ -224,10 +224,10 @@ module _ (a b : Reply) (both : Fine a b) where
       let m_is : again ≡ m = let e : Some again ≡ Some m = sym after_too ∙ m_after in cc in
       (ap booted (sym l_is) ∙ one.booted ∙ ap booted m_is, ap (booted_extent extent) (sym l_is) ∙ one.extents extent ∙ ap (booted_extent extent) m_is))
       is (subst (λ n. Transition.AnswersBoot others n b) there also)
-  boots_bytes laws x (inl (events, list, extent, after, image, is)) (inr (inl (why, told, also))) = absurd (laws.never_both x list why image.image_of told)
+  boots_bytes laws x (inl (events, list, extent, after, image, is)) (inr (inl (why, reported, also))) = absurd (laws.never_both x list why image.image_of reported)
   boots_bytes laws x (inl is) (inr (inr (torn, also))) = failure b _ also refl both.1
-  boots_bytes laws x (inr (inl (why, told, is))) (inl (events, list, extent, after, image, also)) = absurd (laws.never_both x list why image.image_of told)
-  boots_bytes laws x (inr (inl (why, told, is))) (inr (inl (other, told_too, also))) = as_these a b _ _ is also (refusal_line_once x why other told told_too, refl, same_bytes x)
+  boots_bytes laws x (inr (inl (why, reported, is))) (inl (events, list, extent, after, image, also)) = absurd (laws.never_both x list why image.image_of reported)
+  boots_bytes laws x (inr (inl (why, reported, is))) (inr (inl (other, reported_too, also))) = as_these a b _ _ is also (refusal_line_once x why other reported reported_too, refl, same_bytes x)
   boots_bytes laws x (inr (inl is)) (inr (inr (torn, also))) = failure b _ also refl both.1
   boots_bytes laws x (inr (inr (torn, is))) other = failure a _ is refl both.0
 
@@ -239,29 +239,29 @@ module _ (a b : Reply) (both : Fine a b) where
 
 -- replies behind an event
 behind_same : (e : Event) (x y : Reply) → Same x y → Same (behind e x) (behind e y)
-behind_same e x y (told, outcomes, then) = (told, ap (λ (o : CommandOutcome). (behind e (record { answer = []; outcome = o; after = x.after })).outcome) outcomes, then)
+behind_same e x y (reported, outcomes, then) = (reported, ap (λ (o : CommandOutcome). (behind e (record { answer = []; outcome = o; after = x.after })).outcome) outcomes, then)
 
 -- and behind a line
 with_text_same : (line : List ℕ) (x y : Reply) → Same x y → Same (with_text line x) (with_text line y)
-with_text_same line x y (told, outcomes, then) = (ap (λ t. line ++ t) told, outcomes, then)
+with_text_same line x y (reported, outcomes, then) = (ap (λ t. line ++ t) reported, outcomes, then)
 
 -- A store that boots to one as short as a compaction leaves it, where the list has no one-shot, was as short before.
 rests : (events : Events) (x : Extent) (r : Reply) → has_one_shot (releases_after events) ≡ false → r.outcome.failed ≡ false → IsCompact r.after → Transition.BootsStore (certain events x) r → x ≡ compacted x (releases_after events)
-rests events x r free fine small (inl (es, n, has, (list, after, told))) =
+rests events x r free fine small (inl (es, n, has, (list, after, reported))) =
     let only = has_only events events es x n has in
     let none : has_one_shot (releases_after es) ≡ false = subst (λ l. has_one_shot (releases_after l) ≡ false) (sym only.0) free in
     let plain : has_one_shot list ≡ false = ap (λ o. has_one_shot (list_or_none o)) (sym after) ∙ none in
     let compact : n ≡ compacted n (releases_after (es ++ booting ∷ [])) =
-    subst (λ y. y ≡ compacted y (releases_after (es ++ booting ∷ []))) (extent_of_none n list plain) (subst (λ (t : Reply). IsCompact t.after) told small) in
+    subst (λ y. y ≡ compacted y (releases_after (es ++ booting ∷ []))) (extent_of_none n list plain) (subst (λ (t : Reply). IsCompact t.after) reported small) in
     subst (λ l. x ≡ compacted x (releases_after l)) only.0 (subst (λ y. y ≡ compacted y (releases_after es)) only.1 (compact ∙ booted_reach n es none))
 rests events x r free fine small (inr fails) = boot_failure r _ fails fine
 
 -- Behind a boot that starts no one-shot none is current.
 none_runs_once : (events : Events) (x : Extent) (r : Reply) → has_one_shot (releases_after events) ≡ false → r.outcome.failed ≡ false → Transition.BootsStore (certain events x) r → RunsOneShot r.after → ⊥
-none_runs_once events x r free fine (inl (es, n, has, (list, after, told))) once =
+none_runs_once events x r free fine (inl (es, n, has, (list, after, reported))) once =
     let only = has_only events events es x n has in
     let none : has_one_shot (releases_after es) ≡ false = subst (λ l. has_one_shot (releases_after l) ≡ false) (sym only.0) free in
-    let here : has_current (releases_after (es ++ booting ∷ [])) ≡ true = subst (λ (t : Reply). RunsOneShot t.after) told once in
+    let here : has_current (releases_after (es ++ booting ∷ [])) ≡ true = subst (λ (t : Reply). RunsOneShot t.after) reported once in
     let lost : true ≡ false = sym here ∙ ap has_current (releases-booted es) ∙ current-booted (releases_after es) ∙ none in cc
 none_runs_once events x r free fine (inr fails) once = boot_failure r _ fails fine
 
@@ -374,14 +374,14 @@ module _ (a b : Reply) (both : Both a b) where
       let then : releases_after others ≡ releases_after events = ap list_or_none (sym same) in
       installs_so events others extent ps qs vsn (releases_after events) (installation vsn (releases_after events)) same one is (subst (λ l. Installs others extent qs vsn l (installation vsn l) b) then also)
 
-  told : (p q : Place) → Alike p q → Transition.Acts p tells_start a → Transition.Acts q tells_start b → Same a b
-  told p q (same_bytes x) is also = as_these a b _ _ is also (refl, refl, same_bytes x)
-  told p q (same_store ran events extent) is also = as_these a b _ _ is also (refl, refl, same_store ran events extent)
-  told p q (same_dead ran began events others extent same) is also = as_these a b _ _ is also (refl, refl, same_dead ran began events others extent same)
-  told p q (same_lists events others extent ps qs same one) (inl is) (inl also) =
+  reported : (p q : Place) → Alike p q → Transition.Acts p reports_start a → Transition.Acts q reports_start b → Same a b
+  reported p q (same_bytes x) is also = as_these a b _ _ is also (refl, refl, same_bytes x)
+  reported p q (same_store ran events extent) is also = as_these a b _ _ is also (refl, refl, same_store ran events extent)
+  reported p q (same_dead ran began events others extent same) is also = as_these a b _ _ is also (refl, refl, same_dead ran began events others extent same)
+  reported p q (same_lists events others extent ps qs same one) (inl is) (inl also) =
       as_these a b _ _ is also (ap (λ o. Transition.ok_line (Transition.start_versions (permanent (list_or_none o)))) same, refl, same_lists events others extent ps qs same one)
-  told p q (same_lists events others extent ps qs same one) (inl is) (inr also) = failure b _ also refl both.1
-  told p q (same_lists events others extent ps qs same one) (inr is) other = failure a _ is refl both.0
+  reported p q (same_lists events others extent ps qs same one) (inl is) (inr also) = failure b _ also refl both.1
+  reported p q (same_lists events others extent ps qs same one) (inr is) other = failure a _ is refl both.0
 
   called_alike : (p q : Place) (c : Calls) → Alike p q → Transition.Acts p (calls c) a → Transition.Acts q (calls c) b → Same a b
   called_alike p q c (same_bytes x) is also = as_these a b _ _ is also (refl, refl, same_bytes x)
@@ -397,7 +397,7 @@ module _ (a b : Reply) (both : Both a b) where
   acts laws p q (installs vsn) has alike is also = installed_alike p q vsn alike is also
   acts laws p q (reboots_node vsn) has alike is also = rebooted p q vsn alike is also
   acts laws p q boots_node has alike is also = boots a b (both.0, both.1) laws p q alike is also
-  acts laws p q tells_start has alike is also = told p q alike is also
+  acts laws p q reports_start has alike is also = reported p q alike is also
   acts laws p q (calls c) has alike is also = called_alike p q c alike is also
 
   one_reply : BootLaws → (source : Source) → GivesOne source → (p q : Place) (c : Command) → Alike p q → Transition.Transition source p c a → Transition.Transition source q c b → Same a b
@@ -443,9 +443,9 @@ one_run laws base single files p q cut a b (r ∷ first) (s ∷ second) alike no
 one_run laws base single files p q (next c rest) a b (r ∷ first) (s ∷ second) alike not_a not_b (works, all) (works_too, all_too) (small, rests) (small_too, rests_too) right right_too =
     let (is, behind) = next_answered base files p c rest a r first not_a right in
     let (also, behind_too) = next_answered base files q c rest b s second not_b right_too in
-    let (told, outcomes, then) = one_reply r s (works, works_too, small, small_too) laws (source_of base files) (gives_one base files single) p q c alike is also in
+    let (reported, outcomes, then) = one_reply r s (works, works_too, small, small_too) laws (source_of base files) (gives_one base files single) p q c alike is also in
     let (end, same) = one_run laws base single (files_behind files c) r.after s.after rest a b first second then not_a not_b all all_too rests rests_too behind behind_too in
-    (end, (told, outcomes, same))
+    (end, (reported, outcomes, same))
 
 pub have_one_answer : BootLaws → (base : Source) → HaveOneAnswer base
 have_one_answer laws base single files p commands a b first second sure = one_run laws base single files p p commands a b first second (alike_itself p sure)

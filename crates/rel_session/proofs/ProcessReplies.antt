@@ -56,16 +56,16 @@ module _ {D : Type 0} (v : Device D) (laws : IsDevice v) (P : Place → Reply �
       (record { nothing_new = still v laws (disk_in n.handler); holds = at.0; counted = omega arith })
 
   -- Where memory is refused, the processes may be any.
-  pub answers_if_told : (line : Result (String Global) AllocError) (result : Result (String Global) HandlerError)
+  pub answers_if_reported : (line : Result (String Global) AllocError) (result : Result (String Global) HandlerError)
       → MatchResult line (λ text. result ≡ Ok text) (λ _. result ≡ Err handler_error.NoMemory) → IfOk line (λ text. string_bytes text ≡ says (list_in n.handler) (processes_in n.processes))
       → IfOk line (λ _. processes_in new.processes ≡ leaves (processes_in n.processes)) → Answers v P result (memory.Made n) (memory.Made new)
-  answers_if_told (Ok text) result is told left = subst (λ r. Answers v P r (memory.Made n) (memory.Made new)) (sym is) (λ p at.
+  answers_if_reported (Ok text) result is reported left = subst (λ r. Answers v P r (memory.Made n) (memory.Made new)) (sym is) (λ p at.
       let r = replies left p at in
-      record { given = r.given; right = (r.right.0, r.right.1 ∙ sym told); at = r.at; happens = r.happens })
-  answers_if_told (Err e) result is told left = subst (λ r. Answers v P r (memory.Made n) (memory.Made new)) (sym is) (λ p at. inr (refl, inr (writes_nothing p at)))
+      record { given = r.given; right = (r.right.0, r.right.1 ∙ sym reported); at = r.at; happens = r.happens })
+  answers_if_reported (Err e) result is reported left = subst (λ r. Answers v P r (memory.Made n) (memory.Made new)) (sym is) (λ p at. inr (refl, inr (writes_nothing p at)))
 
   pub answers_of_node : processes_in new.processes ≡ leaves (processes_in n.processes) → (line : Result (String Global) AllocError) (result : Result (String Global) HandlerError)
       → MatchResult line (λ text. result ≡ Ok text) (λ _. result ≡ Err handler_error.NoMemory) → IfOk line (λ text. string_bytes text ≡ says (list_in n.handler) (processes_in n.processes))
       → Answers v P result (memory.Made n) (memory.Made new)
-  answers_of_node left (Ok text) result is told = answers_if_told (Ok text) result is told left
-  answers_of_node left (Err e) result is told = answers_if_told (Err e) result is told tt
+  answers_of_node left (Ok text) result is reported = answers_if_reported (Ok text) result is reported left
+  answers_of_node left (Err e) result is reported = answers_if_reported (Err e) result is reported tt

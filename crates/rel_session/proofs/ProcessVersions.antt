@@ -27,7 +27,7 @@ use Rattle.rel_session.specs.Installation.{restarted}
 use Rattle.rel_session.specs.Node.{Place, Reply, releases_after, list_or_none}
 use Rattle.rel_session.specs.Node.Place.{raw, closed, running, dead}
 use Rattle.rel_session.specs.Transition
-use Rattle.rel_session.specs.Transition.Action.{answers, makes_node, changes_node, installs, reboots_node, boots_node, tells_start, calls}
+use Rattle.rel_session.specs.Transition.Action.{answers, makes_node, changes_node, installs, reboots_node, boots_node, reports_start, calls}
 use Rattle.node_processes.specs.ModuleVersions.{HaveModuleVersions}
 use Rattle.node_processes.proofs.ModuleVersions.{AreWithLibraries, fresh_versions, left_versions, script_versions}
 use Rattle.node_upgrade.specs.Upgrade.{site_for, upgrade_to}
@@ -187,11 +187,11 @@ acts (raw x) (reboots_node vsn) of all versions a is = versions_as a _ is tt
 acts (closed s) (reboots_node vsn) of all versions a is = versions_as a _ is tt
 acts (dead s) (reboots_node vsn) of all versions a is = versions_as a _ is tt
 acts p boots_node of all versions a is = boots p all a is
-acts (running events extent ps) tells_start of all versions a (inl is) = versions_as a _ is versions
-acts (running events extent ps) tells_start of all versions a (inr is) = versions_as a _ is tt
-acts (raw x) tells_start of all versions a is = versions_as a _ is tt
-acts (closed s) tells_start of all versions a is = versions_as a _ is tt
-acts (dead s) tells_start of all versions a is = versions_as a _ is tt
+acts (running events extent ps) reports_start of all versions a (inl is) = versions_as a _ is versions
+acts (running events extent ps) reports_start of all versions a (inr is) = versions_as a _ is tt
+acts (raw x) reports_start of all versions a is = versions_as a _ is tt
+acts (closed s) reports_start of all versions a is = versions_as a _ is tt
+acts (dead s) reports_start of all versions a is = versions_as a _ is tt
 acts (running events extent ps) (calls c) of all versions a is = versions_as a _ is (left_versions c ps versions)
 acts (raw x) (calls c) of all versions a is = versions_as a _ is tt
 acts (closed s) (calls c) of all versions a is = versions_as a _ is tt

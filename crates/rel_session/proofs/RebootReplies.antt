@@ -20,13 +20,13 @@ use Rattle.rel_session.specs.declared.place.Place.TheVariants as memory
 use Rattle.node_command.specs.declared.error.HandlerError.{HandlerError}
 use Rattle.node_command.specs.declared.error.HandlerError.TheVariants as handler_error
 use Rattle.rel_session.specs.Device.{Device}
-use Rattle.rel_session.specs.InMemory.{IsAt, TellsOrStops, AnswersAction}
+use Rattle.rel_session.specs.InMemory.{IsAt, ReportsOrStops, AnswersAction}
 use Rattle.rel_session.specs.Node.{Place, Reply, reply, done, behind, releases_after, list_or_none}
 use Rattle.rel_session.specs.Node.Place.{closed, running}
 use Rattle.rel_session.specs.Transition.{Acts, StopsWithin, Boots, BootsStore, rebooted}
 use Rattle.rel_session.specs.Transition.Action.{reboots_node, boots_node}
 use Rattle.rel_session.specs.Transition.StopsWithin.{without_its_boot, without_its_node}
-use Rattle.rel_session.proofs.BootsBehind.{TellsBehind, boots_behind, reaches_there}
+use Rattle.rel_session.proofs.BootsBehind.{ReportsBehind, boots_behind, reaches_there}
 use Rattle.rel_session.proofs.CommitReplies.{right_for}
 use Rattle.rel_session.proofs.DeviceLemmas.{IsDevice}
 
@@ -35,9 +35,9 @@ abbrev pub IsRebooted : List ℕ → Events → Processes → Releases → Exten
 IsRebooted vsn events ps list extent a = (b : Reply) × BootsStore (rebooted events extent vsn) b × (a ≡ behind (rebooting vsn) b)
 
 -- The answer is that of the boot.
-tells_boot : (line : Result (String Global) AllocError) (result : Result (String Global) HandlerError) → MatchResult line (λ text. result ≡ Ok text) (λ _. result ≡ Err handler_error.NoMemory) → TellsBehind [] line result
-tells_boot (Ok text) result is = subst (TellsBehind [] (Ok text)) (sym is) refl
-tells_boot (Err f) result is = subst (TellsBehind [] (Err f)) (sym is) refl
+reports_boot : (line : Result (String Global) AllocError) (result : Result (String Global) HandlerError) → MatchResult line (λ text. result ≡ Ok text) (λ _. result ≡ Err handler_error.NoMemory) → ReportsBehind [] line result
+reports_boot (Ok text) result is = subst (ReportsBehind [] (Ok text)) (sym is) refl
+reports_boot (Err f) result is = subst (ReportsBehind [] (Err f)) (sym is) refl
 
 module _ {D : Type 0} (v : Device D) (laws : IsDevice v) (vsn : List ℕ) (n new : BootedNode D) (kept_on : processes_in new.processes ≡ processes_in n.processes) (alive : is_dead n.handler ≡ false)
     (commits : Commits v (rebooting vsn) (change_size (rebooting vsn) (list_in n.handler)) n.handler new.handler) (is_done : IsDone v (rebooting vsn) (change_size (rebooting vsn) (list_in n.handler)) n.handler new.handler)
@@ -81,6 +81,6 @@ module _ {D : Type 0} (v : Device D) (laws : IsDevice v) (vsn : List ℕ) (n new
       })
 
   pub reboots : (final : PlaceInMemory D) (line : Result (String Global) AllocError) (result : Result (String Global) HandlerError) → MatchResult line (λ text. result ≡ Ok text) (λ _. result ≡ Err handler_error.NoMemory)
-      → TellsOrStops v Boots (λ p a. StopsWithin p boots_node a) line (memory.Made new) final → AnswersAction v (reboots_node vsn) result (memory.Made n) final
-  reboots final line result is told =
-      boots_behind v laws e (change_size e (list_in n.handler)) n new alive commits is_done gone started [] Does Stops right_then alone_then (λ p b is. without_its_node b is refl) final line result (tells_boot line result is) told
+      → ReportsOrStops v Boots (λ p a. StopsWithin p boots_node a) line (memory.Made new) final → AnswersAction v (reboots_node vsn) result (memory.Made n) final
+  reboots final line result is reported =
+      boots_behind v laws e (change_size e (list_in n.handler)) n new alive commits is_done gone started [] Does Stops right_then alone_then (λ p b is. without_its_node b is refl) final line result (reports_boot line result is) reported

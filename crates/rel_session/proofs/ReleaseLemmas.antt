@@ -2,7 +2,7 @@
 use Rattle.std.proofs.Common.{◌≡◌, ◌≢◌, ℕ, List, Err, refl, ap, ◌∙◌}
 use Rattle.node_store.specs.Image.{Extent}
 use Rattle.node_store.specs.Events.{Events}
-use Rattle.node_command.specs.Files.{Brings, IsOfFiles, told_files}
+use Rattle.node_command.specs.Files.{Brings, IsOfFiles, reported_files}
 use Rattle.node_command.specs.declared.error.HandlerError.{HandlerError}
 use Rattle.node_command.specs.declared.error.HandlerError.TheVariants.{NoMemory}
 use Rattle.rel_unpack.specs.Refusal as of_files
@@ -20,19 +20,19 @@ use Rattle.rel_session.specs.Transition.{Transition, creation, unpacking}
 abbrev pub IsFilesRefusal : Source → List ℕ → NodeRefusal → Type 0
 IsFilesRefusal source path why = (r : of_files.Refusal) × Brings source path (Err r) × (why ≡ refusal_for r)
 
-pub told_alike : (e : UnpackError) → refusal_of (told_files e) ≡ refusal_for (of_files.refusal_of e)
-told_alike (unpack.MissingFile path) = refl
-told_alike (unpack.BadFile path trouble) = refl
-told_alike (unpack.VsnMismatch path) = refl
-told_alike (unpack.LibDiffers app) = refl
-told_alike (unpack.NoTable app) = refl
-told_alike unpack.TooMany = refl
-told_alike unpack.NoMemory = refl
+pub reported_alike : (e : UnpackError) → refusal_of (reported_files e) ≡ refusal_for (of_files.refusal_of e)
+reported_alike (unpack.MissingFile path) = refl
+reported_alike (unpack.BadFile path trouble) = refl
+reported_alike (unpack.VsnMismatch path) = refl
+reported_alike (unpack.LibDiffers app) = refl
+reported_alike (unpack.NoTable app) = refl
+reported_alike unpack.TooMany = refl
+reported_alike unpack.NoMemory = refl
 
 -- what the handler answers for the files of a path is the refusal for them
 pub files_refuse : (source : Source) (path : List ℕ) (e : HandlerError) → IsOfFiles source path e → e ≢ NoMemory → IsFilesRefusal source path (refusal_of e)
 files_refuse source path e of known =
-    (of_files.refusal_of of.error, of.read (λ is. known (of.told ∙ ap told_files is)), ap refusal_of of.told ∙ told_alike of.error)
+    (of_files.refusal_of of.error, of.read (λ is. known (of.reported ∙ ap reported_files is)), ap refusal_of of.reported ∙ reported_alike of.error)
 
 pub creation_refused : (source : Source) (path : List ℕ) (why : NodeRefusal) (p : Place) → IsFilesRefusal source path why → Transition source p (create path) (refused why p)
 creation_refused source path why p (r, found, is) = (creation (Err r), (Err r, found, refl), ap (λ w. refused w p) is)

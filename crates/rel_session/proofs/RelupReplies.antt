@@ -3,7 +3,7 @@ use Rattle.std.proofs.Common.{◌≡◌, ◌≢◌, inl, inr, ℕ, List, Result,
 use Rattle.std.specs.Prelude.{String, string_bytes, MatchResult}
 use Rattle.std.specs.declared.alloc.Global.{Global}
 use Rattle.node_command.specs.declared.error.HandlerError.{HandlerError}
-use Rattle.node_command.specs.Files.{told_files}
+use Rattle.node_command.specs.Files.{reported_files}
 use Rattle.rel_unpack.specs.Order as files
 use Rattle.rel_unpack.specs.Refusal.{refusal_of as files_refusal}
 use Rattle.rel_unpack.specs.Source.{Source}
@@ -37,7 +37,7 @@ module _ {D : Type 0} (v : Device D) (laws : IsDevice v) (place : PlaceInMemory 
       stays v laws p answer (λ a. RepliesTo p a × (a.answer ≡ answer)) place place at refl at
       ((relup_telling (Err (files_refusal why)), (Err (files_refusal why), there, refl), refl), refl)
 
-  refused : (why : UnpackError) → (why ≢ NoMemory → AnswerAt source new ups downs (Err (files_refusal why))) → Answers v RepliesTo (Err (told_files why)) place place
+  refused : (why : UnpackError) → (why ≢ NoMemory → AnswerAt source new ups downs (Err (files_refusal why))) → Answers v RepliesTo (Err (reported_files why)) place place
   refused NoMemory there = λ p at. inr (refl, inr (leaves_all v laws p place place refl at))
   refused (MissingFile path) there = λ p at. inl (refused_for (MissingFile path) (there (λ e. cc e)) p at)
   refused (BadFile path trouble) there = λ p at. inl (refused_for (BadFile path trouble) (there (λ e. cc e)) p at)
@@ -46,7 +46,7 @@ module _ {D : Type 0} (v : Device D) (laws : IsDevice v) (place : PlaceInMemory 
   refused (NoTable app) there = λ p at. inl (refused_for (NoTable app) (there (λ e. cc e)) p at)
   refused TooMany there = λ p at. inl (refused_for TooMany (there (λ e. cc e)) p at)
 
-  pub answers_relup : (made : Result (String Global) UnpackError) (r : Result (String Global) HandlerError) → MatchResult made (λ text. r ≡ Ok text) (λ why. r ≡ Err (told_files why))
+  pub answers_relup : (made : Result (String Global) UnpackError) (r : Result (String Global) HandlerError) → MatchResult made (λ text. r ≡ Ok text) (λ why. r ≡ Err (reported_files why))
       → files.Answers string_bytes (AnswerAt source new ups downs) made → Answers v RepliesTo r place place
   answers_relup (Ok text) r is there = subst (λ q. Answers v RepliesTo q place place) (sym is) (answered text there)
   answers_relup (Err why) r is there = subst (λ q. Answers v RepliesTo q place place) (sym is) (refused why there)

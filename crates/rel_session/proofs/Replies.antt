@@ -31,7 +31,7 @@ use Rattle.session_input.specs.Commands.{Command}
 use Rattle.session_input.specs.Commands.Command.{file, create, set_unpacked, check, install, permanent, remove, reboot_old, boot, start, releases, procs, modules, peek, call, flood, relup, quit, bad}
 use Rattle.rel_session.specs.Device.{Device, LeavesOnly, HasFailed}
 use Rattle.rel_unpack.specs.Source.{Source}
-use Rattle.rel_session.specs.InMemory.{disk_at, IsAt, Replied, Leads, NothingDone, Answers, TellsReply, TellsOrStops, AnswersOrStops, IsNodeStarted, NeedsNode}
+use Rattle.rel_session.specs.InMemory.{disk_at, IsAt, Replied, Leads, NothingDone, Answers, ReportsReply, ReportsOrStops, AnswersOrStops, IsNodeStarted, NeedsNode}
 use Rattle.rel_session.specs.Node.{Place, just_booted, at_rest, list_or_none, CommandOutcome, Reply, reply, refused, failed, nothing, done, failed_with}
 use Rattle.rel_session.specs.Node.Place.{raw, closed, running, dead}
 use Rattle.node_answer.specs.Refusals.{refusal_of, refusal_line}
@@ -40,7 +40,7 @@ use Rattle.node_answer.specs.Refusals.NodeRefusal.{dead as dead_node}
 use Rattle.rel_session.proofs.Contradiction.{never}
 use Rattle.rel_session.specs.Run.{IsReached, Holds, Moments, Happens}
 use Rattle.rel_session.specs.Transition
-use Rattle.rel_session.specs.Transition.Action.{answers, changes_node, installs, reboots_node, boots_node, tells_start, calls}
+use Rattle.rel_session.specs.Transition.Action.{answers, changes_node, installs, reboots_node, boots_node, reports_start, calls}
 use Rattle.rel_session.specs.Transition.StopsWithin.{without_its_node}
 use Rattle.rel_session.proofs.DeviceLemmas.{IsDevice, weakened, still}
 use Rattle.rel_session.proofs.Histories.{events_of_image}
@@ -48,9 +48,9 @@ use Rattle.rel_session.proofs.ListLemmas.{list_after-push}
 use Rattle.rel_session.proofs.Prefixes.{reached, reached_booting, stored}
 
 -- what an error became is the refusal
-pub told_so : (r : Result (String Global) HandlerError) (why : HandlerError) → IsErrAnd r (λ e. e ≡ why) → r ≡ Err why
-told_so (Ok vsn) why never = absurd never
-told_so (Err e) why is = ap Err is
+pub reported_so : (r : Result (String Global) HandlerError) (why : HandlerError) → IsErrAnd r (λ e. e ≡ why) → r ≡ Err why
+reported_so (Ok vsn) why never = absurd never
+reported_so (Err e) why is = ap Err is
 
 -- memory was refused, or it was something else
 memory_or_not : (why : HandlerError) → (why ≡ handler_error.NoMemory) ⊎ (why ≢ handler_error.NoMemory)
@@ -193,14 +193,14 @@ module _ {D : Type 0} (v : Device D) (laws : IsDevice v) where
 
   -- Its processes were started, or memory was refused and its disk alone is left.
   module _ (P Q : Place → Reply → Type 0) (lost : (p : Place) (b : Reply) → P p b → Q p (Transition.without_node b)) (h : NodeStore D) (old : PlaceInMemory D) where
-    abbrev Tells : Place → Reply → Type 0
-    Tells p a = P p a × (a.answer ≡ Transition.ok_line (Transition.version_of (running_release (list_in h))))
+    abbrev Reports : Place → Reply → Type 0
+    Reports p a = P p a × (a.answer ≡ Transition.ok_line (Transition.version_of (running_release (list_in h))))
 
-    pub starts : ((p : Place) → IsAt v old p → HasBooted p (Tells p) old h) → (line : Result (String Global) AllocError) (place : PlaceInMemory D) → IsNodeStarted h line place → TellsOrStops v P Q line old place
+    pub starts : ((p : Place) → IsAt v old p → HasBooted p (Reports p) old h) → (line : Result (String Global) AllocError) (place : PlaceInMemory D) → IsNodeStarted h line place → ReportsOrStops v P Q line old place
     starts booted_there (Ok text) (memory.Idle disk) never_so = absurd never_so
-    starts booted_there (Ok text) (memory.Made n) (is, has, told) = λ p at.
+    starts booted_there (Ok text) (memory.Made n) (is, has, reported) = λ p at.
         let b = booted_there p at in
-        record { given = b.given; right = (b.right.0, b.right.1 ∙ sym told); at = b.at n is has; happens = subst (λ k. Happens v p b.given (disk_at old) (disk_in k)) (sym is) b.happens }
+        record { given = b.given; right = (b.right.0, b.right.1 ∙ sym reported); at = b.at n is has; happens = subst (λ k. Happens v p b.given (disk_at old) (disk_in k)) (sym is) b.happens }
     starts booted_there (Err e) (memory.Made n) never_so = absurd never_so
     starts booted_there (Err e) (memory.Idle disk) is = λ p at.
         let b = booted_there p at in
@@ -210,12 +210,12 @@ module _ {D : Type 0} (v : Device D) (laws : IsDevice v) where
         left p b happens = record { moments = happens.moments; holds = rests b.after (disk_in h) happens.holds; cause = happens.cause; counted = happens.counted }
 
   -- A command's line, which may not fit into memory.
-  pub tells : (P : Place → Reply → Type 0) (line : Result (String Global) AllocError) (answer : List ℕ) (old new : PlaceInMemory D) → IfOk line (λ text. string_bytes text ≡ answer)
-      → ((p : Place) → IsAt v old p → Replied v p (λ a. P p a × (a.answer ≡ answer)) old new) → TellsReply v P line old new
-  tells P (Ok text) answer old new told replied = λ p at.
+  pub reports : (P : Place → Reply → Type 0) (line : Result (String Global) AllocError) (answer : List ℕ) (old new : PlaceInMemory D) → IfOk line (λ text. string_bytes text ≡ answer)
+      → ((p : Place) → IsAt v old p → Replied v p (λ a. P p a × (a.answer ≡ answer)) old new) → ReportsReply v P line old new
+  reports P (Ok text) answer old new reported replied = λ p at.
       let r = replied p at in
-      record { given = r.given; right = (r.right.0, r.right.1 ∙ sym told); at = r.at; happens = r.happens }
-  tells P (Err e) answer old new told replied = λ p at.
+      record { given = r.given; right = (r.right.0, r.right.1 ∙ sym reported); at = r.at; happens = r.happens }
+  reports P (Err e) answer old new reported replied = λ p at.
       let r = replied p at in
       inl (record { given = r.given; right = r.right.0; at = r.at; happens = r.happens })
 
@@ -271,7 +271,7 @@ module _ {D : Type 0} (v : Device D) (laws : IsDevice v) where
     boots_at (running events extent ps) here = boots_store (running events extent ps) (certain events extent) here (λ m. m)
     boots_at (dead s) here = boots_store (dead s) s here (λ m. m)
 
-    pub boots : (line : Result (String Global) AllocError) (place : PlaceInMemory D) → IsNodeStarted h line place → TellsOrStops v Transition.Boots (λ p a. Transition.StopsWithin p boots_node a) line old place
+    pub boots : (line : Result (String Global) AllocError) (place : PlaceInMemory D) → IsNodeStarted h line place → ReportsOrStops v Transition.Boots (λ p a. Transition.StopsWithin p boots_node a) line old place
     boots = starts Transition.Boots (λ p a. Transition.StopsWithin p boots_node a) (λ p b is. without_its_node b is refl) h old (λ p at. boots_at p (subst (λ d. Holds v p d) (sym taken) (held old p at)))
 
   -- the disk was read alone
@@ -319,16 +319,16 @@ module _ {D : Type 0} (v : Device D) (laws : IsDevice v) where
       by_bytes bytes here = go why refl is
         where
           plainly : (w : BootError) → why ≡ w → w ≢ boot_error.Device → IsBootRefusal (v.seen disk) w → Replied v (raw bytes) (λ a. Transition.BootsBytes bytes a × (a.answer ≡ boot_line why)) old (memory.Idle new)
-          plainly w e other told = refused_at (raw bytes) (raw bytes) (boot_line why) nothing (Transition.BootsBytes bytes) (read (λ d. other (sym e ∙ d))).1 ((read (λ d. other (sym e ∙ d))).0 ∙ here) (λ f. never f)
-              (inr (inl (why, subst (λ b. IsBootRefusal b why) here (subst (IsBootRefusal (v.seen disk)) (sym e) told), refl)))
+          plainly w e other reported = refused_at (raw bytes) (raw bytes) (boot_line why) nothing (Transition.BootsBytes bytes) (read (λ d. other (sym e ∙ d))).1 ((read (λ d. other (sym e ∙ d))).0 ∙ here) (λ f. never f)
+              (inr (inl (why, subst (λ b. IsBootRefusal b why) here (subst (IsBootRefusal (v.seen disk)) (sym e) reported), refl)))
 
           go : (w : BootError) → why ≡ w → BootRefused (v.seen disk) (v.failures disk) (v.failures new) w → Replied v (raw bytes) (λ a. Transition.BootsBytes bytes a × (a.answer ≡ boot_line why)) old (memory.Idle new)
-          go boot_error.NotAStore e told = plainly boot_error.NotAStore e (λ f. cc f) told
-          go (boot_error.Damaged at) e told = plainly (boot_error.Damaged at) e (λ f. cc f) told
-          go boot_error.Device e told = refused_at (raw bytes) (raw (v.seen new)) (boot_line why) (failed_with (Some booting)) (Transition.BootsBytes bytes) leaves refl (λ f. told)
+          go boot_error.NotAStore e reported = plainly boot_error.NotAStore e (λ f. cc f) reported
+          go (boot_error.Damaged at) e reported = plainly (boot_error.Damaged at) e (λ f. cc f) reported
+          go boot_error.Device e reported = refused_at (raw bytes) (raw (v.seen new)) (boot_line why) (failed_with (Some booting)) (Transition.BootsBytes bytes) leaves refl (λ f. reported)
               (inr (inr (v.seen new, ap (λ w. reply (boot_line w) (failed_with (Some booting)) (raw (v.seen new))) e)))
-          go boot_error.NoMemory e told = absurd (known e)
-          go (boot_error.BadRecord i) e told = plainly (boot_error.BadRecord i) e (λ f. cc f) told
+          go boot_error.NoMemory e reported = absurd (known e)
+          go (boot_error.BadRecord i) e reported = plainly (boot_error.BadRecord i) e (λ f. cc f) reported
 
       boot_refused_at : (p : Place) → Holds v p disk → Replied v p (λ a. Transition.Boots p a × (a.answer ≡ boot_line why)) old (memory.Idle new)
       boot_refused_at (raw bytes) here = by_bytes bytes here
@@ -336,15 +336,15 @@ module _ {D : Type 0} (v : Device D) (laws : IsDevice v) where
       boot_refused_at (running events extent ps) here = by_store (running events extent ps) (certain events extent) here (λ m. m)
       boot_refused_at (dead s) here = by_store (dead s) s here (λ m. m)
 
-      pub boot_refused : (line : Result (String Global) AllocError) → IfOk line (λ text. string_bytes text ≡ boot_line why) → TellsReply v Transition.Boots line old (memory.Idle new)
-      boot_refused line told = tells Transition.Boots line _ old (memory.Idle new) told (λ p at. boot_refused_at p (subst (λ d. Holds v p d) (sym taken) (held old p at)))
+      pub boot_refused : (line : Result (String Global) AllocError) → IfOk line (λ text. string_bytes text ≡ boot_line why) → ReportsReply v Transition.Boots line old (memory.Idle new)
+      boot_refused line reported = reports Transition.Boots line _ old (memory.Idle new) reported (λ p at. boot_refused_at p (subst (λ d. Holds v p d) (sym taken) (held old p at)))
 
     -- memory was refused
     pub boot_without_memory : (why : BootError) (is : BootRefused (v.seen disk) (v.failures disk) (v.failures new) why) (read : (why ≢ boot_error.Device) → IsQuiet disk new)
         (only : (es : Releases) → IsImageOf (v.seen disk) es → (why ≡ boot_error.Device) ⊎ (why ≡ boot_error.NoMemory))
-        (line : Result (String Global) AllocError) → IfOk line (λ text. string_bytes text ≡ boot_line why) → (why ≡ boot_error.NoMemory → IsErr line) → TellsReply v Transition.Boots line old (memory.Idle new)
-    boot_without_memory why is read only (Ok text) told wanting = boot_refused why is read only (λ memory. let lost = wanting memory in cc) (Ok text) told
-    boot_without_memory why is read only (Err e) told wanting = go (no_memory why)
+        (line : Result (String Global) AllocError) → IfOk line (λ text. string_bytes text ≡ boot_line why) → (why ≡ boot_error.NoMemory → IsErr line) → ReportsReply v Transition.Boots line old (memory.Idle new)
+    boot_without_memory why is read only (Ok text) reported wanting = boot_refused why is read only (λ memory. let lost = wanting memory in cc) (Ok text) reported
+    boot_without_memory why is read only (Err e) reported wanting = go (no_memory why)
       where
         no_memory : (w : BootError) → (w ≡ boot_error.NoMemory) ⊎ (w ≢ boot_error.NoMemory)
         no_memory boot_error.NotAStore = inr (λ f. cc f)
@@ -356,38 +356,38 @@ module _ {D : Type 0} (v : Device D) (laws : IsDevice v) where
         read_only : why ≡ boot_error.NoMemory → IsQuiet disk new
         read_only memory = read (λ d. let lost : boot_error.NoMemory ≡ boot_error.Device = sym memory ∙ d in cc)
 
-        go : (why ≡ boot_error.NoMemory) ⊎ (why ≢ boot_error.NoMemory) → TellsReply v Transition.Boots (Err e) old (memory.Idle new)
+        go : (why ≡ boot_error.NoMemory) ⊎ (why ≢ boot_error.NoMemory) → ReportsReply v Transition.Boots (Err e) old (memory.Idle new)
         go (inl memory) = λ p at. inr (record {
           nothing_new = subst (λ d. LeavesOnly v d new (v.may_leave d)) taken (read_only memory).1;
           holds = holds_still p disk new (subst (λ d. Holds v p d) (sym taken) (held old p at)) (read_only memory).0 (read_only memory).1;
           counted = subst (λ d. v.failures d ≤ v.failures new) taken counted;
         })
-        go (inr known) = boot_refused why is read only known (Err e) told
+        go (inr known) = boot_refused why is read only known (Err e) reported
 
   -- a line as an answer
   pub answers_line : (P : Place → Reply → Type 0) (line : Result (String Global) AllocError) (result : Result (String Global) HandlerError) (old new : PlaceInMemory D)
-      → MatchResult line (λ text. result ≡ Ok text) (λ _. result ≡ Err handler_error.NoMemory) → TellsReply v P line old new → Answers v P result old new
-  answers_line P (Ok text) result old new is told = subst (λ r. Answers v P r old new) (sym is) told
-  answers_line P (Err e) result old new is told = subst (λ r. Answers v P r old new) (sym is) (λ p at. inr (refl, told p at))
+      → MatchResult line (λ text. result ≡ Ok text) (λ _. result ≡ Err handler_error.NoMemory) → ReportsReply v P line old new → Answers v P result old new
+  answers_line P (Ok text) result old new is reported = subst (λ r. Answers v P r old new) (sym is) reported
+  answers_line P (Err e) result old new is reported = subst (λ r. Answers v P r old new) (sym is) (λ p at. inr (refl, reported p at))
 
   -- What was never stopped within.
   pub never_stops : (P Q : Place → Reply → Type 0) (result : Result (String Global) HandlerError) (old new : PlaceInMemory D) → Answers v P result old new → AnswersOrStops v P Q result old new
   never_stops P Q (Ok text) old new given = given
-  never_stops P Q (Err why) old new given = λ p at. ⊎_elim (λ told. inl told) (λ (memory, r). inr (memory, done_or_not p r)) (given p at)
+  never_stops P Q (Err why) old new given = λ p at. ⊎_elim (λ reported. inl reported) (λ (memory, r). inr (memory, done_or_not p r)) (given p at)
     where
       done_or_not : (p : Place) → Replied v p (P p) old new ⊎ NothingDone v p old new → Leads v p (λ a. P p a ⊎ Q p a) old new ⊎ NothingDone v p old new
       done_or_not p (inl r) = inl (record { given = r.given; right = inl r.right; happens = r.happens })
       done_or_not p (inr lapsed) = inr lapsed
 
-  pub line_never_stops : (P Q : Place → Reply → Type 0) (line : Result (String Global) AllocError) (old new : PlaceInMemory D) → TellsReply v P line old new → TellsOrStops v P Q line old new
-  line_never_stops P Q (Ok text) old new told = told
-  line_never_stops P Q (Err e) old new told = λ p at. ⊎_elim (λ (r : Replied v p (P p) old new). inl (record { given = r.given; right = inl r.right; happens = r.happens })) (λ lapsed. inr lapsed) (told p at)
+  pub line_never_stops : (P Q : Place → Reply → Type 0) (line : Result (String Global) AllocError) (old new : PlaceInMemory D) → ReportsReply v P line old new → ReportsOrStops v P Q line old new
+  line_never_stops P Q (Ok text) old new reported = reported
+  line_never_stops P Q (Err e) old new reported = λ p at. ⊎_elim (λ (r : Replied v p (P p) old new). inl (record { given = r.given; right = inl r.right; happens = r.happens })) (λ lapsed. inr lapsed) (reported p at)
 
   -- a line as an answer, where it may be stopped within
   pub answers_or_stops : (P Q : Place → Reply → Type 0) (line : Result (String Global) AllocError) (result : Result (String Global) HandlerError) (old new : PlaceInMemory D)
-      → MatchResult line (λ text. result ≡ Ok text) (λ _. result ≡ Err handler_error.NoMemory) → TellsOrStops v P Q line old new → AnswersOrStops v P Q result old new
-  answers_or_stops P Q (Ok text) result old new is told = subst (λ r. AnswersOrStops v P Q r old new) (sym is) told
-  answers_or_stops P Q (Err e) result old new is told = subst (λ r. AnswersOrStops v P Q r old new) (sym is) (λ p at. inr (refl, told p at))
+      → MatchResult line (λ text. result ≡ Ok text) (λ _. result ≡ Err handler_error.NoMemory) → ReportsOrStops v P Q line old new → AnswersOrStops v P Q result old new
+  answers_or_stops P Q (Ok text) result old new is reported = subst (λ r. AnswersOrStops v P Q r old new) (sym is) reported
+  answers_or_stops P Q (Err e) result old new is reported = subst (λ r. AnswersOrStops v P Q r old new) (sym is) (λ p at. inr (refl, reported p at))
 
   -- from the place as the call took it
   pub from_there : (P : Place → Reply → Type 0) (r : Result (String Global) HandlerError) (old there new : PlaceInMemory D) → old ≡ there → Answers v P r there new → Answers v P r old new
@@ -396,11 +396,11 @@ module _ {D : Type 0} (v : Device D) (laws : IsDevice v) where
   pub stops_from_there : (P Q : Place → Reply → Type 0) (r : Result (String Global) HandlerError) (old there new : PlaceInMemory D) → old ≡ there → AnswersOrStops v P Q r there new → AnswersOrStops v P Q r old new
   stops_from_there P Q r old there new is given = subst (λ o. AnswersOrStops v P Q r o new) (sym is) given
 
-  -- A refusal is told, unless memory was refused.
-  pub tells_refusal : (P : Place → Reply → Type 0) (why : HandlerError) (old new : PlaceInMemory D)
+  -- A refusal is reported, unless memory was refused.
+  pub reports_refusal : (P : Place → Reply → Type 0) (why : HandlerError) (old new : PlaceInMemory D)
       → (why ≢ handler_error.NoMemory → (p : Place) → IsAt v old p → Replied v p (λ a. P p a × (a.answer ≡ refusal_line (refusal_of why))) old new)
       → ((p : Place) → IsAt v old p → NothingDone v p old new) → Answers v P (Err why) old new
-  tells_refusal P why old new told lapsed = λ p at. ⊎_elim (λ memory. inr (memory, inr (lapsed p at))) (λ known. inl (told known p at)) (memory_or_not why)
+  reports_refusal P why old new reported lapsed = λ p at. ⊎_elim (λ memory. inr (memory, inr (lapsed p at))) (λ known. inl (reported known p at)) (memory_or_not why)
 
   -- A command on the node that runs: P has what it replies there.
   module _ (P : Place → Reply → Type 0) (n : BootedNode D) (alive : is_dead n.handler ≡ false) where
@@ -409,7 +409,7 @@ module _ {D : Type 0} (v : Device D) (laws : IsDevice v) where
         → (why ≢ handler_error.NoMemory → (events : Events) (extent : Extent) (ps : Processes) → P (running events extent ps) (refused (refusal_of why) (running events extent ps)))
         → Answers v P (Err why) (memory.Made n) (memory.Made new)
     refuses_running new same kept_on why right =
-        tells_refusal P why (memory.Made n) (memory.Made new) (λ known p at. stands known p at) (λ p at. leaves_all p (memory.Made n) (memory.Made new) same.disk (same_at n new p same kept_on at))
+        reports_refusal P why (memory.Made n) (memory.Made new) (λ known p at. stands known p at) (λ p at. leaves_all p (memory.Made n) (memory.Made new) same.disk (same_at n new p same kept_on at))
       where
         stands : why ≢ handler_error.NoMemory → (p : Place) → IsAt v (memory.Made n) p → Replied v p (λ a. P p a × (a.answer ≡ refusal_line (refusal_of why))) (memory.Made n) (memory.Made new)
         stands known (raw bytes) at = absurd at
@@ -440,7 +440,7 @@ module _ {D : Type 0} (v : Device D) (laws : IsDevice v) where
   pub refuses_anywhere : (P : Place → Reply → Type 0) (place : PlaceInMemory D) (why : HandlerError)
       → (why ≢ handler_error.NoMemory → (p : Place) → P p (refused (refusal_of why) p)) → Answers v P (Err why) place place
   refuses_anywhere P place why right =
-      tells_refusal P why place place (λ known p at. stays p (refusal_line (refusal_of why)) _ place place at refl at (right known p, refl)) (λ p at. leaves_all p place place refl at)
+      reports_refusal P why place place (λ known p at. stays p (refusal_line (refusal_of why)) _ place place at refl at (right known p, refl)) (λ p at. leaves_all p place place refl at)
 
   -- `set_unpacked` where no node runs
   idle_sets : (source : Source) (path : List ℕ) (p : Place) → ((events : Events) (extent : Extent) (ps : Processes) → p ≡ running events extent ps → ⊥) → Transition.Transition source p (set_unpacked path) (refused dead_node p)
@@ -468,11 +468,11 @@ module _ {D : Type 0} (v : Device D) (laws : IsDevice v) where
   idle_installs vsn (running events extent ps) idle = absurd (idle events extent ps refl)
   idle_installs vsn (dead s) idle = refl
 
-  idle_tells : (p : Place) → ((events : Events) (extent : Extent) (ps : Processes) → p ≡ running events extent ps → ⊥) → Transition.Acts p tells_start (refused dead_node p)
-  idle_tells (raw bytes) idle = refl
-  idle_tells (closed s) idle = refl
-  idle_tells (running events extent ps) idle = absurd (idle events extent ps refl)
-  idle_tells (dead s) idle = refl
+  idle_reports : (p : Place) → ((events : Events) (extent : Extent) (ps : Processes) → p ≡ running events extent ps → ⊥) → Transition.Acts p reports_start (refused dead_node p)
+  idle_reports (raw bytes) idle = refl
+  idle_reports (closed s) idle = refl
+  idle_reports (running events extent ps) idle = absurd (idle events extent ps refl)
+  idle_reports (dead s) idle = refl
 
   idle_calls : (c : Calls) (p : Place) → ((events : Events) (extent : Extent) (ps : Processes) → p ≡ running events extent ps → ⊥) → Transition.Acts p (calls c) (refused dead_node p)
   idle_calls c (raw bytes) idle = refl
@@ -480,22 +480,22 @@ module _ {D : Type 0} (v : Device D) (laws : IsDevice v) where
   idle_calls c (running events extent ps) idle = absurd (idle events extent ps refl)
   idle_calls c (dead s) idle = refl
 
-  idle_told : (says : Releases → Processes → List ℕ) (p : Place) → ((events : Events) (extent : Extent) (ps : Processes) → p ≡ running events extent ps → ⊥) → Transition.Acts p (answers (Transition.told says p)) (refused dead_node p)
-  idle_told says (raw bytes) idle = refl
-  idle_told says (closed s) idle = refl
-  idle_told says (running events extent ps) idle = absurd (idle events extent ps refl)
-  idle_told says (dead s) idle = refl
+  idle_reported : (says : Releases → Processes → List ℕ) (p : Place) → ((events : Events) (extent : Extent) (ps : Processes) → p ≡ running events extent ps → ⊥) → Transition.Acts p (answers (Transition.reported says p)) (refused dead_node p)
+  idle_reported says (raw bytes) idle = refl
+  idle_reported says (closed s) idle = refl
+  idle_reported says (running events extent ps) idle = absurd (idle events extent ps refl)
+  idle_reported says (dead s) idle = refl
 
   idle_asked : (says : Processes → List ℕ) (p : Place) → ((events : Events) (extent : Extent) (ps : Processes) → p ≡ running events extent ps → ⊥) → Transition.Acts p (answers (Transition.asked says p)) (refused dead_node p)
-  idle_asked says p idle = idle_told (λ list ps. says ps) p idle
+  idle_asked says p idle = idle_reported (λ list ps. says ps) p idle
 
   -- So is each command that needs a node.
   pub idle_needs : (source : Source) (c : Command) → NeedsNode c → (p : Place) → ((events : Events) (extent : Extent) (ps : Processes) → p ≡ running events extent ps → ⊥) → Transition.Transition source p c (refused dead_node p)
   idle_needs source (set_unpacked path) needs p idle = idle_sets source path p idle
-  idle_needs source (check vsn) needs p idle = (answers (Transition.told (λ list ps. Transition.check_line vsn list) p), refl, idle_told (λ list ps. Transition.check_line vsn list) p idle)
+  idle_needs source (check vsn) needs p idle = (answers (Transition.reported (λ list ps. Transition.check_line vsn list) p), refl, idle_reported (λ list ps. Transition.check_line vsn list) p idle)
   idle_needs source (permanent vsn) needs p idle = (changes_node (Transition.permanence vsn), refl, idle_changes (Transition.permanence vsn) p idle)
   idle_needs source (remove vsn) needs p idle = (changes_node (Transition.removal vsn), refl, idle_changes (Transition.removal vsn) p idle)
-  idle_needs source start needs p idle = (tells_start, refl, idle_tells p idle)
+  idle_needs source start needs p idle = (reports_start, refl, idle_reports p idle)
   idle_needs source procs needs p idle = (answers (Transition.asked processes_line p), refl, idle_asked processes_line p idle)
   idle_needs source modules needs p idle = (answers (Transition.asked modules_line p), refl, idle_asked modules_line p idle)
   idle_needs source (peek app id) needs p idle = (answers (Transition.asked (peek_line app id) p), refl, idle_asked (peek_line app id) p idle)

@@ -17,11 +17,11 @@ use Rattle.node_processes.specs.Processes.{Processes}
 use Rattle.rel_session.specs.Device.{Device}
 use Rattle.rel_unpack.specs.Source.{Source}
 use Rattle.rel_session.specs.Files.{Files, files_of, files_behind, give, source_of}
-use Rattle.rel_session.specs.InMemory.{IsAt, Replied, Leads, NothingDone, Answers, AnswersAsked, AnswersTold, AnswersAction, AnswersCommand, AsksNode, FollowsCommand, IsLine, IsText}
+use Rattle.rel_session.specs.InMemory.{IsAt, Replied, Leads, NothingDone, Answers, AnswersAsked, AnswersReported, AnswersAction, AnswersCommand, AsksNode, FollowsCommand, IsLine, IsText}
 use Rattle.rel_session.specs.Node.{Place, Reply, reply, nothing}
 use Rattle.node_answer.specs.Refusals.{refusal_of, refusal_line}
 use Rattle.rel_list.specs.Releases.{Releases}
-use Rattle.rel_session.specs.Transition.{Action, ComesTo, Acts, asked, told as told_by_node, StopsWithin, IsStopped, Transition}
+use Rattle.rel_session.specs.Transition.{Action, ComesTo, Acts, asked, reported as reported_by_node, StopsWithin, IsStopped, Transition}
 use Rattle.rel_session.specs.Transition.Action.{answers}
 use Rattle.rel_session.proofs.DeviceLemmas.{IsDevice}
 use Rattle.rel_session.proofs.Replies.{stays, leaves_all, changes_no_memory, never_stops}
@@ -59,11 +59,11 @@ module _ {D : Type 0} (v : Device D) where
       stops_command given = subst (λ d. AnswersCommand v source d r old new) (sym is) given
 
       -- so it is answered by what it asks of the processes
-      pub tells_node : (says : Releases → Processes → List ℕ) → ((p : Place) → ComesTo source p c (answers (told_by_node says p))) → AnswersTold v says r old new → Answers v (λ p a. Transition source p command a) r old new
-      tells_node says comes given = answers_command (answers_so _ _ (λ p a acts. (answers (told_by_node says p), comes p, acts)) r given)
+      pub reports_node : (says : Releases → Processes → List ℕ) → ((p : Place) → ComesTo source p c (answers (reported_by_node says p))) → AnswersReported v says r old new → Answers v (λ p a. Transition source p command a) r old new
+      reports_node says comes given = answers_command (answers_so _ _ (λ p a acts. (answers (reported_by_node says p), comes p, acts)) r given)
 
       pub asks_node : (says : Processes → List ℕ) → ((p : Place) → ComesTo source p c (answers (asked says p))) → AnswersAsked v says r old new → Answers v (λ p a. Transition source p command a) r old new
-      asks_node says = tells_node (λ list ps. says ps)
+      asks_node says = reports_node (λ list ps. says ps)
 
       module _ (does : Action) (comes : (p : Place) → ComesTo source p c does) where
         pub answers_action : Answers v (λ p a. Acts p does a) r old new → Answers v (λ p a. Transition source p command a) r old new
@@ -80,7 +80,7 @@ module _ {D : Type 0} (v : Device D) where
             stops_so : (r : Result (String Global) HandlerError) → AnswersAction v does r old new → AnswersCommand v source c r old new
             stops_so (Ok text) given = λ p at. replied_so p _ _ (λ a right. ((does, comes p, right.0), right.1)) (given p at)
             stops_so (Err why) given = λ p at.
-                ⊎_elim (λ told. inl (replied_so p _ _ (λ a right. ((does, comes p, right.0), right.1)) told))
+                ⊎_elim (λ reported. inl (replied_so p _ _ (λ a right. ((does, comes p, right.0), right.1)) reported))
                 (λ (memory, r). inr (memory, ⊎_elim (λ l. inl (leads_then p l)) (λ lapsed. inr lapsed) r)) (given p at)
 
   module _ (laws : IsDevice v) where
@@ -94,14 +94,14 @@ module _ {D : Type 0} (v : Device D) where
     -- A file was given.
     pub gives : (base : Source) (old : Node D) (files : GivenFiles) (path : List ℕ) (f : File) (text : Result (Option (String Global)) SessionError)
         → OnOk text (files_of files ≡ give (files_of old.files) path f) → IfOk text (λ t. IsText t (codes "ok\n")) → FollowsCommand v base (file path f) text old (record { place = old.place; files = files })
-    gives base old files path f (Ok None) kept told = absurd told
-    gives base old files path f (Ok (Some s)) kept told = (
+    gives base old files path f (Ok None) kept reported = absurd reported
+    gives base old files path f (Ok (Some s)) kept reported = (
       kept,
       λ p at.
           stays v laws p (codes "ok\n") (λ a. Transition (source_of base (files_of old.files)) p (file path f) a × (a.answer ≡ string_bytes s)) old.place old.place at refl at
-          ((answers (codes "ok\n"), refl, refl), sym told),
+          ((answers (codes "ok\n"), refl, refl), sym reported),
     )
-    gives base old files path f (Err e) kept told = λ p at. inr (leaves_all v laws p old.place old.place refl at)
+    gives base old files path f (Err e) kept reported = λ p at. inr (leaves_all v laws p old.place old.place refl at)
 
   -- A command that is asked of the node changes no files.
   files_stay : (files : Files) (m : CommandInMemory) → AsksNode m → files ≡ files_behind files (command_of m)
@@ -139,14 +139,14 @@ module _ {D : Type 0} (v : Device D) where
     ended : (r : Result (String Global) HandlerError) → AnswersCommand v (source_of base (files_of old.files)) command r old.place place → (p : Place) → IsAt v old.place p
         → Leads v p (λ a. Does p a ⊎ IsStopped (source_of base (files_of old.files)) p command a) old.place place ⊎ NothingDone v p old.place place
     ended (Ok answer) given p at = inl (leads_so old.place place p _ _ (λ a is. inl is.0) (given p at))
-    ended (Err why) given p at = ⊎_elim (λ told. inl (leads_so old.place place p _ _ (λ a is. inl is.0) told)) (λ (memory, r). r) (given p at)
+    ended (Err why) given p at = ⊎_elim (λ reported. inl (leads_so old.place place p _ _ (λ a is. inl is.0) reported)) (λ (memory, r). r) (given p at)
 
     pub follows : (r : Result (String Global) HandlerError) (line : Result (Option (String Global)) SessionError) → IfOk line (λ text. IsLine r text)
         → AnswersCommand v (source_of base (files_of old.files)) command r old.place place → FollowsCommand v base command line old new
     follows r (Ok None) is given = absurd is
-    follows (Ok answer) (Ok (Some text)) is given = (files_stay (files_of old.files) m other, λ p at. replied_so old.place place p _ _ (λ a told. (told.0, told.1 ∙ sym is)) (given p at))
+    follows (Ok answer) (Ok (Some text)) is given = (files_stay (files_of old.files) m other, λ p at. replied_so old.place place p _ _ (λ a reported. (reported.0, reported.1 ∙ sym is)) (given p at))
     follows (Err why) (Ok (Some text)) (known, is) given = (
       files_stay (files_of old.files) m other,
-      λ p at. ⊎_elim (λ r. replied_so old.place place p _ _ (λ a told. (told.0, told.1 ∙ sym is)) r) (λ lapsed. absurd (known lapsed.0)) (given p at),
+      λ p at. ⊎_elim (λ r. replied_so old.place place p _ _ (λ a reported. (reported.0, reported.1 ∙ sym is)) r) (λ lapsed. absurd (known lapsed.0)) (given p at),
     )
     follows r (Err e) is given = ended r given

@@ -25,15 +25,15 @@ use Rattle.rel_session.specs.Run.{Holds}
 use Rattle.node_answer.specs.Lines.{ok_line}
 use Rattle.rel_session.proofs.Contradiction.{never}
 use Rattle.rel_session.specs.Transition.{Acts, start_versions}
-use Rattle.rel_session.specs.Transition.Action.{tells_start}
+use Rattle.rel_session.specs.Transition.Action.{reports_start}
 use Rattle.rel_session.specs.declared.place.Place.TheVariants as memory
 use Rattle.rel_session.proofs.DeviceLemmas.{IsDevice}
-use Rattle.rel_session.proofs.Replies.{held, kept, quiet, moments_of_nothing, holds_still, tells, answers_line}
+use Rattle.rel_session.proofs.Replies.{held, kept, quiet, moments_of_nothing, holds_still, reports, answers_line}
 
 module _ {D : Type 0} (v : Device D) (laws : IsDevice v) (n new : BootedNode D) (alive : is_dead n.handler ≡ false)
     (kept_on : processes_in new.processes ≡ processes_in n.processes) (read : HasRead v n.handler new.handler) where
   abbrev Does : Place → Reply → Type 0
-  Does p a = Acts p tells_start a
+  Does p a = Acts p reports_start a
 
   still_holds : (p : Place) → IsAt v (memory.Made n) p → Holds v p (disk_in new.handler)
   still_holds p at = holds_still v laws p (disk_in n.handler) (disk_in new.handler) (held v laws (memory.Made n) p at) read.only_read.same read.only_read.any_moment
@@ -42,12 +42,12 @@ module _ {D : Type 0} (v : Device D) (laws : IsDevice v) (n new : BootedNode D) 
   runs_on : is_dead new.handler ≡ false → (events : Events) (extent : Extent) (ps : Processes) → IsAt v (memory.Made n) (running events extent ps) → IsAt v (memory.Made new) (running events extent ps)
   runs_on works events extent ps at = (still_holds (running events extent ps) at, works, at.2 ∙ ap (λ l. Some l) (sym read.list), read.extent ∙ at.3, kept_on ∙ at.4)
 
-  told_there : is_dead new.handler ≡ false → (r : Release) → permanent (list_in n.handler) ≡ Some r → (p : Place) → IsAt v (memory.Made n) p
+  reported_there : is_dead new.handler ≡ false → (r : Release) → permanent (list_in n.handler) ≡ Some r → (p : Place) → IsAt v (memory.Made n) p
       → Replied v p (λ a. Does p a × (a.answer ≡ ok_line (r.erts ++ (codes " " ++ r.vsn)))) (memory.Made n) (memory.Made new)
-  told_there works r listed (raw bytes) at = absurd at
-  told_there works r listed (closed s) at = absurd at
-  told_there works r listed (dead s) at = never (sym alive ∙ at.1)
-  told_there works r listed (running events extent ps) at =
+  reported_there works r listed (raw bytes) at = absurd at
+  reported_there works r listed (closed s) at = absurd at
+  reported_there works r listed (dead s) at = never (sym alive ∙ at.1)
+  reported_there works r listed (running events extent ps) at =
       let there : permanent (releases_after events) ≡ Some r = ap (λ o. permanent (list_or_none o)) at.2 ∙ listed in
       let line = ok_line (start_versions (permanent (releases_after events))) in
       record {
@@ -62,11 +62,11 @@ module _ {D : Type 0} (v : Device D) (laws : IsDevice v) (n new : BootedNode D) 
         };
       }
 
-  pub told : is_dead new.handler ≡ false → (start : (r : Release) × (permanent (list_in n.handler) ≡ Some r)) → (line : Result (String Global) AllocError) (result : Result (String Global) HandlerError)
+  pub reported : is_dead new.handler ≡ false → (start : (r : Release) × (permanent (list_in n.handler) ≡ Some r)) → (line : Result (String Global) AllocError) (result : Result (String Global) HandlerError)
       → MatchResult line (λ text. result ≡ Ok text) (λ _. result ≡ Err handler_error.NoMemory) → IfOk line (λ text. string_bytes text ≡ ok_line (start.0.erts ++ (codes " " ++ start.0.vsn)))
       → Answers v Does result (memory.Made n) (memory.Made new)
-  told works start line result is said =
-      answers_line v laws Does line result (memory.Made n) (memory.Made new) is (tells v laws Does line _ (memory.Made n) (memory.Made new) said (told_there works start.0 start.1))
+  reported works start line result is said =
+      answers_line v laws Does line result (memory.Made n) (memory.Made new) is (reports v laws Does line _ (memory.Made n) (memory.Made new) said (reported_there works start.0 start.1))
 
   -- memory was refused, and the disk was read alone
   nothing_done : is_dead new.handler ≡ false → (p : Place) → IsAt v (memory.Made n) p → NothingDone v p (memory.Made n) (memory.Made new)
@@ -93,22 +93,22 @@ module _ {D : Type 0} (v : Device D) (laws : IsDevice v) (n new : BootedNode D) 
         };
       }
 
-  pub told_none : (e : HandlerError) → StartRefused v.failures n.handler new.handler e → Answers v Does (Err e) (memory.Made n) (memory.Made new)
-  told_none handler_error.Dead (gone, same) = never (sym alive ∙ gone)
-  told_none handler_error.NoMemory (living, works) = λ p at. inr (refl, inr (nothing_done works p at))
-  told_none handler_error.Device (living, cause, gone) = λ p at. inl (device_failed cause gone p at)
-  told_none handler_error.NoSuchRelease lost = absurd lost
-  told_none handler_error.ExistingRelease lost = absurd lost
-  told_none handler_error.AlreadyInstalled lost = absurd lost
-  told_none (handler_error.BadStatus s) lost = absurd lost
-  told_none handler_error.Permanent lost = absurd lost
-  told_none handler_error.Running lost = absurd lost
-  told_none handler_error.TooMany lost = absurd lost
-  told_none (handler_error.LibDiffers app) lost = absurd lost
-  told_none (handler_error.NoTable app) lost = absurd lost
-  told_none (handler_error.BadFile path trouble) lost = absurd lost
-  told_none (handler_error.MissingFile path) lost = absurd lost
-  told_none (handler_error.VsnMismatch path) lost = absurd lost
-  told_none handler_error.NoMatchingRelup lost = absurd lost
-  told_none handler_error.Full lost = absurd lost
-  told_none handler_error.Exists lost = absurd lost
+  pub reported_none : (e : HandlerError) → StartRefused v.failures n.handler new.handler e → Answers v Does (Err e) (memory.Made n) (memory.Made new)
+  reported_none handler_error.Dead (gone, same) = never (sym alive ∙ gone)
+  reported_none handler_error.NoMemory (living, works) = λ p at. inr (refl, inr (nothing_done works p at))
+  reported_none handler_error.Device (living, cause, gone) = λ p at. inl (device_failed cause gone p at)
+  reported_none handler_error.NoSuchRelease lost = absurd lost
+  reported_none handler_error.ExistingRelease lost = absurd lost
+  reported_none handler_error.AlreadyInstalled lost = absurd lost
+  reported_none (handler_error.BadStatus s) lost = absurd lost
+  reported_none handler_error.Permanent lost = absurd lost
+  reported_none handler_error.Running lost = absurd lost
+  reported_none handler_error.TooMany lost = absurd lost
+  reported_none (handler_error.LibDiffers app) lost = absurd lost
+  reported_none (handler_error.NoTable app) lost = absurd lost
+  reported_none (handler_error.BadFile path trouble) lost = absurd lost
+  reported_none (handler_error.MissingFile path) lost = absurd lost
+  reported_none (handler_error.VsnMismatch path) lost = absurd lost
+  reported_none handler_error.NoMatchingRelup lost = absurd lost
+  reported_none handler_error.Full lost = absurd lost
+  reported_none handler_error.Exists lost = absurd lost

@@ -26,7 +26,7 @@ use Rattle.rel_session.specs.Node.Place.{raw, closed, running, dead}
 use Rattle.rel_session.specs.Run.{MayLeave}
 use Rattle.rel_session.specs.RunLaws.{MayBe, acknowledged_at, ran_at, IsKnown, Finds, KeepsEvents}
 use Rattle.rel_session.specs.Transition
-use Rattle.rel_session.specs.Transition.Action.{answers, makes_node, changes_node, installs, reboots_node, boots_node, tells_start, calls}
+use Rattle.rel_session.specs.Transition.Action.{answers, makes_node, changes_node, installs, reboots_node, boots_node, reports_start, calls}
 use Rattle.rel_session.proofs.InstallationLemmas.{each_reply}
 
 same_known : (p : Place) (es : Events) → es ≡ [] → IsKnown p ⊎ (es ≢ []) → IsKnown p
@@ -140,7 +140,7 @@ restarts events extent ps x vsn l f qs b boot =
 
 boots : (p : Place) (a : Reply) → Transition.Boots p a → KeepsEvents p a
 boots (raw bytes) a (inl (events, list, extent, after, image, is)) = booted (raw bytes) events extent a (inr (list, after, image.image_of)) (events, refl) is
-boots (raw bytes) a (inr (inl (why, told, is))) = still_as (raw bytes) _ a is
+boots (raw bytes) a (inr (inl (why, reported, is))) = still_as (raw bytes) _ a is
 boots (raw bytes) a (inr (inr (torn, is))) = torn_as bytes torn _ (Some booting) a is
 boots (closed s) a is = boots_store (closed s) s a (may_have s) (inl refl) (with_themselves s.known.ran) is
 boots (running events extent ps) a is = boots_store (running events extent ps) (certain events extent) a (λ es n has. ⊎_elim (λ e. e) (λ e. e) (may_have (certain events extent) es n has)) refl (with_themselves events) is
@@ -173,11 +173,11 @@ acts (raw bytes) (reboots_node vsn) a is = still_as (raw bytes) _ a is
 acts (closed s) (reboots_node vsn) a is = still_as (closed s) _ a is
 acts (dead s) (reboots_node vsn) a is = still_as (dead s) _ a is
 acts p boots_node a is = boots p a is
-acts (running events extent ps) tells_start a (inl is) = still_as (running events extent ps) _ a is
-acts (running events extent ps) tells_start a (inr is) = keeps_as (running events extent ps) a _ is (keeps_known (running events extent ps) _ events refl (sym (append-nil events)) tt (with_themselves events))
-acts (raw bytes) tells_start a is = still_as (raw bytes) _ a is
-acts (closed s) tells_start a is = still_as (closed s) _ a is
-acts (dead s) tells_start a is = still_as (dead s) _ a is
+acts (running events extent ps) reports_start a (inl is) = still_as (running events extent ps) _ a is
+acts (running events extent ps) reports_start a (inr is) = keeps_as (running events extent ps) a _ is (keeps_known (running events extent ps) _ events refl (sym (append-nil events)) tt (with_themselves events))
+acts (raw bytes) reports_start a is = still_as (raw bytes) _ a is
+acts (closed s) reports_start a is = still_as (closed s) _ a is
+acts (dead s) reports_start a is = still_as (dead s) _ a is
 acts (running events extent ps) (calls c) a is = keeps_as (running events extent ps) a _ is (keeps_known (running events extent ps) _ events refl (sym (append-nil events)) tt (with_themselves events))
 acts (raw bytes) (calls c) a is = still_as (raw bytes) _ a is
 acts (closed s) (calls c) a is = still_as (closed s) _ a is

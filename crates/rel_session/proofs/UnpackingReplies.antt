@@ -26,10 +26,10 @@ use Rattle.node_answer.specs.Refusals.{refusal_of, refusal_line}
 use Rattle.rel_session.specs.Transition
 use Rattle.rel_session.specs.Transition.Action.{changes_node}
 use Rattle.rel_session.proofs.DeviceLemmas.{IsDevice}
-use Rattle.rel_session.proofs.ReleaseLemmas.{files_refuse, told_alike, unpacking_refused}
+use Rattle.rel_session.proofs.ReleaseLemmas.{files_refuse, reported_alike, unpacking_refused}
 use Rattle.rel_session.proofs.CommitReplies.{changes, changes_none, files_refused}
 use Rattle.rel_session.proofs.Contradiction.{never}
-use Rattle.rel_session.proofs.Replies.{leaves_all, refuses_running, same_at, tells_refusal}
+use Rattle.rel_session.proofs.Replies.{leaves_all, refuses_running, same_at, reports_refusal}
 
 module _ {D : Type 0} (v : Device D) (laws : IsDevice v) (source : Source) (path : List ℕ) (n : BootedNode D) (alive : is_dead n.handler ≡ false) (new : BootedNode D)
     (kept_on : processes_in new.processes ≡ processes_in n.processes) where
@@ -41,17 +41,17 @@ module _ {D : Type 0} (v : Device D) (laws : IsDevice v) (source : Source) (path
 
   pub unpacks : (vsn : List ℕ) (line : Result (String Global) AllocError) (result : Result (String Global) HandlerError) → IsUnpacked v source path n.handler new.handler vsn
       → MatchResult line (λ text. result ≡ Ok text) (λ _. result ≡ Err handler_error.NoMemory) → IfOk line (λ text. string_bytes text ≡ Transition.ok_line vsn) → Answers v Unpacks result (memory.Made n) (memory.Made new)
-  unpacks vsn line result u is told = changes v laws Unpacks n alive (Transition.unpacked_change u.brought) (changing u.brought u.read) u.free new kept_on u.commits u.works u.done line result is
-      (subst (λ name. IfOk line (λ text. string_bytes text ≡ Transition.ok_line name)) u.version told)
+  unpacks vsn line result u is reported = changes v laws Unpacks n alive (Transition.unpacked_change u.brought) (changing u.brought u.read) u.free new kept_on u.commits u.works u.done line result is
+      (subst (λ name. IfOk line (λ text. string_bytes text ≡ Transition.ok_line name)) u.version reported)
 
   -- its files are refused
   barred : (why : HandlerError) → IsBarred source path n.handler new.handler why → Answers v Unpacks (Err why) (memory.Made n) (memory.Made new)
-  barred why b = tells_refusal v laws Unpacks why (memory.Made n) (memory.Made new) (λ known p at. told p at) (λ p at. leaves_all v laws p (memory.Made n) (memory.Made new) b.same.disk (same_at v laws n new p b.same kept_on at))
+  barred why b = reports_refusal v laws Unpacks why (memory.Made n) (memory.Made new) (λ known p at. reported p at) (λ p at. leaves_all v laws p (memory.Made n) (memory.Made new) b.same.disk (same_at v laws n new p b.same kept_on at))
     where
-      told : (p : Place) → IsAt v (memory.Made n) p → Replied v p (λ a. Unpacks p a × (a.answer ≡ refusal_line (refusal_of why))) (memory.Made n) (memory.Made new)
-      told p at =
+      reported : (p : Place) → IsAt v (memory.Made n) p → Replied v p (λ a. Unpacks p a × (a.answer ≡ refusal_line (refusal_of why))) (memory.Made n) (memory.Made new)
+      reported p at =
           let error = b.barred.error in
-          let line = ap refusal_line (sym (told_alike error)) ∙ ap (λ w. refusal_line (refusal_of w)) (sym b.barred.told) in
+          let line = ap refusal_line (sym (reported_alike error)) ∙ ap (λ w. refusal_line (refusal_of w)) (sym b.barred.reported) in
           subst (λ l. Replied v p (λ a. Unpacks p a × (a.answer ≡ l)) (memory.Made n) (memory.Made new)) line
           (files_refused v laws Unpacks n alive (Transition.unpacked_change b.brought) (changing b.brought b.read) new kept_on b.same (of_files.refusal_of error) b.barred.refused p at)
 

@@ -1,4 +1,4 @@
--- The versions that a session tells are those of files that were read, so that no answer has a newline within.
+-- The versions that a session reports are those of files that were read, so that no answer has a newline within.
 use Rattle.std.proofs.Common.{◌≡◌, inl, inr, ℕ, Bool, true, false, List, [], ◌∷◌, ◌++◌, codes, find, Option, Some, None, Result, Ok, Err, refl, sym, ap, ◌∙◌, subst}
 use Rattle.std.specs.Prelude.{if◌then◌else◌, bytes_eq}
 use Rattle.std.specs.Option.{option_and_then, option_map, option_or}
@@ -40,8 +40,8 @@ use Rattle.node_answer.specs.Refusals.{refusal_of, refusal_for, refusal_line}
 use Rattle.node_answer.specs.Refusals.NodeRefusal.{device, bad_status, script_refused, must_reboot, dead as no_node}
 use Rattle.rel_session.specs.AnswerLaws.{HasLinePath, IsFromFiles, AreFromFiles, HasVersionsAt, HasModuleVersionsAt}
 use Rattle.rel_session.specs.Transition
-use Rattle.rel_session.specs.Transition.Action.{answers, makes_node, changes_node, installs, reboots_node, boots_node, tells_start, calls}
-use Rattle.rel_session.proofs.ActionLemmas.{OfEvent, TellsFilesLine, IsGoodAction, good_action}
+use Rattle.rel_session.specs.Transition.Action.{answers, makes_node, changes_node, installs, reboots_node, boots_node, reports_start, calls}
+use Rattle.rel_session.proofs.ActionLemmas.{OfEvent, ReportsFilesLine, IsGoodAction, good_action}
 use Rattle.rel_session.proofs.ListLemmas.{list_after-more, list_after-push}
 use Rattle.rel_session.proofs.ProcessLines.{calls_whole}
 use Rattle.rel_session.proofs.Transitions.{may_have}
@@ -176,17 +176,17 @@ commits events extent ps e size (Ok next) P plain done of all a (inl (fits, inl 
 commits events extent ps e size (Ok next) P plain done of all a (inl (fits, inr is)) = good_as a _ is (device_line, uncertain_versions events extent e size (of next refl) all)
 commits events extent ps e size (Ok next) P plain done of all a (inr (over_it, is)) = good_as a _ is ((λ behind. refl), all)
 
-changes : (events : Events) (extent : Extent) (ps : Processes) (c : Transition.Change) (list : Releases) (f : Option Refusal) (o : Result Releases HandlerError) → IsListAnswer o → ((next : Releases) → f ≡ None → o ≡ Ok next → OfEvent c.event) → TellsFilesLine f
+changes : (events : Events) (extent : Extent) (ps : Processes) (c : Transition.Change) (list : Releases) (f : Option Refusal) (o : Result Releases HandlerError) → IsListAnswer o → ((next : Releases) → f ≡ None → o ≡ Ok next → OfEvent c.event) → ReportsFilesLine f
     → is_one_line (c.details list) ≡ true → OfList events → (a : Reply) → Transition.Changes events extent ps c list f o a → IsGood a
-changes events extent ps c list (Some why) o plain of told line all a is = good_as a _ is (refusal_whole (refusal_for why) told, all)
-changes events extent ps c list None o plain of told line all a is =
+changes events extent ps c list (Some why) o plain of reported line all a is = good_as a _ is (refusal_whole (refusal_for why) reported, all)
+changes events extent ps c list None o plain of reported line all a is =
     commits events extent ps c.event (c.size list) o _ plain (λ next x a taken is. good_as a _ is (done_whole (c.details list) line, list_versions events c.event (of next refl taken) all))
     (λ next taken. of next refl taken) all a is
 
-makes_with : (x : List ℕ) (p : Bundle) (size : ℕ) (why : Option Refusal) → (why ≡ None → IsFromFiles p) → TellsFilesLine why → (a : Reply) → Transition.MakesWith x p size why a → IsGood a
-makes_with x p size (Some why) of told a is = good_as a _ is (refusal_whole (refusal_for why) told, tt)
-makes_with x p size None of told a (inl (fits, is)) = good_as a _ is (ok_whole p.release.vsn (version_line p.release.vsn (of refl).0.own), list_versions (made p ∷ []) booting tt (list_versions [] (made p) (of refl) (λ l e. let same : [] ≡ l = cc in subst AreFromFiles same tt)))
-makes_with x p size None of told a (inr (over_it, is)) = good_as a _ is ((λ behind. refl), tt)
+makes_with : (x : List ℕ) (p : Bundle) (size : ℕ) (why : Option Refusal) → (why ≡ None → IsFromFiles p) → ReportsFilesLine why → (a : Reply) → Transition.MakesWith x p size why a → IsGood a
+makes_with x p size (Some why) of reported a is = good_as a _ is (refusal_whole (refusal_for why) reported, tt)
+makes_with x p size None of reported a (inl (fits, is)) = good_as a _ is (ok_whole p.release.vsn (version_line p.release.vsn (of refl).0.own), list_versions (made p ∷ []) booting tt (list_versions [] (made p) (of refl) (λ l e. let same : [] ≡ l = cc in subst AreFromFiles same tt)))
+makes_with x p size None of reported a (inr (over_it, is)) = good_as a _ is ((λ behind. refl), tt)
 
 makes_on : (x : List ℕ) (b : Brought) (there : Bool) → IsGoodAction (makes_node b) → (a : Reply) → Transition.MakesOn x b there a → IsGood a
 makes_on x b true good a is = good_as a _ is ((λ behind. refl), tt)
@@ -326,11 +326,11 @@ acts (raw x) (reboots_node vsn) good all a is = good_as a _ is ((λ behind. refl
 acts (closed s) (reboots_node vsn) good all a is = good_as a _ is ((λ behind. refl), all)
 acts (dead s) (reboots_node vsn) good all a is = good_as a _ is ((λ behind. refl), all)
 acts p boots_node good all a is = boots p all a is
-acts (running events extent ps) tells_start good all a (inl is) = good_as a _ is (ok_whole _ (start_plain (releases_after events) (listed_versions events all)), all)
-acts (running events extent ps) tells_start good all a (inr is) = good_as a _ is (device_line, certain_versions events extent all)
-acts (raw x) tells_start good all a is = good_as a _ is ((λ behind. refl), all)
-acts (closed s) tells_start good all a is = good_as a _ is ((λ behind. refl), all)
-acts (dead s) tells_start good all a is = good_as a _ is ((λ behind. refl), all)
+acts (running events extent ps) reports_start good all a (inl is) = good_as a _ is (ok_whole _ (start_plain (releases_after events) (listed_versions events all)), all)
+acts (running events extent ps) reports_start good all a (inr is) = good_as a _ is (device_line, certain_versions events extent all)
+acts (raw x) reports_start good all a is = good_as a _ is ((λ behind. refl), all)
+acts (closed s) reports_start good all a is = good_as a _ is ((λ behind. refl), all)
+acts (dead s) reports_start good all a is = good_as a _ is ((λ behind. refl), all)
 acts (running events extent ps) (calls c) good all a is = good_as a _ is (calls_whole c ps, all)
 acts (raw x) (calls c) good all a is = good_as a _ is ((λ behind. refl), all)
 acts (closed s) (calls c) good all a is = good_as a _ is ((λ behind. refl), all)
@@ -339,4 +339,4 @@ acts (dead s) (calls c) good all a is = good_as a _ is ((λ behind. refl), all)
 -- So is each reply to what a command comes to.
 pub each_good : (source : Source) (p : Place) (c : Command) (does : Transition.Action) → HasLinePath c → HasVersionsAt p → HasModuleVersionsAt p → Transition.ComesTo source p c does → (a : Reply)
     → Transition.Acts p does a → LinesOf does a × HasVersionsAt a.after
-each_good source p c does line all tells comes a is = acts p does (good_action source p c does line tells comes) all a is
+each_good source p c does line all reports comes a is = acts p does (good_action source p c does line reports comes) all a is

@@ -43,22 +43,22 @@ FailsOnlyWithTheDevice {D} v base =
     → NoneFails replies × NoneInDoubt replies
 
 -- that the device failed in the boot behind an installation, whose own line stands before that
-abbrev pub TellsBootFailureBehind : List ℕ → Type 0
-TellsBootFailureBehind answer =
+abbrev pub ReportsBootFailureBehind : List ℕ → Type 0
+ReportsBootFailureBehind answer =
     (other : List ℕ) × (descr : Value) × (stale : List (List ℕ))
     × (answer ≡ installed_text other descr stale ++ boot_line boot_error.Device)
 
 -- that the device failed, in a command or in a boot
-abbrev pub TellsFailure : List ℕ → Type 0
-TellsFailure answer =
-    (answer ≡ refusal_line device) ⊎ ((answer ≡ boot_line boot_error.Device) ⊎ TellsBootFailureBehind answer)
+abbrev pub ReportsFailure : List ℕ → Type 0
+ReportsFailure answer =
+    (answer ≡ refusal_line device) ⊎ ((answer ≡ boot_line boot_error.Device) ⊎ ReportsBootFailureBehind answer)
 
--- The answer of a reply with an event in doubt tells that the device failed.
-abbrev pub TellsDoubt : Source → Type 0
-TellsDoubt source =
+-- The answer of a reply with an event in doubt reports that the device failed.
+abbrev pub ReportsDoubt : Source → Type 0
+ReportsDoubt source =
     (p : Place) (c : Command) (a : Reply) (e : Event)
     → Transition source p c a → a.outcome.in_doubt ≡ Some e
-    → (a.outcome.failed ≡ true) × TellsFailure a.answer
+    → (a.outcome.failed ≡ true) × ReportsFailure a.answer
 
 -- Nothing is in doubt of the store, and its start record was last right behind some of its events.
 abbrev pub HasNoDoubt : Stored → Type 0
@@ -187,13 +187,13 @@ abbrev pub RestartAlike : List Reply → List Reply → Type 0
 RestartAlike (a ∷ first) (b ∷ second) = (have_restart (events_of a.outcome) ≡ have_restart (events_of b.outcome)) × RestartAlike first second
 RestartAlike first second = Unit {0}
 
--- A text tells one run, where a read of a file has one answer and it is known which installations end with a restart: two over
+-- A text determines one run, where a read of a file has one answer and it is known which installations end with a restart: two over
 -- the same commands that came to their end, whether the device fails or not, and which write the same have the same answers and
 -- the same events, acknowledged and in doubt, command by command. It has to be known: an installation with a restart answers the
--- line of one without, and then a second line, which might be that of the next command; and a failure in its commit is told as
+-- line of one without, and then a second line, which might be that of the next command; and a failure in its commit is reported as
 -- that of one without.
-abbrev pub TellsOneRun : Source → Type 0
-TellsOneRun base =
+abbrev pub DeterminesOneRun : Source → Type 0
+DeterminesOneRun base =
     GivesOne base → (files : Files) (p : Place) (commands : Feed Command) (a b : Ending) (first second : List Reply)
     → HasVersionsAt p → HasModuleVersionsAt p → HaveLinePaths commands → EndsInFull a → EndsInFull b → RestartAlike first second
     → Replies base files p commands a first → Replies base files p commands b second → answers_of first ≡ answers_of second

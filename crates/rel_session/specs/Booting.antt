@@ -13,7 +13,7 @@ use Rattle.node_answer.specs.Lines.{ok_line}
 use Rattle.rel_session.specs.Node.{Place, just_booted, Reply, reply, nothing, done, failed_with}
 use Rattle.rel_session.specs.Node.Place.{raw, closed, running, dead}
 
--- the line that tells why a boot is refused: its number and its name; out of memory is never reported
+-- the line that reports why a boot is refused: its number and its name; out of memory is never reported
 abbrev pub boot_line : BootError → List ℕ
 boot_line boot_error.NotAStore = codes "error boot 1 NotAStore\n"
 boot_line (boot_error.Damaged at) = codes "error boot 2 Damaged\n"

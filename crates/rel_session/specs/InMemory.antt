@@ -43,7 +43,7 @@ use Rattle.node_answer.specs.Refusals.NodeRefusal.{must_reboot, script_refused}
 use Rattle.rel_session.specs.Run.{Holds, Happens}
 use Rattle.node_processes.specs.Processes.{Processes}
 use Rattle.node_answer.specs.Lines.{ok_line}
-use Rattle.rel_session.specs.Transition.{Action, Acts, told, StopsWithin, Transition, IsStopped, version_of}
+use Rattle.rel_session.specs.Transition.{Action, Acts, reported, StopsWithin, Transition, IsStopped, version_of}
 use Rattle.rel_session.specs.Transition.Action.{answers}
 
 abbrev pub disk_at : {D : Type 0} → PlaceInMemory D → D
@@ -102,19 +102,19 @@ Answers v P (Err why) old new =
     ⊎ ((why ≡ handler_error.NoMemory) × (Replied v p (P p) old new ⊎ NothingDone v p old new))
 
 -- A command gave this line; where memory is refused, it may have been done.
-abbrev pub TellsReply : {D : Type 0} → Device D → (Place → Reply → Type 0) → Result (String Global) AllocError
+abbrev pub ReportsReply : {D : Type 0} → Device D → (Place → Reply → Type 0) → Result (String Global) AllocError
     → PlaceInMemory D → PlaceInMemory D → Type 0
-TellsReply v P (Ok text) old new =
+ReportsReply v P (Ok text) old new =
     (p : Place) → IsAt v old p → Replied v p (λ a. P p a × (a.answer ≡ string_bytes text)) old new
-TellsReply v P (Err e) old new = (p : Place) → IsAt v old p → Replied v p (P p) old new ⊎ NothingDone v p old new
+ReportsReply v P (Err e) old new = (p : Place) → IsAt v old p → Replied v p (P p) old new ⊎ NothingDone v p old new
 
 -- It gave this line. Where memory is refused, it may have been done, or stopped within: Q says what stands in place of the reply
 -- then.
-abbrev pub TellsOrStops : {D : Type 0} → Device D → (P Q : Place → Reply → Type 0) → Result (String Global) AllocError
+abbrev pub ReportsOrStops : {D : Type 0} → Device D → (P Q : Place → Reply → Type 0) → Result (String Global) AllocError
     → PlaceInMemory D → PlaceInMemory D → Type 0
-TellsOrStops v P Q (Ok text) old new =
+ReportsOrStops v P Q (Ok text) old new =
     (p : Place) → IsAt v old p → Replied v p (λ a. P p a × (a.answer ≡ string_bytes text)) old new
-TellsOrStops v P Q (Err e) old new =
+ReportsOrStops v P Q (Err e) old new =
     (p : Place) → IsAt v old p → Leads v p (λ a. P p a ⊎ Q p a) old new ⊎ NothingDone v p old new
 
 -- It gave this result. Where memory is refused, it may have been done, or stopped within: Q says what stands in place of the
@@ -134,16 +134,16 @@ abbrev pub AnswersAction : {D : Type 0} → Device D → Action → Result (Stri
 AnswersAction v does result old new = AnswersOrStops v (λ p a. Acts p does a) (λ p a. StopsWithin p does a) result old new
 
 -- So was a node asked for what its releases and its processes say.
-abbrev pub AnswersTold : {D : Type 0} → Device D → (Releases → Processes → List ℕ) → Result (String Global) HandlerError
+abbrev pub AnswersReported : {D : Type 0} → Device D → (Releases → Processes → List ℕ) → Result (String Global) HandlerError
     → PlaceInMemory D → PlaceInMemory D → Type 0
-AnswersTold v says result old new = Answers v (λ p a. Acts p (answers (told says p)) a) result old new
+AnswersReported v says result old new = Answers v (λ p a. Acts p (answers (reported says p)) a) result old new
 
 -- So were its processes asked.
 abbrev pub AnswersAsked : {D : Type 0} → Device D → (Processes → List ℕ) → Result (String Global) HandlerError
     → PlaceInMemory D → PlaceInMemory D → Type 0
-AnswersAsked v says result old new = AnswersTold v (λ list ps. says ps) result old new
+AnswersAsked v says result old new = AnswersReported v (λ list ps. says ps) result old new
 
--- The handler of a node that has just booted is at this place, with its processes, and this line tells the version that runs;
+-- The handler of a node that has just booted is at this place, with its processes, and this line reports the version that runs;
 -- or memory was refused, and its disk alone is left.
 abbrev pub IsNodeStarted : {D : Type 0} → NodeStore D → Result (String Global) AllocError → PlaceInMemory D → Type 0
 IsNodeStarted h (Ok text) (memory.Made node) =
@@ -208,7 +208,7 @@ FollowsCommand v base command (Err e) old new =
 abbrev pub disk_of : {D : Type 0} → Node D → D
 disk_of n = disk_at n.place
 
--- the line that tells what a command has done, or why it was refused
+-- the line that reports what a command has done, or why it was refused
 abbrev pub IsLine : Result (String Global) HandlerError → Option (String Global) → Type 0
 IsLine done None = ⊥
 IsLine (Ok answer) (Some text) = string_bytes text ≡ string_bytes answer
@@ -222,10 +222,10 @@ IsText (Some text) bytes = string_bytes text ≡ bytes
 
 -- What is answered of an installation: what was done, or why it wasn't; or memory was refused for the answer. A script that memory
 -- stopped behind its point of no return has no answer.
-abbrev pub TellsInstallation : Result Installed InstallError → Result (String Global) HandlerError → Type 0
-TellsInstallation (Err (install_error.Command why)) r = r ≡ Err why
-TellsInstallation (Ok i) (Ok text) = string_bytes text ≡ installed_text (string_bytes i.other) (value_of i.descr) i.stale.items
-TellsInstallation (Err (install_error.Refused f)) (Ok text) = string_bytes text ≡ refusal_line (script_refused (failure_of f))
-TellsInstallation (Err (install_error.MustReboot f)) (Ok text) =
+abbrev pub ReportsInstallation : Result Installed InstallError → Result (String Global) HandlerError → Type 0
+ReportsInstallation (Err (install_error.Command why)) r = r ≡ Err why
+ReportsInstallation (Ok i) (Ok text) = string_bytes text ≡ installed_text (string_bytes i.other) (value_of i.descr) i.stale.items
+ReportsInstallation (Err (install_error.Refused f)) (Ok text) = string_bytes text ≡ refusal_line (script_refused (failure_of f))
+ReportsInstallation (Err (install_error.MustReboot f)) (Ok text) =
     (string_bytes text ≡ refusal_line (must_reboot (failure_of f))) × ((failure_of f).why ≢ fails no_memory)
-TellsInstallation done (Err why) = why ≡ handler_error.NoMemory
+ReportsInstallation done (Err why) = why ≡ handler_error.NoMemory

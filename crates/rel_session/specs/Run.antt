@@ -20,8 +20,8 @@ use Rattle.rel_session.specs.Node.{Place, CommandOutcome, Reply}
 use Rattle.rel_session.specs.Node.Place.{raw, closed, running, dead}
 use Rattle.rel_session.specs.Transition.{Transition, IsStopped}
 
--- This is so of the disk of a node between two commands: a read gives the bytes that the place tells, or whatever a crash leaves of
--- it is the store that the place tells. So the start record is that of the permanent release where a node runs.
+-- This is so of the disk of a node between two commands: a read gives the bytes of the place, or whatever a crash leaves of
+-- it is the store of the place. So the start record is that of the permanent release where a node runs.
 abbrev pub Holds : {D : Type 0} → Device D → Place → D → Type 0
 Holds v (raw bytes) disk = v.seen disk ≡ bytes
 Holds v (closed s) disk = (c : List ℕ) → v.may_leave disk c → IsStoredAs s c
@@ -53,7 +53,8 @@ pub record IsReached (k : Known) (command : Events) (image : List ℕ) : Type 0 
 
 -- At each moment of a command on a disk on which no node is known. A creation leaves no store, or one with its event, behind a
 -- moment up to which no more than the first byte was written; one in doubt may have had no such moment, and leaves nothing new on a
--- store. A boot that is done or that the device failed leaves nothing new but what it has written; any other command nothing at all.
+-- store. A boot that is done or that the device failed leaves nothing new but what it has written; any other command nothing at
+-- all.
 abbrev pub MomentsOf : {D : Type 0} → Device D → Events → Option Event → D → D → Type 0
 MomentsOf {D} v (made p ∷ more) doubt old new =
     (at : D) × BeginsAt v.seen v.may_leave v.moment v.left_since (doubted [] (made p)) old new at

@@ -126,8 +126,8 @@ abbrev pub IsNextDisk : {D : Type 0} → Device D → D → D → D → Type 0
 IsNextDisk v mid new later =
     (later ≡ new) ⊎ ((image : List ℕ) × v.left_since new (v.moment mid) image × Only image (v.may_leave later))
 
--- These events are acknowledged on the disk, and its start record is no older than it is behind `ran`; and so over as many sessions:
--- each begins where they are, and behind any of its replies a crash may come, or its end.
+-- These events are acknowledged on the disk, and its start record is no older than it is behind `ran`; and so over as many
+-- sessions: each begins where they are, and behind any of its replies a crash may come, or its end.
 abbrev pub Lasts : {D : Type 0} → Device D → Source → ℕ → Events → Events → D → Type 0
 Lasts v base zero ran events disk =
     (s : Stored) × (more : Events) × Starts v (closed s) disk × (s.known.acknowledged ≡ events ++ more) × BeginWith ran s.known.ran

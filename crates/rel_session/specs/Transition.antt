@@ -39,17 +39,17 @@ use Rattle.node_answer.specs.Refusals.{NodeRefusal, refusal_of, refusal_line, re
 use Rattle.node_answer.specs.Refusals.NodeRefusal.{full, exists, dead as dead_node}
 
 -- what a node that runs answers by its releases and its processes
-abbrev pub told : (Releases → Processes → List ℕ) → Place → List ℕ
-told says (running events extent ps) = says (releases_after events) ps
-told says p = refusal_line dead_node
+abbrev pub reported : (Releases → Processes → List ℕ) → Place → List ℕ
+reported says (running events extent ps) = says (releases_after events) ps
+reported says p = refusal_line dead_node
 
 -- the answer to `releases`
 abbrev pub listed : Place → List ℕ
-listed p = told (λ list ps. listing list) p
+listed p = reported (λ list ps. listing list) p
 
 -- the answer to a command that asks the processes alone
 abbrev pub asked : (Processes → List ℕ) → Place → List ℕ
-asked says p = told (λ list ps. says ps) p
+asked says p = reported (λ list ps. says ps) p
 
 -- An event that a command brings to a node; and, of the list that it changes, why its files are refused, how many bytes the
 -- body of its record has, and the details of the answer where it is done.
@@ -67,7 +67,7 @@ pub data Action : Type 0 where
   installs : List ℕ → Action
   reboots_node : List ℕ → Action
   boots_node : Action
-  tells_start : Action
+  reports_start : Action
   calls : Calls → Action
 
 abbrev pub refuses : NodeRefusal → Action
@@ -130,13 +130,13 @@ ComesTo source p (create path) does =
     (brought : Result Brought FilesRefusal) × Brings source path brought × (does ≡ creation brought)
 ComesTo source p (set_unpacked path) does =
     OnNode p (λ does. (brought : Result Brought FilesRefusal) × Brings source path brought × (does ≡ unpacking brought)) does
-ComesTo source p (check vsn) does = does ≡ answers (told (λ list ps. check_line vsn list) p)
+ComesTo source p (check vsn) does = does ≡ answers (reported (λ list ps. check_line vsn list) p)
 ComesTo source p (install vsn) does = does ≡ installs vsn
 ComesTo source p (permanent vsn) does = does ≡ changes_node (permanence vsn)
 ComesTo source p (remove vsn) does = does ≡ changes_node (removal vsn)
 ComesTo source p (reboot_old vsn) does = does ≡ reboots_node vsn
 ComesTo source p boot does = does ≡ boots_node
-ComesTo source p start does = does ≡ tells_start
+ComesTo source p start does = does ≡ reports_start
 ComesTo source p releases does = does ≡ answers (listed p)
 ComesTo source p procs does = does ≡ answers (asked processes_line p)
 ComesTo source p modules does = does ≡ answers (asked modules_line p)
@@ -213,8 +213,8 @@ start_versions None = []
 start_versions (Some r) = r.erts ++ (codes " " ++ r.vsn)
 
 -- The start record is read, which is that of the permanent release, or the device failed in it.
-abbrev pub TellsStart : Events → Extent → Processes → Reply → Type 0
-TellsStart events extent ps a =
+abbrev pub ReportsStart : Events → Extent → Processes → Reply → Type 0
+ReportsStart events extent ps a =
     (a ≡ reply (ok_line (start_versions (permanent_release (releases_after events)))) nothing (running events extent ps))
     ⊎ (a ≡ failed None (dead (certain events extent)))
 
@@ -233,8 +233,8 @@ Acts (running events extent ps) (reboots_node vsn) a =
     Reboots events extent ps vsn (releases_after events) (commanded (rebooting vsn) (releases_after events)) a
 Acts p (reboots_node vsn) a = a ≡ refused dead_node p
 Acts p boots_node a = Boots p a
-Acts (running events extent ps) tells_start a = TellsStart events extent ps a
-Acts p tells_start a = a ≡ refused dead_node p
+Acts (running events extent ps) reports_start a = ReportsStart events extent ps a
+Acts p reports_start a = a ≡ refused dead_node p
 Acts (running events extent ps) (calls c) a = a ≡ reply (calls_line c ps) nothing (running events extent (left_by c ps))
 Acts p (calls c) a = a ≡ refused dead_node p
 
@@ -258,7 +258,7 @@ pub record IsRebootAlone (p : Place) (does : Action) (a : Reply) : Type 0 where
       (releases_after (events ++ rebooting vsn ∷ [])) reaches
   pub is : a ≡ reply [] (done (rebooting vsn ∷ [])) (closed (rebooted events reaches vsn))
 
--- A release was installed by a script that ends with a restart, and there was no memory for the line that tells it or for the
+-- A release was installed by a script that ends with a restart, and there was no memory for the line that reports it or for the
 -- boot behind it: the installation is on the disk, and acknowledged.
 pub record IsRestartAlone (p : Place) (does : Action) (a : Reply) : Type 0 where
   pub events : Events

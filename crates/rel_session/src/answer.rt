@@ -1,6 +1,6 @@
 //! What a node answers.
 ghost use Rattle.std.specs.Prelude.{◌≡◌, map, string_bytes, Ok, Err, MatchResult};
-ghost use Rattle.node_command.specs.Files.{told_files};
+ghost use Rattle.node_command.specs.Files.{reported_files};
 ghost use Rattle.session_input.specs.Commands.{command_of};
 ghost use Rattle.session_input.specs.Commands.Command.{relup};
 ghost use Rattle.rel_session.specs.InMemory.{IsSoundNode, IsSoundPlace, AsksNode, NeedsNode, Answers, AnswersCommand};
@@ -160,7 +160,7 @@ fn done_by<D: Disk, R: Threads + Wait + Sync, F: Files>(
 /// What files gave, as an answer of the node.
 fn answer_of_files(made: Result<String, UnpackError>) -> Result<String, HandlerError>
     ensures same { MatchResult made (λ text. result ≡ Ok text)
-        (λ why. result ≡ Err (told_files why)) }
+        (λ why. result ≡ Err (reported_files why)) }
 {
     Ok(made?)
 }

@@ -15,7 +15,7 @@ use node_command::HandlerError;
 use rel_disk::Disk;
 use std::alloc::Global;
 
-/// Takes in the release in the file of this path as unpacked. The answer tells its version.
+/// Takes in the release in the file of this path as unpacked. The answer reports its version.
 pub(crate) fn set_unpacked<D: Disk, F: Files>(
     alloc: Global,
     node: &mut BootedNode<D>,

@@ -1,7 +1,7 @@
 //! Whether a release can be installed.
 ghost use Rattle.std.specs.Prelude.{◌≡◌, false, string_bytes, IfOk};
 ghost use Rattle.node_store.specs.State.{is_dead, list_in};
-ghost use Rattle.rel_session.specs.InMemory.{IsSoundNode, AnswersTold};
+ghost use Rattle.rel_session.specs.InMemory.{IsSoundNode, AnswersReported};
 ghost use Rattle.node_answer.specs.Lines.{check_line};
 ghost use Rattle.rel_session.specs.declared.place.Place.TheVariants.{Made};
 
@@ -21,13 +21,13 @@ pub(crate) fn check_install<D: Disk>(
     requires sound { IsSoundNode D.seen D.may_leave node.old }
     requires works { is_dead node.old.handler ≡ false }
     ensures sound { IsSoundNode D.seen D.may_leave node.new }
-    ensures told { AnswersTold D.Disk (λ list ps. check_line vsn.now list) result
+    ensures reported { AnswersReported D.Disk (λ list ps. check_line vsn.now list) result
         (Made node.old) (Made node.new) }
 {
     answer_of(check_line(alloc, node, vsn))
 }
 
-/// The line that tells it.
+/// The line that reports it.
 fn check_line<D: Disk>(alloc: Global, node: &BootedNode<D>, vsn: &str) -> Result<String, AllocError>
     requires { is_dead node.now.handler ≡ false }
     ensures { IfOk result (λ text.

@@ -6,7 +6,7 @@ ghost use Rattle.std.specs.Prelude.{◌≡◌, ◌++◌, string_bytes, IfErr, If
 ghost use Rattle.node_store.specs.Commits.{Commits};
 ghost use Rattle.rel_handler.specs.Installing.{install_event, install_size, InstallRefused};
 ghost use Rattle.node_store.specs.State.{list_in};
-ghost use Rattle.rel_session.specs.InMemory.{state_in, AnswersAction, HasInstalled, IsSoundNode, IsSoundPlace, TellsInstallation};
+ghost use Rattle.rel_session.specs.InMemory.{state_in, AnswersAction, HasInstalled, IsSoundNode, IsSoundPlace, ReportsInstallation};
 ghost use Rattle.rel_session.specs.Transition.Action.{installs};
 
 use crate::booted_node::BootedNode;
@@ -19,8 +19,8 @@ use std::alloc::{AllocError, Global};
 use std::sync::Wait;
 
 impl<D: Disk> Place<D> {
-    /// Installs the release of this version by its script. The answer tells the version and the description of the script's entry,
-    /// and the stale modules. Behind a script that ends with a restart the node boots, and the answer of the boot follows.
+    /// Installs the release of this version by its script. The answer reports the version and the description of the script's
+    /// entry, and the stale modules. Behind a script that ends with a restart the node boots, and the answer of the boot follows.
     pub fn install<R: Wait>(
         self,
         rt: &R,
@@ -40,7 +40,7 @@ impl<D: Disk> Place<D> {
         }
         let done = install_release(rt, alloc, &mut node, vsn);
         let restarts = done.is_ok() && node.handler.is_dead();
-        match told(alloc, done) {
+        match installation_answer(alloc, done) {
             Ok(line) => {
                 if !restarts {
                     return (Place::Made(node), Ok(line));
@@ -91,8 +91,11 @@ fn append_answer(line: String, answer: Result<String, AllocError>) -> Result<Str
 }
 
 /// What an installation answers.
-fn told(alloc: Global, done: Result<Installed, InstallError>) -> Result<String, HandlerError>
-    ensures { TellsInstallation done result }
+fn installation_answer(
+    alloc: Global,
+    done: Result<Installed, InstallError>,
+) -> Result<String, HandlerError>
+    ensures { ReportsInstallation done result }
 {
     match done {
         Ok(installed) => answer_of(installed_line(alloc, &installed)),

@@ -1,5 +1,5 @@
 //! Laws of sessions. Each function does nothing: its contract is the law, and the laws that it calls are what it rests on.
-ghost use Rattle.rel_session.specs.AnswerLaws.{FailsOnlyWithTheDevice, TellsDoubt, HaveOneAnswer, HaveOneText, EachHasAnAnswer, TellsOneRun, ReadsLinePaths, KeepsVersions, RepliesKeepVersions};
+ghost use Rattle.rel_session.specs.AnswerLaws.{FailsOnlyWithTheDevice, ReportsDoubt, HaveOneAnswer, HaveOneText, EachHasAnAnswer, DeterminesOneRun, ReadsLinePaths, KeepsVersions, RepliesKeepVersions};
 ghost use Rattle.rel_session.specs.LawsBelow.{BootLaws};
 ghost use Rattle.rel_session.specs.RunLaws.{EachKeeps, IsOfAccepted, LosesNothing, BeginsWhereOneEnded, BeginsBehindACrash, LosesNothingEver, BeginsWithAMaking};
 
@@ -36,9 +36,9 @@ pub fn no_failure_leaves_no_doubt<D: Disk, F: Files>()
     ensures { (files : F) → FailsOnlyWithTheDevice D.Disk (F.gives files) }
 {}
 
-/// An event that is in doubt is told as a failure of the device, never as done.
+/// An event that is in doubt is reported as a failure of the device, never as done.
 pub fn a_doubt_is_reported_as_a_failure<F: Files>()
-    ensures { (files : F) → TellsDoubt (F.gives files) }
+    ensures { (files : F) → ReportsDoubt (F.gives files) }
 {}
 
 /// Where neither the device fails nor memory is refused to a compaction, an input has one answer from each place with nothing in
@@ -60,10 +60,10 @@ pub fn an_empty_disk_begins_with_a_making<D: Disk, F: Files>()
 
 /// Two runs of the same commands from one place that came to the end of their input, or of what is taken of it, and have written
 /// the same text have the same events, acknowledged and in doubt, command by command, where the same installations end with a
-/// restart. So a text tells which they are, whether the device failed or not. What ends with a restart has to be known, since its
-/// answer has a line more, which may be that of the next command.
-pub fn a_text_tells_one_run<D: Disk, F: Files>()
-    ensures one { (files : F) → TellsOneRun (F.gives files) }
+/// restart. So a text determines which they are, whether the device failed or not. What ends with a restart has to be known, since
+/// its answer has a line more, which may be that of the next command.
+pub fn a_text_determines_one_run<D: Disk, F: Files>()
+    ensures one { (files : F) → DeterminesOneRun (F.gives files) }
 
     // The paths of an input's commands are as it asks, and so are the versions of a store with nothing in doubt, and those behind
     // each reply.

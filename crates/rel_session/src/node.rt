@@ -87,14 +87,14 @@ fn keep(
 ) -> Result<Option<String>, SessionError>
     ensures kept { OnOk result
         (files_of files.new ≡ give (files_of files.old) (string_bytes path) (given_of file)) }
-    ensures told { IfOk result (λ text. IsText text (codes "ok\n")) }
+    ensures reported { IfOk result (λ text. IsText text (codes "ok\n")) }
     ensures memory { IfErr result (λ e. e ≡ SessionError.NoMemory) }
 {
     files.give(path, file)?;
     Ok(Some(String::from_str(alloc, "ok\n")?))
 }
 
-/// The line that tells what a command has done, or why it was refused.
+/// The line that reports what a command has done, or why it was refused.
 fn line_of(
     alloc: Global,
     done: Result<String, HandlerError>,
@@ -108,7 +108,7 @@ fn line_of(
     }
 }
 
-/// The line that tells why a command was refused.
+/// The line that reports why a command was refused.
 fn text_of_refusal(alloc: Global, why: &HandlerError) -> Result<Option<String>, SessionError>
     ensures line { IfOk result (λ text. IsLine (Err why.now) text) }
     ensures memory { IfErr result (λ e. e ≡ SessionError.NoMemory) }

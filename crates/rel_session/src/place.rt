@@ -37,7 +37,7 @@ pub enum Place<D: Disk> {
 }
 
 impl<D: Disk> Place<D> {
-    ghost use Rattle.rel_session.specs.InMemory.{disk_at, IsSoundPlace, IsAt, AnswersCommand, TellsOrStops};
+    ghost use Rattle.rel_session.specs.InMemory.{disk_at, IsSoundPlace, IsAt, AnswersCommand, ReportsOrStops};
 
     /// The disk.
     pub fn into_disk(self) -> D
@@ -49,7 +49,7 @@ impl<D: Disk> Place<D> {
         }
     }
 
-    /// Makes a node with the release in the file of this path as its permanent one. The answer tells its version.
+    /// Makes a node with the release in the file of this path as its permanent one. The answer reports its version.
     pub fn create<R: Wait, F: Files>(
         self,
         rt: &R,
@@ -82,12 +82,12 @@ impl<D: Disk> Place<D> {
     pub fn boot<R: Wait>(self, rt: &R, alloc: Global) -> (Place<D>, Result<String, AllocError>)
         requires { IsSoundPlace D.seen D.may_leave self }
         ensures sound { IsSoundPlace D.seen D.may_leave result.0 }
-        ensures booted { TellsOrStops D.Disk (λ p a. Acts p boots_node a)
+        ensures booted { ReportsOrStops D.Disk (λ p a. Acts p boots_node a)
             (λ p a. StopsWithin p boots_node a) result.1 self result.0 }
     {
         match rel_handler::boot(alloc, self.into_disk()) {
             Ok(handler) => started(rt, alloc, handler),
-            Err((error, disk)) => (Place::Idle(disk), refused_line(alloc, error)),
+            Err((error, disk)) => (Place::Idle(disk), boot_refusal_line(alloc, error)),
         }
     }
 
@@ -106,7 +106,7 @@ impl<D: Disk> Place<D> {
     }
 }
 
-/// Starts the processes of a node that has just booted. The answer tells its version. Where memory is refused, no node is
+/// Starts the processes of a node that has just booted. The answer reports its version. Where memory is refused, no node is
 /// left.
 fn started<D: Disk, R: Wait>(
     rt: &R,
@@ -127,7 +127,7 @@ fn started<D: Disk, R: Wait>(
     }
 }
 
-/// The processes of a node that has just booted, and the line that tells its version.
+/// The processes of a node that has just booted, and the line that reports its version.
 fn begun<D: Disk, R: Wait>(
     rt: &R,
     alloc: Global,
@@ -137,7 +137,7 @@ fn begun<D: Disk, R: Wait>(
     requires works { is_dead handler.now ≡ false }
     ensures sound { IfOk result (λ begun. AreSound begun.1) }
     ensures fresh { IfOk result (λ begun. processes_in begun.1 ≡ fresh (list_in handler.now)) }
-    ensures told { IfOk result (λ begun. string_bytes begun.0
+    ensures reported { IfOk result (λ begun. string_bytes begun.0
         ≡ ok_line (version_of (running (list_in handler.now)))) }
 {
     let Ok(list) = handler.which_releases() else {
@@ -185,9 +185,9 @@ fn running_version(list: &ReleaseList) -> &str
     }
 }
 
-/// The line that tells why a boot is refused. Out of memory is no answer.
-fn refused_line(alloc: Global, error: BootError) -> Result<String, AllocError>
-    ensures told { IfOk result (λ text. string_bytes text ≡ boot_line error) }
+/// The line that reports why a boot is refused. Out of memory is no answer.
+fn boot_refusal_line(alloc: Global, error: BootError) -> Result<String, AllocError>
+    ensures reported { IfOk result (λ text. string_bytes text ≡ boot_line error) }
     ensures memory { error ≡ BootError.NoMemory → IsErr result }
 {
     match error {

@@ -46,7 +46,7 @@ pub(crate) fn list_modules<D: Disk>(
     answer_of(node.processes.list_modules(alloc))
 }
 
-/// Tells the state of a process, and the version of its module.
+/// Reports the state of a process, and the version of its module.
 pub(crate) fn peek<D: Disk, R: Wait>(
     rt: &R,
     alloc: Global,
@@ -57,13 +57,13 @@ pub(crate) fn peek<D: Disk, R: Wait>(
     requires sound { IsSoundNode D.seen D.may_leave node.old }
     requires works { is_dead node.old.handler ≡ false }
     ensures sound { IsSoundNode D.seen D.may_leave node.new }
-    ensures told { AnswersAsked D.Disk (peek_line app.now id.now) result
+    ensures reported { AnswersAsked D.Disk (peek_line app.now id.now) result
         (Made node.old) (Made node.new) }
 {
     answer_of(node.processes.peek(rt, alloc, app, id))
 }
 
-/// Calls a process, and tells what comes of it.
+/// Calls a process, and reports what comes of it.
 pub(crate) fn call<D: Disk, R: Wait>(
     rt: &R,
     alloc: Global,
@@ -81,7 +81,7 @@ pub(crate) fn call<D: Disk, R: Wait>(
     answer_of(node.processes.call(rt, alloc, app, id, input))
 }
 
-/// Calls a process so often from threads, and tells how often each outcome came.
+/// Calls a process so often from threads, and reports how often each outcome came.
 pub(crate) fn flood<D: Disk, R: Threads + Wait + Sync>(
     rt: &R,
     alloc: Global,

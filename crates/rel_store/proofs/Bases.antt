@@ -13,7 +13,7 @@ use Rattle.rel_store.proofs.ReadLemmas.{onto_all, onto_all-none, closed, read-re
 use Rattle.rel_store.proofs.Slots.{Patched, patched_torn, patched_written, front, inside, before, index-before, beyond, behind}
 use Rattle.rel_store.proofs.Whole.{readable, sound, split, selected-le, selected-ge, magic-same, base-same, text-same}
 
--- Where the layout tells a place from which these records are read, they are the store's, whatever follows them.
+-- Where the layout gives a place from which these records are read, they are the store's, whatever follows them.
 found : (place : ℕ) (bodies : List (List ℕ)) (from tail c : List ℕ) → records_from place 0 from ≡ Ok bodies → 288 ≤ place → has_magic c ≡ true → base_of c ≡ place → drop place c ≡ from ++ tail → records_of c ≡ Ok bodies
 found place bodies from tail c read low begins base there =
     let h = held place bodies from read in
@@ -31,7 +31,7 @@ pub record Keeps (bodies : List (List ℕ)) (text old new : List ℕ) : Type 0 w
   pub here : Stands bodies text new
   pub base : base_of new ≡ base_of old
 
--- so are bytes that tell the same of their layout, and have what stood from the base on
+-- so are bytes that say the same of their layout, and have what stood from the base on
 still : (bodies : List (List ℕ)) (text old c tail : List ℕ) → Stands bodies text old → has_magic c ≡ has_magic old → base_of c ≡ base_of old → text_of c ≡ text_of old → drop (base_of old) c ≡ drop (base_of old) old ++ tail → Keeps bodies text old c
 still bodies text old c tail here begins base start rest =
     let s = sound old bodies here.records in

@@ -25,10 +25,10 @@ no_ok v r err ok = cc
 
 -- what a result is, it is alone
 pub no_error : {T E : Type 0} {v : T} {e : E} {r : Result T E} → r ≡ Ok v → r ≡ Err e → ⊥
-no_error is told = cc
+no_error is reported = cc
 
 pub same_error : {T E : Type 0} {d e : E} {r : Result T E} → r ≡ Err d → r ≡ Err e → d ≡ e
-same_error is told = cc
+same_error is reported = cc
 
 pub value_of : {T E : Type 0} (P : T → Type 0) {v : T} {r : Result T E} → r ≡ Ok v → IfOk r P → P v
 value_of P is holds = subst (λ q. IfOk q P) is holds

@@ -44,8 +44,8 @@ module _ {D : Type 0} (moment : D → ℕ) (left_since : D → ℕ → List ℕ 
       each : (c : List ℕ) → IsTornInSteps (may_leave mid) slot spelled 10 (seen mid) c → Leaves c
       each c torn =
           let there = subst (λ q. IsTornInSteps (may_leave mid) q spelled 10 (seen mid) c) at torn in
-          let told = subst (λ l. IsTornInSteps (may_leave mid) (base_place second) l 10 (seen mid) c) is there in
-          let from = subst (λ l. IsTornInSteps (may_leave mid) (base_place second) (to_be_bytes w64 place) 10 l c) written told in
+          let reported = subst (λ l. IsTornInSteps (may_leave mid) (base_place second) l 10 (seen mid) c) is there in
+          let from = subst (λ l. IsTornInSteps (may_leave mid) (base_place second) (to_be_bytes w64 place) 10 l c) written reported in
           inr (inl (steps_among (may_leave mid) (λ d. d ≡ with_record) (base_place second) (to_be_bytes w64 place) 10 with_record (λ d now. durable d now ∙ written) c from))
 
   pub base_written : (slot : ℕ) (spelled : List ℕ) (byte : ℕ) (new : List ℕ) → slot ≡ base_place second → spelled ≡ to_be_bytes w64 place → byte ≡ base_choice second → new ≡ overwritten 10 (byte ∷ []) (overwritten slot spelled (seen mid)) → new ≡ with_base_in second place with_record

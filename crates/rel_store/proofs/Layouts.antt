@@ -1,4 +1,4 @@
--- What the first 288 bytes of a disk tell of all of them.
+-- What the first 288 bytes of a disk say of all of them.
 use Rattle.std.proofs.Common.{◌≡◌, inl, inr, ◌⊎◌, ℕ, ◌<◌, ◌≤◌, Bool, true, false, ◌||◌, not, List, length, take, drop, Ok, Err, refl, sym, ◌∙◌, ap, subst, arith}
 use Rattle.std.specs.Prelude.{◌==◌, if◌then◌else◌, nat_lt, nat_le, slice_index}
 use Rattle.std.specs.Int.{w64, from_be_bytes}
@@ -12,7 +12,7 @@ use Rattle.rel_store.specs.declared.error.StoreError.TheVariants.{NotAStore, Dam
 use Rattle.rel_store.proofs.Scan.{open_refused}
 use Rattle.rel_store.proofs.Whole.{Sound, readable, index-same, magic-same, base-same}
 
--- byte 11 tells the format
+-- byte 11 gives the format
 pub format_same : (new old : List ℕ) → slice_index new 11 ≡ slice_index old 11 → format_of new ≡ format_of old
 format_same new old kind = ap (λ (b : ℕ). if b == 0 then 1 else 2) kind
 

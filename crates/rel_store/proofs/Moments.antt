@@ -100,10 +100,10 @@ module _ {D : Type 0} (moment : D → ℕ) (left_since : D → ℕ → List ℕ 
       own_below i own (inr high) = omega (arith, own.1, high)
 
   -- a store is one of format 1 or of format 2
-  abbrev told_format : Bool → ℕ
-  told_format b = if b then 1 else 2
+  abbrev reported_format : Bool → ℕ
+  reported_format b = if b then 1 else 2
 
-  one_or_two : (b : Bool) → (told_format b ≡ 1) ⊎ (told_format b ≡ 2)
+  one_or_two : (b : Bool) → (reported_format b ≡ 1) ⊎ (reported_format b ≡ 2)
   one_or_two true = inl refl
   one_or_two false = inr refl
 
@@ -113,7 +113,7 @@ module _ {D : Type 0} (moment : D → ℕ) (left_since : D → ℕ → List ℕ 
   pub format_1 : (store.format ≡ 2 → ⊥) → store.format ≡ 1
   format_1 other = ⊎_elim (λ one. one) (λ two. absurd (other two)) formats
 
-  -- Bytes in which the byte that tells the format is as it was have the format that they had.
+  -- Bytes in which the byte that gives the format is as it was have the format that they had.
   format_kept : (c : List ℕ) → (11 < length (seen store.disk) → slice_index c 11 ≡ slice_index (seen store.disk) 11) → format_of c ≡ store.format
   format_kept c same =
       let low = gate_low (records_in store) (text_in seen store) (seen store.disk) store.gate stands_now s.end in

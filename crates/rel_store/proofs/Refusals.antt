@@ -12,12 +12,12 @@ pub not_both : {b : Bool} → b ≡ true → b ≡ false → ⊥
 not_both is isn't = cc
 
 one_error : {T : Type 0} (e f x : StoreError) → x ≡ e → IsErrOf {T = T} (Err x) f → f ≡ e
-one_error e f x is told = cc
+one_error e f x is reported = cc
 
 -- a refusal that it doesn't answer, under a condition that doesn't hold
 answers_no : {T : Type 0} (e f : StoreError) (P : Type 0) (r : Result T StoreError) → (f ≡ e → ⊥) → (P → ⊥) → IsErrAnd r (λ x. x ≡ e) → IsErrOf r f ↔ P
 answers_no e f P (Ok v) other never is = absurd is
-answers_no e f P (Err x) other never is = (λ told. absurd (other (one_error e f x is told)), λ p. absurd (never p))
+answers_no e f P (Err x) other never is = (λ reported. absurd (other (one_error e f x is reported)), λ p. absurd (never p))
 
 module _ {T : Type 0} (r : Result T StoreError) where
   pub device_not_reopened : (b : Bool) → b ≡ false → IsErrAnd r (λ x. x ≡ Device) → IsErrOf r MustReopen ↔ (b ≡ true)
@@ -34,7 +34,7 @@ module _ {T : Type 0} (r : Result T StoreError) where
 
 -- a success answers none, under a condition that doesn't hold
 pub none_answered : {T : Type 0} (v : T) (f : StoreError) (P : Type 0) → (P → ⊥) → IsErrOf (Ok v) f ↔ P
-none_answered v f P never = (λ told. cc told, λ p. absurd (never p))
+none_answered v f P never = (λ reported. cc reported, λ p. absurd (never p))
 
 pub same_store : {D : Type 0} (s : Store D) → IsSame s s
 same_store s = record { disk = refl; records = refl; base = refl; end = refl; format = refl; failed = refl }

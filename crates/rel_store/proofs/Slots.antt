@@ -250,7 +250,7 @@ selected_now second bodies text slot was old new byte is s written =
       kind = selector-behind old new byte p whole.long 11 (omega arith) (omega arith) ∙ s.kind;
     }
 
--- The byte that tells the format is written, or torn: the store stands as it was.
+-- The byte that gives the format is written, or torn: the store stands as it was.
 pub format_kept : (middle old new : List ℕ) (bodies : List (List ℕ)) (text : List ℕ) → Stands bodies text old → Patched 11 1 middle old new → Stands bodies text new
 format_kept middle old new bodies text here p =
     let s = sound old bodies here.records in

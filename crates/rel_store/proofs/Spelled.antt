@@ -6,7 +6,7 @@ use Rattle.std.proofs.lemmas.List.{length-take-le, drop-drop, get_or-take, get_o
 use Rattle.std.proofs.lemmas.Nat.{be_bytes_4}
 use Rattle.std.proofs.lemmas.Slice.Eq.{bytes_eq-Decides}
 use Rattle.rel_store.specs.Layout.{magic, base_of}
-use Rattle.rel_store.specs.Records.{record_bytes, records_bytes, onto, told_length, told_body, records_from, records_of}
+use Rattle.rel_store.specs.Records.{record_bytes, records_bytes, onto, reported_length, reported_body, records_from, records_of}
 use Rattle.rel_store.specs.Spelled.{AreShort, IsSpelled, AreBytes}
 use Rattle.rel_store.proofs.ReadLemmas.{closed, read-record, opened}
 use Rattle.rel_store.proofs.Whole.{readable, sound}
@@ -43,15 +43,15 @@ take-bytes n bytes small i = elim (cases_lt i n) [
   | inr past ↦ subst (λ b. b < 256) (sym (get_or_past (take n bytes) i 0 (omega (arith, length-take n bytes)))) (omega arith)
 ]
 
-one_spelled : (bytes body : List ℕ) → AreBytes bytes → 4 + told_length bytes < length bytes → told_body bytes ≡ body → (length body ≡ told_length bytes) × (bytes ≡ record_bytes body ++ drop (4 + told_length bytes) bytes)
+one_spelled : (bytes body : List ℕ) → AreBytes bytes → 4 + reported_length bytes < length bytes → reported_body bytes ≡ body → (length body ≡ reported_length bytes) × (bytes ≡ record_bytes body ++ drop (4 + reported_length bytes) bytes)
 one_spelled bytes body small whole same =
-    let n = told_length bytes in
+    let n = reported_length bytes in
     let long : length body ≡ n = ap length (sym same) ∙ length-take-le n (drop 4 bytes) (omega (arith, length-drop 4 bytes)) in
-    let told : to_be_bytes w32 n ≡ take 4 bytes = be_bytes_4 (take 4 bytes) n (length-take-le 4 bytes (omega arith)) (take-bytes 4 bytes small) refl in (
+    let reported : to_be_bytes w32 n ≡ take 4 bytes = be_bytes_4 (take 4 bytes) n (length-take-le 4 bytes (omega arith)) (take-bytes 4 bytes small) refl in (
       long,
       sym (take-append-drop 4 bytes)
           ∙ ap (λ (l : List ℕ). take 4 bytes ++ l) (sym (take-append-drop n (drop 4 bytes)))
-          ∙ ap (λ (l : List ℕ). l ++ (take n (drop 4 bytes) ++ drop n (drop 4 bytes))) (sym told)
+          ∙ ap (λ (l : List ℕ). l ++ (take n (drop 4 bytes) ++ drop n (drop 4 bytes))) (sym reported)
           ∙ ap (λ (l : List ℕ). to_be_bytes w32 n ++ (l ++ drop n (drop 4 bytes))) same
           ∙ ap (λ (l : List ℕ). to_be_bytes w32 n ++ (body ++ l)) (drop-drop n 4 bytes)
           ∙ sym (append_assoc (to_be_bytes w32 n) body (drop (4 + n) bytes))
@@ -59,17 +59,17 @@ one_spelled bytes body small whole same =
     )
 
 spells : (place : ℕ) (bodies : List (List ℕ)) (bytes : List ℕ) → AreBytes bytes → records_from place 0 bytes ≡ Ok bodies → Spells bodies bytes
-spells place bodies [] small told = absurd cc
-spells place [] (gate ∷ bytes) small told = elim (cases_eq gate 1) [
-  | inl is_open ↦ let found = opened place bytes [] (ap (λ g. records_from place 0 (g ∷ bytes)) (sym is_open) ∙ told) in absurd (cc found.is)
+spells place bodies [] small reported = absurd cc
+spells place [] (gate ∷ bytes) small reported = elim (cases_eq gate 1) [
+  | inl is_open ↦ let found = opened place bytes [] (ap (λ g. records_from place 0 (g ∷ bytes)) (sym is_open) ∙ reported) in absurd (cc found.is)
   | inr shut ↦ record { short = tt; gate = gate; shut = shut; rest = bytes; is = refl }
 ]
-spells place (body ∷ bodies) (gate ∷ bytes) small told = elim (cases_eq gate 1) [
+spells place (body ∷ bodies) (gate ∷ bytes) small reported = elim (cases_eq gate 1) [
   | inl is_open ↦
-      let found = opened place bytes (body ∷ bodies) (ap (λ g. records_from place 0 (g ∷ bytes)) (sym is_open) ∙ told) in
-      let n = told_length bytes in
+      let found = opened place bytes (body ∷ bodies) (ap (λ g. records_from place 0 (g ∷ bytes)) (sym is_open) ∙ reported) in
+      let n = reported_length bytes in
       let same_others : found.others ≡ bodies = cc found.is in
-      let same_body : told_body bytes ≡ body = cc found.is in
+      let same_body : reported_body bytes ≡ body = cc found.is in
       let one = one_spelled bytes body (λ i. small (suc i)) found.whole same_body in
       let others = spells (place + (5 + n)) bodies (drop (4 + n) bytes) (drop-bytes (4 + n) bytes (λ i. small (suc i))) (found.read ∙ ap (λ o. Ok o) same_others) in
       record {
@@ -81,13 +81,13 @@ spells place (body ∷ bodies) (gate ∷ bytes) small told = elim (cases_eq gate
             ∙ ap (λ (l : List ℕ). 1 ∷ (record_bytes body ++ l)) others.is
             ∙ ap (λ (l : List ℕ). 1 ∷ l) (sym (append_assoc (record_bytes body) (records_bytes bodies) (others.gate ∷ others.rest)));
       }
-  | inr shut ↦ absurd (cc (closed place gate bytes shut, told))
+  | inr shut ↦ absurd (cc (closed place gate bytes shut, reported))
 ]
 
 pub read_is_spelled : (bytes : List ℕ) (bodies : List (List ℕ)) → AreBytes bytes → records_of bytes ≡ Ok bodies → IsSpelled bodies bytes
-read_is_spelled bytes bodies small told =
-    let s = sound bytes bodies told in
-    let found = spells (base_of bytes) bodies (drop (base_of bytes) bytes) (drop-bytes (base_of bytes) bytes small) (sym (readable bytes s) ∙ told) in
+read_is_spelled bytes bodies small reported =
+    let s = sound bytes bodies reported in
+    let found = spells (base_of bytes) bodies (drop (base_of bytes) bytes) (drop-bytes (base_of bytes) bytes small) (sym (readable bytes s) ∙ reported) in
     record {
       begins = (bytes_eq-Decides (take 9 bytes) (1 ∷ magic)).0 s.begins;
       low = s.low;

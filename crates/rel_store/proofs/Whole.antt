@@ -29,7 +29,7 @@ readable bytes s = go (length bytes) (has_magic bytes) (base_of bytes) s.long s.
         ap (λ t. if t then Err NotAStore else (if nat_lt base 288 || nat_le n base then Err (Damaged (base_slot bytes)) else records_from base 0 (drop base bytes))) first
         ∙ ap (λ t. if t then Err (Damaged (base_slot bytes)) else records_from base 0 (drop base bytes)) second
 
--- an opening that tells records tells that the store is sound
+-- an opening that reports records reports that the store is sound
 pub sound : (bytes : List ℕ) (bodies : List (List ℕ)) → records_of bytes ≡ Ok bodies → Sound bytes
 sound bytes bodies read = go (nat_lt (length bytes) 289 || not (has_magic bytes)) (nat_lt (base_of bytes) 288 || nat_le (length bytes) (base_of bytes)) refl refl
   where

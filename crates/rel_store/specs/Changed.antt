@@ -21,7 +21,7 @@ IsInRecord gate n i = (gate ≤ i) × (i < gate + (6 + n))
 abbrev pub IsInOtherSlot : List ℕ → ℕ → Type 0
 IsInOtherSlot bytes i = (i ≡ 9) ⊎ ((other_slot bytes ≤ i) × (i < other_slot bytes + 128))
 
--- a change of format's own: the byte that tells it, in a store of format 1, and none in one of format 2
+-- a change of format's own: the byte that gives it, in a store of format 1, and none in one of format 2
 abbrev pub IsFormat : ℕ → ℕ → Type 0
 IsFormat format i = (format ≡ 1) × (i ≡ 11)
 

@@ -17,7 +17,7 @@ pub record AreContentsOf (bytes : List ℕ) (contents : Contents) : Type 0 where
   pub chooses : contents.second_base ≡ (slice_index bytes 10 == 1)
   pub format : contents.format ≡ format_of bytes
 
--- Why an opening of these bytes refuses them: what they tell, or a failure of the device, or out of memory.
+-- Why an opening of these bytes refuses them: what they report, or a failure of the device, or out of memory.
 abbrev pub OpenRefused : List ℕ → ℕ → ℕ → StoreError → Type 0
 OpenRefused bytes before now NotAStore = records_of bytes ≡ Err NotAStore
 OpenRefused bytes before now (Damaged at) = records_of bytes ≡ Err (Damaged at)
@@ -53,9 +53,9 @@ RecordRefused bytes gate before now (Damaged at) = (at ≡ gate) × (slice_index
 RecordRefused bytes gate before now Device = HasFailed before now
 RecordRefused bytes gate before now _ = ⊥
 
--- Why records aren't read, where the bytes tell these or a damage: that damage, a failure of the device, or out of memory.
+-- Why records aren't read, where the bytes report these or a damage: that damage, a failure of the device, or out of memory.
 abbrev pub RecordsRefused : Result (List (List ℕ)) StoreError → ℕ → ℕ → StoreError → Type 0
-RecordsRefused told before now (Damaged at) = told ≡ Err (Damaged at)
-RecordsRefused told before now Device = HasFailed before now
-RecordsRefused told before now NoMemory = Unit {0}
-RecordsRefused told before now _ = ⊥
+RecordsRefused reported before now (Damaged at) = reported ≡ Err (Damaged at)
+RecordsRefused reported before now Device = HasFailed before now
+RecordsRefused reported before now NoMemory = Unit {0}
+RecordsRefused reported before now _ = ⊥

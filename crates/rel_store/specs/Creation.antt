@@ -44,7 +44,7 @@ abbrev pub Creates : {D : Type 0} → (D → List ℕ) → (D → List ℕ → T
 Creates {D = D} seen may_leave moment left_since first start old new =
     LeavesOnly moment left_since old new (IsTornFrom (may_leave old) 0 1) ⊎ ((at : D) × IsBegunAt seen may_leave moment left_since first start old new at)
 
--- Why a creation refuses, in the order in which it is told. Nothing has been written then, unless the device failed.
+-- Why a creation refuses, in the order in which it is reported. Nothing has been written then, unless the device failed.
 abbrev pub CreationRefused : List ℕ → List ℕ → ℕ → ℕ → Type 0 → StoreError → Type 0
 CreationRefused bytes first before now unwritten Exists = (has_magic bytes ≡ true) × unwritten
 CreationRefused bytes first before now unwritten Full = (has_magic bytes ≡ false) × (Fits 289 (length first) → ⊥) × unwritten

@@ -48,7 +48,7 @@ other_base_slot bytes = selected (slice_index bytes 10) 280 272
 abbrev pub other_base_selector : List ℕ → ℕ
 other_base_selector bytes = selected (slice_index bytes 10) 1 0
 
--- the place of the first record, as the base slot that counts tells it, greatest byte first
+-- the place of the first record, as the base slot that counts gives it, greatest byte first
 abbrev pub base_of : List ℕ → ℕ
 base_of bytes = from_be_bytes w64 (part (base_slot bytes) 8 bytes)
 

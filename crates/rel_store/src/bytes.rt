@@ -16,6 +16,7 @@ pub(crate) fn make_room(
     ensures len { OnOk result (vec_len buffer.new ≡ 0) }
     ensures ok { OnOk result (wanted ≤ vec_capacity buffer.new) }
     ensures full { OnErr result (vec_capacity buffer.old < wanted) }
+    ensures keeps { vec_capacity buffer.old ≤ vec_capacity buffer.new }
 {
     buffer.clear();
     if buffer.capacity() < wanted {
@@ -73,7 +74,7 @@ fn push_layout(buffer: &mut Vec<u8>, start: &[u8]) -> Result<(), AllocError>
 {
     buffer.extend_from_slice(&MAGIC)?;
     buffer.extend_from_slice(&NEW_CHOICES)?;
-    buffer.extend_from_slice(&start_slot(start))?;
+    buffer.extend_from_slice(&spell_slot(start))?;
     buffer.extend_from_slice(&[0; 128])?;
     buffer.extend_from_slice(&FIRST_RECORD.to_be_bytes())?;
     buffer.extend_from_slice(&[0; 8])?;
@@ -81,7 +82,7 @@ fn push_layout(buffer: &mut Vec<u8>, start: &[u8]) -> Result<(), AllocError>
 }
 
 // A start slot with this text.
-pub(crate) fn start_slot(text: &[u8]) -> [u8; 128]
+pub(crate) fn spell_slot(text: &[u8]) -> [u8; 128]
     requires { length text.now ≤ 127 }
     ensures { result ≡ slot_with text.now }
 {

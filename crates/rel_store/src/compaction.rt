@@ -21,7 +21,7 @@ impl<D: Disk> Store<D> {
     /// records, where the disk is cut behind it, and else behind the store's closed gate. The start text stays. At `Ok` it is
     /// acknowledged: from then on each crash leaves the image alone.
     ///
-    /// Told in this order: `MustReopen`, `Full` where the body is longer than a record's may be, or where the store would
+    /// Reported in this order: `MustReopen`, `Full` where the body is longer than a record's may be, or where the store would
     /// end past its bound, `NoMemory`; nothing has changed then. After `Device` the store has to be opened again, and has
     /// its records or the image alone. What was reserved is used for the image.
     pub fn compact(&mut self, alloc: Global, image: &[u8]) -> Result<(), StoreError>

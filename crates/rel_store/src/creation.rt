@@ -14,10 +14,10 @@ use rel_disk::{DeviceFault, Disk};
 use std::alloc::{AllocError, Global};
 
 impl<D: Disk> Store<D> {
-    /// Makes a store of format 2 with one record on a disk that has none, and with this text of at most 127 bytes as its start slot.
-    /// What stands on the disk behind the store's closed gate stays.
+    /// Makes a store of format 2 with one record on a disk that has none, and with this text of at most 127 bytes as its start
+    /// slot. What stands on the disk behind the store's closed gate stays.
     ///
-    /// Told in this order: `Exists` where the disk begins with an open gate and the magic, `Full` where the record is
+    /// Reported in this order: `Exists` where the disk begins with an open gate and the magic, `Full` where the record is
     /// longer than a record may be, `NoMemory`. Nothing has been written then. `Device` may come instead of each: once
     /// the first sync has succeeded a crash leaves no store, or this one, and before it at most the first byte was written.
     pub fn create(
@@ -151,7 +151,5 @@ pub fn holds_a_store<D: Disk>(disk: &mut D) -> Result<bool, DeviceFault>
 fn only_record(alloc: Global, first: &[u8]) -> Result<Vec<Vec<u8>>, AllocError>
     ensures { IfOk result (λ records. map (λ v. v.items) records.items ≡ first.now ∷ []) }
 {
-    let mut records = Vec::new(alloc);
-    records.push(Vec::from_slice(alloc, first)?)?;
-    Ok(records)
+    Ok(vec![in alloc; Vec::from_slice(alloc, first)?]?)
 }

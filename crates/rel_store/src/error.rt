@@ -12,7 +12,7 @@ use thiserror::Error;
 pub enum StoreError {
     /// The disk has fewer than 289 bytes, or doesn't begin with an open gate and the magic.
     NotAStore,
-    /// The place of a base slot that tells no place of a record, or of the open gate of a record that isn't whole.
+    /// The place of a base slot that gives no place of a record, or of the open gate of a record that isn't whole.
     Damaged(u64),
     /// A store stands on the disk already.
     Exists,

@@ -2,7 +2,7 @@
 ghost use Rattle.std.specs.Prelude.{◌≡◌, ◌+◌, ◌≤◌, length, drop, if◌then◌else◌};
 ghost use Rattle.std.specs.Int.{w64, from_be_bytes};
 ghost use Rattle.rel_store.specs.Layout.{part, has_magic, base_slot, format_of};
-ghost use Rattle.rel_store.specs.Records.{told_length};
+ghost use Rattle.rel_store.specs.Records.{reported_length};
 
 /// The longest body of a record, in bytes.
 pub const MAX_BODY: usize = 16_777_216;
@@ -58,7 +58,7 @@ pub(crate) fn base_slot_of(bytes: &[u8]) -> usize
     requires { 288 ≤ length bytes.now }
     ensures { result ≡ base_slot bytes.now }
 {
-    if bytes[BASE_SELECTOR] == 1 { 280 } else { 272 }
+    base_slot_place(bytes[BASE_SELECTOR] == 1) as usize
 }
 
 // The place that is spelled there, greatest byte first.
@@ -71,9 +71,9 @@ pub(crate) fn place_at(bytes: &[u8], at: usize) -> u64
     u64::from_be_bytes(place)
 }
 
-// The length that a gate and the four bytes behind it tell, greatest byte first.
+// The length that a gate and the four bytes behind it give, greatest byte first.
 pub(crate) fn body_length(head: &[u8; 5]) -> usize
-    ensures { result ≡ told_length (drop 1 head.now) }
+    ensures { result ≡ reported_length (drop 1 head.now) }
 {
     let mut length = [0; 4];
     length.copy_from_slice(&head[1..]);

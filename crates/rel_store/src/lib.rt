@@ -6,8 +6,8 @@
 //! leaves the old records or that one alone. So an opening of whatever a crash may leave finds one of these, undamaged.
 //! `records_of` says which records the bytes of a disk hold, or why they are refused. The clauses speak of it, and of what a crash
 //! may leave at each moment of a call (`LeavesOnly`). A caller composes them and says nothing of bytes.
-//! A call that answers `Device` leaves the store to be opened again: from then on each call answers `MustReopen`. `into_disk`
-//! gives the disk back, and so does each refusal of a call that takes one.
+//! A call that answers `Device` leaves the store to be opened again: from then on each call that answers a `Result` answers
+//! `MustReopen`. `into_disk` gives the disk back, and so does each refusal of a call that takes one.
 //! Only tested: that a call succeeds where memory is there, and that an append gives back what was reserved. Trusted: the
 //! toolchain and `thiserror`.
 #![tactic(auto)]

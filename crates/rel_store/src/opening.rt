@@ -15,7 +15,7 @@ impl<D: Disk> Store<D> {
     /// Opens the store on a disk. Syncs the disk, reads its layout and its records, each once, and writes nothing. At `Ok`
     /// what was read is what a crash leaves. Takes memory for the records alone.
     ///
-    /// Refusals: `Device`, `NoMemory`, `NotAStore`, and `Damaged` at a base slot that tells no place behind the layout
+    /// Refusals: `Device`, `NoMemory`, `NotAStore`, and `Damaged` at a base slot that gives no place behind the layout
     /// and within the disk, or at the open gate of a record that is too long or that the disk ends within; the gate
     /// behind a record belongs to it.
     pub fn open_disk(alloc: Global, disk: D) -> Result<Store<D>, (StoreError, D)>

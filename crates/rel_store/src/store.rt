@@ -8,7 +8,7 @@ ghost use Rattle.rel_store.specs.Records.{Stands, StandsEither, StandsWithEither
 ghost use Rattle.rel_store.specs.State.{disk_in, records_in, text_in, gate_in, base_in, end_in, format_in, has_failed, Fits, HasRoom, IsSettled, IsSoundStore, IsSame, Refused};
 
 use crate::StoreError;
-use crate::bytes::{body_of_record, make_room, spell_record, start_slot};
+use crate::bytes::{body_of_record, make_room, spell_record, spell_slot};
 use crate::device::{write_and_commit, write_through};
 use crate::layout::{
     FORMAT, MAX_BODY, MAX_END, OPEN, RECORD_HEAD, START_SELECTOR, selector_of, slot_place,
@@ -85,6 +85,7 @@ impl<D: Disk> Store<D> {
         requires { IsSoundStore D.seen D.may_leave self.old }
         ensures sound { IsSoundStore D.seen D.may_leave self.new }
         ensures room { OnOk result ((m : ℕ) → m ≤ n → HasRoom m self.new) }
+        ensures keeps { (m : ℕ) → HasRoom m self.old → HasRoom m self.new }
         ensures kept { IsSame self.old self.new }
         ensures reopened { IsErrOf result StoreError.MustReopen ↔ (has_failed self.old ≡ true) }
         ensures refused { IfErr result
@@ -100,7 +101,7 @@ impl<D: Disk> Store<D> {
 
     /// Adds a record. At `Ok` it is acknowledged: from then on each crash leaves a store that has it.
     ///
-    /// Told in this order: `MustReopen`, `Full` where `fits` says so, `NoMemory`; nothing has changed then. After
+    /// Reported in this order: `MustReopen`, `Full` where `fits` says so, `NoMemory`; nothing has changed then. After
     /// `Device` the store has to be opened again, and has its records, with the new one or without.
     pub fn append(&mut self, alloc: Global, body: &[u8]) -> Result<(), StoreError>
         requires { IsSoundStore D.seen D.may_leave self.old }
@@ -229,7 +230,7 @@ impl<D: Disk> Store<D> {
         write_and_commit(
             &mut self.disk,
             slot_place(second),
-            &start_slot(text),
+            &spell_slot(text),
             START_SELECTOR as u64,
             selector_of(second),
         )?;
@@ -256,7 +257,7 @@ impl<D: Disk> Store<D> {
         ensures room { (n : ℕ) → HasRoom n self.old → HasRoom n self.new }
 
         // A crash at any moment of the call leaves the records and the start text, and all bytes as they were but, in a store of
-        // format 1, the one that tells the format.
+        // format 1, the one that gives the format.
         ensures any_moment { has_failed self.old ≡ false
             → LeavesOnly D.moment D.left_since (disk_in self.old) (disk_in self.new)
             (Stands (records_in self.old) (text_in D.seen self.old)) }

@@ -1,4 +1,4 @@
--- What the path of a release brings tells what is within a line.
+-- What the path of a release brings reports what is within a line.
 use Rattle.std.proofs.Common.{◌≡◌, ℕ, ◌-◌, true, not, zero, suc, List, [], ◌∷◌, take, length, codes, Option, Some, None, Result, Ok, Err, refl}
 use Rattle.std.specs.Prelude.{◌==◌}
 use Rattle.std.specs.List.{AllByRecursion, suffix_len}
@@ -16,7 +16,7 @@ use Rattle.rel_unpack.specs.Relup.{RelupAt, RelupFound, RelupIn, folder_of, relu
 use Rattle.rel_unpack.specs.Source.{Source, FileSays}
 use Rattle.rel_unpack.specs.Unpacking.{Brought, BroughtAt, RelupRead, WithFiles, brought_with}
 use Rattle.rel_unpack.proofs.LineLibraries.{IsLineLibrary, good_unpacking}
-use Rattle.rel_unpack.proofs.LineOutcomes.{AreGood, IsGood, IsLineFound, IsSaid, OrNone, TellsLine, good_file, good_outcome, good_release, good_then, good_where_there}
+use Rattle.rel_unpack.proofs.LineOutcomes.{AreGood, IsGood, IsLineFound, IsSaid, OrNone, ReportsLine, good_file, good_outcome, good_release, good_then, good_where_there}
 
 -- The path of a relup is a line where that of its release is one.
 take_line : (n : ℕ) (s : List ℕ) → is_one_line s ≡ true → is_one_line (take n s) ≡ true
@@ -50,7 +50,7 @@ good_relup_read : (source : Source) (path vsn : List ℕ) (why : Option Refusal)
 good_relup_read source path vsn None line = good_relup source path vsn line
 good_relup_read source path vsn (Some why) line = good_outcome (OrNone IsAny) (Ok None) tt
 
-refusal_line : (read : Result (Option RelupFound) Refusal) → IsGood (OrNone IsAny) read → OrNone TellsLine (result_err read)
+refusal_line : (read : Result (Option RelupFound) Refusal) → IsGood (OrNone IsAny) read → OrNone ReportsLine (result_err read)
 refusal_line (Ok relup) good = tt
 refusal_line (Err why) good = good
 
@@ -58,8 +58,8 @@ refusal_line (Err why) good = good
 pub record IsLineBrought (b : Brought) : Type 0 where
   pub found : IsLineFound b.found
   pub libraries : AllByRecursion (λ (l : Library). is_one_line l.app.name ≡ true) b.libraries
-  pub refusal : OrNone TellsLine b.refusal
-  pub relup_refusal : OrNone TellsLine b.relup_refusal
+  pub refusal : OrNone ReportsLine b.refusal
+  pub relup_refusal : OrNone ReportsLine b.relup_refusal
 
 names_of_libraries : (ls : List Library) → AllByRecursion IsLineLibrary ls → AllByRecursion (λ (l : Library). is_one_line l.app.name ≡ true) ls
 names_of_libraries [] all = tt
@@ -71,8 +71,8 @@ good_brought source path line =
   where
     rest : (f : Found) → IsLineFound f → AreGood (WithFiles source path f) IsLineBrought
     rest f lines r (ls, why, gives, (read, reads, is)) =
-        let (all, told) = good_unpacking source f.release.apps ls why lines.apps gives in
+        let (all, reported) = good_unpacking source f.release.apps ls why lines.apps gives in
         let good = good_relup_read source path f.release.vsn why line read reads in
         let all_lines : IsLineBrought (brought_with f ls why read) =
-        record { found = lines; libraries = names_of_libraries ls all; refusal = told; relup_refusal = refusal_line read good } in
+        record { found = lines; libraries = names_of_libraries ls all; refusal = reported; relup_refusal = refusal_line read good } in
         good_outcome IsLineBrought (Ok (brought_with f ls why read)) all_lines r is

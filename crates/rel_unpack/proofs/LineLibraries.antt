@@ -1,4 +1,4 @@
--- What is told of the libraries of a release stays within a line.
+-- What is reported of the libraries of a release stays within a line.
 use Rattle.std.proofs.Common.{◌≡◌, ◌⊎◌, inl, inr, ℕ, Bool, true, false, List, [], ◌∷◌, ◌++◌, codes, Contains, Option, Some, None, Ok, Err, refl, sym, subst}
 use Rattle.std.specs.Prelude.{◌||◌, if◌then◌else◌}
 use Rattle.std.specs.List.{AllByRecursion, flat_map}
@@ -32,7 +32,7 @@ use Rattle.rel_unpack.specs.Refusal.Refusal.{vsn_mismatch}
 use Rattle.rel_unpack.specs.Source.{Source, FileSays}
 use Rattle.rel_unpack.specs.Unpacking.{UnpackedLibraries, refusal_for}
 use Rattle.rel_unpack.proofs.FileNames.{NamesModules, StartsNamed, application_names, table_names}
-use Rattle.rel_unpack.proofs.LineOutcomes.{AreGood, IsLineApplication, IsLineSpecification, IsSaid, OrNone, TellsLine, app_path_line, folder_line, good_each, good_file, good_outcome, good_then, good_where_there, name_line, specification_line, tested}
+use Rattle.rel_unpack.proofs.LineOutcomes.{AreGood, IsLineApplication, IsLineSpecification, IsSaid, OrNone, ReportsLine, app_path_line, folder_line, good_each, good_file, good_outcome, good_then, good_where_there, name_line, specification_line, tested}
 
 -- what holds of all holds of a member, of two lists of both, and of what each member gives
 module _ {X : Type 0} (P : X → Type 0) where
@@ -135,7 +135,7 @@ modules_line a line (m ∷ ms) (t ∷ ts) all = (record { app = line; table = fo
 part_modules_line : (p : Part) → IsLinePart p → AllByRecursion IsLineModule (modules_of p)
 part_modules_line p line = modules_line p.app line.app p.library.app.modules p.library.tables line.library.tables
 
--- Of names that stand twice the applications are told,
+-- Of names that stand twice the applications are reported,
 abbrev pub IsOfLine : Named → Type 0
 IsOfLine n = IsLineApplication n.app
 
@@ -172,55 +172,55 @@ named_line ps _ all (as_child x s c member table child) =
     let module_line = of_member IsLineModule (modules_in ps) x (of_each IsLineModule IsLinePart modules_of part_modules_line ps all) member in
     of_member StartsOnLine s.children c (subst (OrNone IsLineTable) table module_line.table) child
 
-fault_line : (ps : List Part) (f : Fault) → AllByRecursion IsLinePart ps → first_fault ps ≡ Some f → TellsLine (refusal_for f)
+fault_line : (ps : List Part) (f : Fault) → AllByRecursion IsLinePart ps → first_fault ps ≡ Some f → ReportsLine (refusal_for f)
 fault_line ps f all is = of_modules (first_module_again ps) refl is
   where
-    of_limits : (b : Bool) → (if b then None else Some passes_a_limit) ≡ Some f → TellsLine (refusal_for f)
+    of_limits : (b : Bool) → (if b then None else Some passes_a_limit) ≡ Some f → ReportsLine (refusal_for f)
     of_limits true at = absurd cc
-    of_limits false at = let same : passes_a_limit ≡ f = cc in subst (λ g. TellsLine (refusal_for g)) same tt
+    of_limits false at = let same : passes_a_limit ≡ f = cc in subst (λ g. ReportsLine (refusal_for g)) same tt
 
-    of_missing : (o : Option (List ℕ)) → first_missing ps ≡ o → option_or (option_map has_no_table o) (if keeps_limits ps then None else Some passes_a_limit) ≡ Some f → TellsLine (refusal_for f)
+    of_missing : (o : Option (List ℕ)) → first_missing ps ≡ o → option_or (option_map has_no_table o) (if keeps_limits ps then None else Some passes_a_limit) ≡ Some f → ReportsLine (refusal_for f)
     of_missing None found at = of_limits (keeps_limits ps) at
     of_missing (Some m) found at =
         let same : has_no_table m ≡ f = cc in
-        subst (λ g. TellsLine (refusal_for g)) same (named_line ps m all (missing_named ps m found))
+        subst (λ g. ReportsLine (refusal_for g)) same (named_line ps m all (missing_named ps m found))
 
     of_ids : (o : Option Named) → first_id_again ps ≡ o
-        → option_or (option_map id_twice o) (option_or (option_map has_no_table (first_missing ps)) (if keeps_limits ps then None else Some passes_a_limit)) ≡ Some f → TellsLine (refusal_for f)
+        → option_or (option_map id_twice o) (option_or (option_map has_no_table (first_missing ps)) (if keeps_limits ps then None else Some passes_a_limit)) ≡ Some f → ReportsLine (refusal_for f)
     of_ids None found at = of_missing (first_missing ps) refl at
     of_ids (Some n) found at =
         let same : id_twice n ≡ f = cc in
-        subst (λ g. TellsLine (refusal_for g)) same (app_path_line n.app (id_again_line ps n all found))
+        subst (λ g. ReportsLine (refusal_for g)) same (app_path_line n.app (id_again_line ps n all found))
 
     of_modules : (o : Option Named) → first_module_again ps ≡ o
         → option_or (option_map module_twice o) (option_or (option_map id_twice (first_id_again ps)) (option_or (option_map has_no_table (first_missing ps)) (if keeps_limits ps then None else Some passes_a_limit))) ≡ Some f
-        → TellsLine (refusal_for f)
+        → ReportsLine (refusal_for f)
     of_modules None found at = of_ids (first_id_again ps) refl at
     of_modules (Some n) found at =
         let same : module_twice n ≡ f = cc in
         let lines = names_line (modules_in ps) (of_each IsLineModule IsLinePart modules_of part_modules_line ps all) in
-        subst (λ g. TellsLine (refusal_for g)) same (app_path_line n.app (met_line _ (module_names (modules_in ps)) n lines found))
+        subst (λ g. ReportsLine (refusal_for g)) same (app_path_line n.app (met_line _ (module_names (modules_in ps)) n lines found))
 
 -- The libraries of such applications, and why they are refused.
 good_read : (source : Source) (apps : List Application) (ls : List Library) (why : Option Refusal) → AllByRecursion IsLineApplication apps → LibrariesAt source apps ls why
-    → AllByRecursion IsLineLibrary ls × OrNone TellsLine why
+    → AllByRecursion IsLineLibrary ls × OrNone ReportsLine why
 good_read source [] [] None lines gives = (tt, tt)
 good_read source [] [] (Some why) lines gives = absurd gives
 good_read source [] (l ∷ ls) why lines gives = absurd gives
 good_read source (a ∷ apps) [] None lines gives = absurd gives
 good_read source (a ∷ apps) [] (Some why) lines gives = (tt, good_library source a lines.0 (Err why) gives)
 good_read source (a ∷ apps) (l ∷ ls) why lines (here, later) =
-    let (all, told) = good_read source apps ls why lines.1 later in
-    ((good_library source a lines.0 (Ok l) here, all), told)
+    let (all, reported) = good_read source apps ls why lines.1 later in
+    ((good_library source a lines.0 (Ok l) here, all), reported)
 
 pub good_unpacking : (source : Source) (apps : List Application) (ls : List Library) (why : Option Refusal) → AllByRecursion IsLineApplication apps → UnpackedLibraries source apps ls why
-    → AllByRecursion IsLineLibrary ls × OrNone TellsLine why
+    → AllByRecursion IsLineLibrary ls × OrNone ReportsLine why
 good_unpacking source apps ls why lines (read, gives, is) =
     let (all, met) = good_read source apps ls read lines gives in
-    (all, subst (OrNone TellsLine) (sym is) (told all read met (release_fault apps ls) refl))
+    (all, subst (OrNone ReportsLine) (sym is) (reported all read met (release_fault apps ls) refl))
   where
-    told : AllByRecursion IsLineLibrary ls → (met : Option Refusal) → OrNone TellsLine met → (f : Option Fault) → release_fault apps ls ≡ f
-        → OrNone TellsLine (option_or met (option_map refusal_for f))
-    told all (Some w) line f at = line
-    told all None line None at = tt
-    told all None line (Some f) at = fault_line (parts apps ls) f (parts_line apps ls lines all) at
+    reported : AllByRecursion IsLineLibrary ls → (met : Option Refusal) → OrNone ReportsLine met → (f : Option Fault) → release_fault apps ls ≡ f
+        → OrNone ReportsLine (option_or met (option_map refusal_for f))
+    reported all (Some w) line f at = line
+    reported all None line None at = tt
+    reported all None line (Some f) at = fault_line (parts apps ls) f (parts_line apps ls lines all) at

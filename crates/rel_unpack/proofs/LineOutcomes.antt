@@ -1,4 +1,4 @@
--- What is told of files stays within a line.
+-- What is reported of files stays within a line.
 use Rattle.std.proofs.Common.{◌≡◌, inl, inr, ℕ, Bool, true, false, not, List, [], ◌∷◌, ◌++◌, length, map, codes, Option, Some, None, Result, Ok, Err, refl, sym, ap, ◌∙◌, subst, arith}
 use Rattle.std.specs.Prelude.{◌==◌, if◌then◌else◌}
 use Rattle.std.specs.List.{list_all, AllByRecursion}
@@ -25,19 +25,19 @@ use Rattle.rel_unpack.specs.Release.{Found, ReleaseAt, rel_form}
 use Rattle.rel_check.specs.Limits.{is_small}
 use Rattle.rel_unpack.specs.Source.{Source, Form, HasBytes, HasValue, FileSays, IfThere}
 
--- what a refusal tells is within a line
-abbrev pub TellsLine : Refusal → Type 0
-TellsLine (missing_file path) = is_one_line path ≡ true
-TellsLine (bad_file path trouble) = is_one_line path ≡ true
-TellsLine (vsn_mismatch path) = is_one_line path ≡ true
-TellsLine (lib_differs name) = is_one_line name ≡ true
-TellsLine (no_table name) = is_one_line name ≡ true
-TellsLine why = Unit {0}
+-- what a refusal reports is within a line
+abbrev pub ReportsLine : Refusal → Type 0
+ReportsLine (missing_file path) = is_one_line path ≡ true
+ReportsLine (bad_file path trouble) = is_one_line path ≡ true
+ReportsLine (vsn_mismatch path) = is_one_line path ≡ true
+ReportsLine (lib_differs name) = is_one_line name ≡ true
+ReportsLine (no_table name) = is_one_line name ≡ true
+ReportsLine why = Unit {0}
 
--- A value has G, and a refusal tells what is within a line.
+-- A value has G, and a refusal reports what is within a line.
 abbrev pub IsGood : {X : Type 0} → (X → Type 0) → Result X Refusal → Type 0
 IsGood G (Ok x) = G x
-IsGood G (Err why) = TellsLine why
+IsGood G (Err why) = ReportsLine why
 
 -- Each outcome is such a one.
 abbrev pub AreGood : {X : Type 0} → Outcome X → (X → Type 0) → Type 0
@@ -73,7 +73,7 @@ good_where_there source path P G good (Err e) (other, says) = good (Err e) says
 
 -- What a file of such a path says.
 module _ {X : Type 0} (form : Form X) (source : Source) (path : List ℕ) (line : is_one_line path ≡ true) where
-  good_bytes : (e : Refusal) → HasBytes source path (Err e) → TellsLine e
+  good_bytes : (e : Refusal) → HasBytes source path (Err e) → ReportsLine e
   good_bytes (missing_file p) (is, has) = ap is_one_line is ∙ line
   good_bytes (bad_file p unreadable) (is, has) = ap is_one_line is ∙ line
   good_bytes (bad_file p (faulty f)) has = absurd has
@@ -85,7 +85,7 @@ module _ {X : Type 0} (form : Form X) (source : Source) (path : List ℕ) (line 
   good_bytes too_many has = tt
   good_bytes no_memory has = absurd has
 
-  good_value : (bs : List ℕ) (e : Refusal) → HasValue form path bs (Err e) → TellsLine e
+  good_value : (bs : List ℕ) (e : Refusal) → HasValue form path bs (Err e) → ReportsLine e
   good_value bs (bad_file p t) (is, has) = ap is_one_line is ∙ line
   good_value bs (missing_file p) has = absurd has
   good_value bs (vsn_mismatch p) has = absurd has
@@ -149,7 +149,7 @@ folder_line name vsn file lines line =
 pub app_path_line : (a : Application) → IsLineApplication a → is_one_line (app_path a) ≡ true
 app_path_line a lines = folder_line a.name a.vsn (a.name ++ codes ".app") lines (append_line a.name (codes ".app") lines.own refl)
 
--- A release has the versions of a file, and applications that are told within a line.
+-- A release has the versions of a file, and applications that are reported within a line.
 pub record IsLineRelease (r : Release) : Type 0 where
   pub versions : HasVersions r
   pub apps : AllByRecursion IsLineApplication r.apps
@@ -170,7 +170,7 @@ said_line source path line f (bytes, (has, says)) = record {
   apps = applications_line says.shape.apps f.release.apps says.shape.each says.versions.apps;
 }
 
-pub tested : {X : Type 0} (G : X → Type 0) (x : X) (why : Refusal) → TellsLine why → (b : Bool) → (b ≡ true → G x) → IsGood G (if b then Ok x else Err why)
+pub tested : {X : Type 0} (G : X → Type 0) (x : X) (why : Refusal) → ReportsLine why → (b : Bool) → (b ≡ true → G x) → IsGood G (if b then Ok x else Err why)
 tested G x why line true good = good refl
 tested G x why line false good = line
 

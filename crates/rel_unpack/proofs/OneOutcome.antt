@@ -101,14 +101,14 @@ pub record SaysOne {X : Type 0} (form : Form X) : Type 0 where
 abbrev IsThere : Source → List ℕ → Type 0
 IsThere source path = (a : Result (List ℕ) FilesError) × source path a × (a ≢ Err read.Missing)
 
--- this outcome tells a missing file
-abbrev tells_missing : {X : Type 0} → Result X Refusal → Bool
-tells_missing (Ok x) = false
-tells_missing (Err e) = is_missing e
+-- this outcome reports a missing file
+abbrev reports_missing : {X : Type 0} → Result X Refusal → Bool
+reports_missing (Ok x) = false
+reports_missing (Err e) = is_missing e
 
--- What is read of a file, if there is one, where all but a missing file is told of a file that is there.
-module _ {X : Type 0} (source : Source) (one : GivesOne source) (path : List ℕ) (P : Outcome X) (only : IsOne P) (there : (r : Result X Refusal) → tells_missing r ≡ false → P r → IsThere source path) where
-  never_missing : (r : Result X Refusal) → tells_missing r ≡ false → P r → source path (Err read.Missing) → ⊥
+-- What is read of a file, if there is one, where all but a missing file is reported of a file that is there.
+module _ {X : Type 0} (source : Source) (one : GivesOne source) (path : List ℕ) (P : Outcome X) (only : IsOne P) (there : (r : Result X Refusal) → reports_missing r ≡ false → P r → IsThere source path) where
+  never_missing : (r : Result X Refusal) → reports_missing r ≡ false → P r → source path (Err read.Missing) → ⊥
   never_missing r other says missing = let (a, reads, other_read) = there r other says in other_read (one path a (Err read.Missing) reads missing)
 
   pub one_where_there : IsOne (IfThere source path P)
@@ -130,27 +130,27 @@ module _ {X : Type 0} (source : Source) (one : GivesOne source) (path : List ℕ
 
 module _ {X : Type 0} (form : Form X) (laws : SaysOne form) (source : Source) (one : GivesOne source) (path : List ℕ) where
   -- what the bytes come to
-  abbrev Told : List ℕ → Result X Refusal → Type 0
-  Told bs r = ((x : X) × form.says bs x × (r ≡ Ok x)) ⊎ ((t : Trouble) × form.fails bs t × (r ≡ Err (bad_file path t)))
+  abbrev Reported : List ℕ → Result X Refusal → Type 0
+  Reported bs r = ((x : X) × form.says bs x × (r ≡ Ok x)) ⊎ ((t : Trouble) × form.fails bs t × (r ≡ Err (bad_file path t)))
 
-  was_told : (bs : List ℕ) (r : Result X Refusal) → HasValue form path bs r → Told bs r
-  was_told bs (Ok x) says = inl (x, says, refl)
-  was_told bs (Err (bad_file p t)) (is, has) = inr (t, has, ap (λ q. Err (bad_file q t)) is)
-  was_told bs (Err (missing_file p)) has = absurd has
-  was_told bs (Err (vsn_mismatch p)) has = absurd has
-  was_told bs (Err (lib_differs p)) has = absurd has
-  was_told bs (Err (no_table p)) has = absurd has
-  was_told bs (Err too_many) has = absurd has
-  was_told bs (Err no_memory) has = absurd has
+  was_reported : (bs : List ℕ) (r : Result X Refusal) → HasValue form path bs r → Reported bs r
+  was_reported bs (Ok x) says = inl (x, says, refl)
+  was_reported bs (Err (bad_file p t)) (is, has) = inr (t, has, ap (λ q. Err (bad_file q t)) is)
+  was_reported bs (Err (missing_file p)) has = absurd has
+  was_reported bs (Err (vsn_mismatch p)) has = absurd has
+  was_reported bs (Err (lib_differs p)) has = absurd has
+  was_reported bs (Err (no_table p)) has = absurd has
+  was_reported bs (Err too_many) has = absurd has
+  was_reported bs (Err no_memory) has = absurd has
 
-  one_told : (bs : List ℕ) (r s : Result X Refusal) → Told bs r → Told bs s → r ≡ s
-  one_told bs r s (inl (x, says, is)) (inl (y, says_too, also)) = is ∙ ap (λ (z : X). Ok z) (laws.one_value bs x y says says_too) ∙ sym also
-  one_told bs r s (inl (x, says, is)) (inr (t, has, also)) = absurd (laws.never_both bs x t says has)
-  one_told bs r s (inr (t, has, is)) (inl (x, says, also)) = absurd (laws.never_both bs x t says has)
-  one_told bs r s (inr (t, has, is)) (inr (u, has_too, also)) = is ∙ ap (λ (z : Trouble). Err (bad_file path z)) (laws.one_trouble bs t u has has_too) ∙ sym also
+  one_reported : (bs : List ℕ) (r s : Result X Refusal) → Reported bs r → Reported bs s → r ≡ s
+  one_reported bs r s (inl (x, says, is)) (inl (y, says_too, also)) = is ∙ ap (λ (z : X). Ok z) (laws.one_value bs x y says says_too) ∙ sym also
+  one_reported bs r s (inl (x, says, is)) (inr (t, has, also)) = absurd (laws.never_both bs x t says has)
+  one_reported bs r s (inr (t, has, is)) (inl (x, says, also)) = absurd (laws.never_both bs x t says has)
+  one_reported bs r s (inr (t, has, is)) (inr (u, has_too, also)) = is ∙ ap (λ (z : Trouble). Err (bad_file path z)) (laws.one_trouble bs t u has has_too) ∙ sym also
 
   one_value : (bs : List ℕ) → IsOne (HasValue form path bs)
-  one_value bs r s has also = one_told bs r s (was_told bs r has) (was_told bs s also)
+  one_value bs r s has also = one_reported bs r s (was_reported bs r has) (was_reported bs s also)
 
   pub one_file : IsOne (FileSays form source path)
   one_file = one_then (HasBytes source path) (HasValue form path) (one_bytes source one path) one_value
@@ -165,7 +165,7 @@ module _ {X : Type 0} (form : Form X) (laws : SaysOne form) (source : Source) (o
   refusal_there e other (inl has) = refused_there e other has
   refusal_there e other (inr (bs, reads, has)) = (Ok bs, reads, λ never. cc never)
 
-  file_there : (r : Result X Refusal) → tells_missing r ≡ false → FileSays form source path r → IsThere source path
+  file_there : (r : Result X Refusal) → reports_missing r ≡ false → FileSays form source path r → IsThere source path
   file_there (Ok x) other (bs, reads, says) = (Ok bs, reads, λ never. cc never)
   file_there (Err e) other says = refusal_there e other says
 
@@ -173,7 +173,7 @@ module _ {X : Type 0} (form : Form X) (laws : SaysOne form) (source : Source) (o
   one_if_there = one_where_there source one path (FileSays form source path) one_file file_there
 
   -- and where what it says is tested
-  pub tested_there : {Y : Type 0} (Q : X → Outcome Y) (r : Result Y Refusal) → tells_missing r ≡ false → Then (FileSays form source path) Q r → IsThere source path
+  pub tested_there : {Y : Type 0} (Q : X → Outcome Y) (r : Result Y Refusal) → reports_missing r ≡ false → Then (FileSays form source path) Q r → IsThere source path
   tested_there Q (Ok y) other (x, says, is) = file_there (Ok x) refl says
   tested_there Q (Err e) other (inl says) = file_there (Err e) other says
   tested_there Q (Err e) other (inr (x, says, is)) = file_there (Ok x) refl says
@@ -295,8 +295,8 @@ module _ (source : Source) (one : GivesOne source) where
       → (ls ≡ ks) × (why ≡ other)
   one_unpacking apps ls ks why other (met, gives, is) (met_too, gives_too, also) =
       let (libraries, refusal) = one_read apps ls ks met met_too gives gives_too in
-      let told : Option Refusal → List Library → Option Refusal = λ first found. option_or first (option_map refusal_for (release_fault apps found)) in
-      let same : told met ls ≡ told met_too ks = λ i. told (refusal i) (libraries i) in
+      let reported : Option Refusal → List Library → Option Refusal = λ first found. option_or first (option_map refusal_for (release_fault apps found)) in
+      let same : reported met ls ≡ reported met_too ks = λ i. reported (refusal i) (libraries i) in
       (libraries, is ∙ same ∙ sym also)
 
   -- The same is read of a relup.

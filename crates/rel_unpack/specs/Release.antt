@@ -1,4 +1,4 @@
--- The release of a `.rel` file; docs/RULES.md tells the limits.
+-- The release of a `.rel` file; docs/RULES.md gives the limits.
 use Rattle.std.specs.Prelude.{◌≡◌, ℕ, List, if◌then◌else◌, Ok, Err}
 use Rattle.erl_term.specs.Value.{Value, value_of}
 use Rattle.rel_files.specs.File.{IsReleaseTerm, HasReleaseFault}

@@ -34,7 +34,7 @@ relup_found_of f = record { relup = relup_of f.relup; term = value_of f.term }
 abbrev pub relup_form : Form RelupFound
 relup_form = record { says = λ bytes f. HasFileTerm bytes f.term × IsRelupTerm f.term f.relup; fails = λ bytes t. IsRelupTrouble (IsRelupFault bytes) t }
 
--- what is told of a relup, in the file of this path, that a release can't have
+-- what is reported of a relup, in the file of this path, that a release can't have
 abbrev pub mismatch_refusal : List ℕ → RelupMismatch → Refusal
 mismatch_refusal path TooMany = too_many
 mismatch_refusal path OtherVersion = vsn_mismatch path

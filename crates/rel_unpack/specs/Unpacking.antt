@@ -27,7 +27,7 @@ use Rattle.rel_unpack.specs.declared.unpacking.ReleaseFiles.{ReleaseFiles}
 abbrev pub twice_in : Named → Refusal
 twice_in n = bad_file (app_path n.app) (faulty (duplicate n.name))
 
--- what is told of a fault of the release as a whole
+-- what is reported of a fault of the release as a whole
 abbrev pub refusal_for : Fault → Refusal
 refusal_for (module_twice n) = twice_in n
 refusal_for (id_twice n) = twice_in n
@@ -60,8 +60,8 @@ pub record Brought : Type 0 where
 abbrev pub brought_with : Found → List Library → Option Refusal → Result (Option RelupFound) Refusal → Brought
 brought_with f ls why read = record { found = f; libraries = ls; refusal = why; relup = result_unwrap_or read None; relup_refusal = result_err read }
 
--- What a release of this path brings that was found. Why its applications are refused, and why its relup is, are told apart
--- from it, so that what the list of releases says of it can stand between them.
+-- What a release of this path brings that was found. Why its applications are refused, and why its relup is, are reported
+-- separately, so that what the list of releases says of it can stand between them.
 abbrev pub WithFiles : Source → List ℕ → Found → Outcome Brought
 WithFiles source path f r =
     (ls : List Library) × (why : Option Refusal) × UnpackedLibraries source f.release.apps ls why

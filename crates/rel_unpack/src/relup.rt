@@ -83,7 +83,7 @@ fn relup_of_file<F: Files>(alloc: Global, files: &F, path: &str) -> Result<Relup
     }
 }
 
-// The refusal that tells a relup's fault, where memory isn't what was wanting.
+// The refusal that reports a relup's fault, where memory isn't what was wanting.
 fn refusal_for_fault(alloc: Global, path: &str, fault: RelupFault) -> UnpackError
     ensures { result ≢ UnpackError.NoMemory → (fault ≢ RelupFault.NoMemory)
         × (refusal_of result ≡ bad_file path.now (faulty_relup fault)) }

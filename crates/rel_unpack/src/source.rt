@@ -28,7 +28,7 @@ pub fn read_bytes<F: Files>(alloc: Global, files: &F, path: &str) -> Result<Vec<
     }
 }
 
-// The refusal that tells a file's fault, where memory isn't what was wanting.
+// The refusal that reports a file's fault, where memory isn't what was wanting.
 pub(crate) fn refusal_for(alloc: Global, path: &str, fault: FileFault) -> UnpackError
     ensures { result ≢ UnpackError.NoMemory → (fault ≢ FileFault.NoMemory)
         × (refusal_of result ≡ bad_file path.now (faulty (fault_of fault))) }
@@ -42,7 +42,7 @@ pub(crate) fn refusal_for(alloc: Global, path: &str, fault: FileFault) -> Unpack
     }
 }
 
-/// What isn't read for want of its file is none.
+/// None where the file is missing; any other error stays.
 pub fn unless_missing<T: Drop>(error: UnpackError) -> Result<Option<T>, UnpackError>
     ensures { MatchResult result
         (λ found. (found ≡ None) × (is_missing (refusal_of error) ≡ true))

@@ -82,7 +82,7 @@ fn relup_unless_refused<F: Files>(
 }
 
 /// The libraries of a release's applications, in their order, from their files, as [`read_libraries`] gives them; and then
-/// the tests over the whole release. A name that stands twice is told with the `.app` file of the application where it stands
+/// the tests over the whole release. A name that stands twice is reported with the `.app` file of the application where it stands
 /// again.
 pub fn unpack_applications<F: Files>(
     alloc: Global,
@@ -115,7 +115,7 @@ fn release_refusal(
     }
 }
 
-// The refusal that tells a release's fault. Out of memory is none.
+// The refusal that reports a release's fault. Out of memory is none.
 fn refusal_for(alloc: Global, fault: ReleaseFault<'_>) -> Result<UnpackError, AllocError>
     ensures { IfOk result (λ error. (fault.entry ≢ NoMemory)
         × (refusal_of error ≡ refusal_for (fault_of fault.entry))) }

@@ -1,4 +1,5 @@
--- The orders in which the modules of a block are suspended and loaded. They follow the dependencies that the appup names (OTP: appup(4), DepMods), by this project's own rules of choice.
+-- The orders in which the modules of a block are suspended and loaded. They follow the dependencies that the appup names (OTP:
+-- appup(4), DepMods), by this project's own rules of choice.
 use Rattle.std.specs.Prelude.{ℕ, zero, suc, Bool, not, ◌&&◌, List, [], ◌∷◌, ◌++◌, length, Option, None, Some, map, if◌then◌else◌}
 use Rattle.std.specs.List.{list_any}
 use Rattle.appup_file.specs.Instruction.{UpdateForm, LoadForm, update_of, load_of}

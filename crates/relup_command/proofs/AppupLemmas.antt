@@ -29,5 +29,5 @@ with_its_appup source x z p is has =
 
 -- an error is passed on
 pub error_passed_on : {X E : Type 0} (Q : E → Type 0) (e : E) (r : Result X E) → IsErrAnd r (λ f. f ≡ e) → Q e → IfErr r Q
-error_passed_on Q e (Ok x) and told = tt
-error_passed_on Q e (Err f) and told = subst Q (sym and) told
+error_passed_on Q e (Ok x) and reported = tt
+error_passed_on Q e (Err f) and reported = subst Q (sym and) reported

@@ -3,5 +3,3 @@ pub mod AnswerLemmas
 pub mod RelupOutcomes
 pub mod RelupLines
 pub mod NameLemmas
-pub mod TextLemmas
-pub mod FileLemmas

@@ -1,4 +1,4 @@
--- The answer to the request of a relup is told in whole lines: a relup in one line, and then `ok`, or a fault in one line.
+-- The answer to the request of a relup is reported in whole lines: a relup in one line, and then `ok`, or a fault in one line.
 use Rattle.std.proofs.Common.{◌≡◌, ℕ, Bool, true, false, List, [], ◌∷◌, ◌++◌, find, codes, Option, Some, None, Result, Ok, Err, refl, subst}
 use Rattle.std.specs.List.{AllByRecursion, AllZip}
 use Rattle.std.specs.Option.{option_and_then, option_or}
@@ -75,7 +75,7 @@ said_appup source path line (Some p) (bytes, (v, here, says)) =
     let term = (says_its_term v p).0 says in
     (entries_all term.ups p.ups term.each_up, entries_all term.downs p.downs term.each_down)
 
--- So the files of a relup are told within a line.
+-- So the files of a relup are reported within a line.
 good_relup_app : (source : Source) (a : Application) → IsLineApplication a → AreGood (RelupAppAt source a) IsLineApp
 good_relup_app source a lines =
     good_then (AppAt source a) _ IsLineSpecification IsLineApp (good_application source a lines)
@@ -122,34 +122,34 @@ good_releases source new ups downs line lines back_lines =
     good_then (WithAppups source release) (λ whole r. r ≡ Ok (all whole lower back)) AreLineApps AreLineReleases (good_with_appups source release of) (λ whole of_whole.
     good_outcome AreLineReleases (Ok (all whole lower back)) (record { new = of_whole; ups = of_lower; downs = of_back })))))
 
--- what a fault tells is within a line
-abbrev pub TellsLineFault : FaultForm → Type 0
-TellsLineFault (no_appup app) = is_one_line app ≡ true
-TellsLineFault (no_entry app vsn) = (is_one_line app ≡ true) × (is_one_line vsn ≡ true)
-TellsLineFault (unknown_module name) = is_one_line name ≡ true
-TellsLineFault (regex_version app) = is_one_line app ≡ true
-TellsLineFault needs_new_emulator = Unit {0}
-TellsLineFault (unsupported app) = is_one_line app ≡ true
+-- what a fault reports is within a line
+abbrev pub ReportsLineFault : FaultForm → Type 0
+ReportsLineFault (no_appup app) = is_one_line app ≡ true
+ReportsLineFault (no_entry app vsn) = (is_one_line app ≡ true) × (is_one_line vsn ≡ true)
+ReportsLineFault (unknown_module name) = is_one_line name ≡ true
+ReportsLineFault (regex_version app) = is_one_line app ≡ true
+ReportsLineFault needs_new_emulator = Unit {0}
+ReportsLineFault (unsupported app) = is_one_line app ≡ true
 
 -- if there is one
 abbrev MayTell : Option FaultForm → Type 0
 MayTell None = Unit {0}
-MayTell (Some f) = TellsLineFault f
+MayTell (Some f) = ReportsLineFault f
 
-tells_known : (b : Bool) (f : FaultForm) → TellsLineFault f → MayTell (known b f)
-tells_known true f line = tt
-tells_known false f line = line
+reports_known : (b : Bool) (f : FaultForm) → ReportsLineFault f → MayTell (known b f)
+reports_known true f line = tt
+reports_known false f line = line
 
-tells_either : (o p : Option FaultForm) → MayTell o → MayTell p → MayTell (option_or o p)
-tells_either None p first second = second
-tells_either (Some f) p first second = first
+reports_either : (o p : Option FaultForm) → MayTell o → MayTell p → MayTell (option_or o p)
+reports_either None p first second = second
+reports_either (Some f) p first second = first
 
-tells_first : {A : Type 0} (K : A → Type 0) (f : A → Option FaultForm) → ((a : A) → K a → MayTell (f a)) → (as' : List A) → AllByRecursion K as' → MayTell (first_fault f as')
-tells_first K f each [] all = tt
-tells_first K f each (a ∷ as') all = tells_either (f a) (first_fault f as') (each a all.0) (tells_first K f each as' all.1)
+reports_first : {A : Type 0} (K : A → Type 0) (f : A → Option FaultForm) → ((a : A) → K a → MayTell (f a)) → (as' : List A) → AllByRecursion K as' → MayTell (first_fault f as')
+reports_first K f each [] all = tt
+reports_first K f each (a ∷ as') all = reports_either (f a) (first_fault f as') (each a all.0) (reports_first K f each as' all.1)
 
-tells_low_level : (asked : List ℕ) → is_one_line asked ≡ true → (i : Instruction) → MayTell (low_level_fault asked i)
-tells_low_level asked line i = elim i as (λ j. MayTell (low_level_fault asked j)) [
+reports_low_level : (asked : List ℕ) → is_one_line asked ≡ true → (i : Instruction) → MayTell (low_level_fault asked i)
+reports_low_level asked line i = elim i as (λ j. MayTell (low_level_fault asked j)) [
   | Instruction.point_of_no_return ↦ line
   | Instruction.restart_new_emulator ↦ tt
   | Instruction.load_object_code f ↦ tt
@@ -166,40 +166,40 @@ tells_low_level asked line i = elim i as (λ j. MayTell (low_level_fault asked j
   | Instruction.restart_emulator ↦ tt
 ]
 
-tells_instruction : (w : WayForm) (b : RelupAppForm) → IsLineApp b → (i : AppupInstruction) → IsAppupInstruction i → MayTell (instruction_fault w b i)
-tells_instruction w b of (update u) names = tells_known (is_some (owner u.name w.target)) _ (name_line u.name names.0)
-tells_instruction w b of (load_module l) names = tells_known (is_some (owner l.name w.target)) _ (name_line l.name names.0)
-tells_instruction w b of (add_module d) names = tells_known (is_some (owner d.name w.target)) _ (name_line d.name names.0)
-tells_instruction w b of (delete_module d) names = tells_known (is_among d.name b.modules) _ (name_line d.name names.0)
-tells_instruction w b of (add_application a) names = tells_known (is_some (app_named a.name w.target)) _ of.lines.own
-tells_instruction w b of (remove_application app) names = tells_known (is_some (app_named app w.left)) _ of.lines.own
-tells_instruction w b of (restart_application app) names =
-    tells_either _ _ (tells_known (is_some (app_named app w.left)) _ of.lines.own) (tells_known (is_some (app_named app w.target)) _ of.lines.own)
-tells_instruction w b of (low_level i) names = tells_low_level b.name of.lines.own i
+reports_instruction : (w : WayForm) (b : RelupAppForm) → IsLineApp b → (i : AppupInstruction) → IsAppupInstruction i → MayTell (instruction_fault w b i)
+reports_instruction w b of (update u) names = reports_known (is_some (owner u.name w.target)) _ (name_line u.name names.0)
+reports_instruction w b of (load_module l) names = reports_known (is_some (owner l.name w.target)) _ (name_line l.name names.0)
+reports_instruction w b of (add_module d) names = reports_known (is_some (owner d.name w.target)) _ (name_line d.name names.0)
+reports_instruction w b of (delete_module d) names = reports_known (is_among d.name b.modules) _ (name_line d.name names.0)
+reports_instruction w b of (add_application a) names = reports_known (is_some (app_named a.name w.target)) _ of.lines.own
+reports_instruction w b of (remove_application app) names = reports_known (is_some (app_named app w.left)) _ of.lines.own
+reports_instruction w b of (restart_application app) names =
+    reports_either _ _ (reports_known (is_some (app_named app w.left)) _ of.lines.own) (reports_known (is_some (app_named app w.target)) _ of.lines.own)
+reports_instruction w b of (low_level i) names = reports_low_level b.name of.lines.own i
 
 -- the instructions between two versions
-abbrev MayTellRow : Result (List AppupInstruction) FaultForm → Type 0
-MayTellRow (Ok is') = AllByRecursion IsAppupInstruction is'
-MayTellRow (Err f) = TellsLineFault f
+abbrev MayReportRow : Result (List AppupInstruction) FaultForm → Type 0
+MayReportRow (Ok is') = AllByRecursion IsAppupInstruction is'
+MayReportRow (Err f) = ReportsLineFault f
 
-tells_entry : (app vsn : List ℕ) → is_one_line app ≡ true → is_one_line vsn ≡ true → (es : List AppupEntryForm) → AllByRecursion (λ (e : AppupEntryForm). AllByRecursion IsAppupInstruction e.instrs) es
-    → MayTellRow (found app vsn (entry_for vsn es))
-tells_entry app vsn line vsn_line [] all = (line, vsn_line)
-tells_entry app vsn line vsn_line (e ∷ es) all = go (ends_at vsn e.vsn) (tells_entry app vsn line vsn_line es all.1)
+reports_entry : (app vsn : List ℕ) → is_one_line app ≡ true → is_one_line vsn ≡ true → (es : List AppupEntryForm) → AllByRecursion (λ (e : AppupEntryForm). AllByRecursion IsAppupInstruction e.instrs) es
+    → MayReportRow (found app vsn (entry_for vsn es))
+reports_entry app vsn line vsn_line [] all = (line, vsn_line)
+reports_entry app vsn line vsn_line (e ∷ es) all = go (ends_at vsn e.vsn) (reports_entry app vsn line vsn_line es all.1)
   where
-    here : (v : VersionForm) → MayTellRow (found app vsn (answer_of v e.instrs))
+    here : (v : VersionForm) → MayReportRow (found app vsn (answer_of v e.instrs))
     here (text s) = all.0
     here (pattern bs) = line
 
-    go : (b : Bool) → MayTellRow (found app vsn (answer_at (find (λ (e : AppupEntryForm). ends_at vsn e.vsn) es)))
-        → MayTellRow (found app vsn (answer_at (if b then Some e else find (λ (e : AppupEntryForm). ends_at vsn e.vsn) es)))
+    go : (b : Bool) → MayReportRow (found app vsn (answer_at (find (λ (e : AppupEntryForm). ends_at vsn e.vsn) es)))
+        → MayReportRow (found app vsn (answer_at (if b then Some e else find (λ (e : AppupEntryForm). ends_at vsn e.vsn) es)))
     go true rest = here e.vsn
     go false rest = rest
 
-tells_searched : (direction : Direction) (app vsn : List ℕ) (o : Option AppupForm) → is_one_line app ≡ true → is_one_line vsn ≡ true → MayHaveLines o → MayTellRow (searched direction app vsn o)
-tells_searched direction app vsn None line vsn_line has = line
-tells_searched Up app vsn (Some p) line vsn_line has = tells_entry app vsn line vsn_line p.ups has.0
-tells_searched Down app vsn (Some p) line vsn_line has = tells_entry app vsn line vsn_line p.downs has.1
+reports_searched : (direction : Direction) (app vsn : List ℕ) (o : Option AppupForm) → is_one_line app ≡ true → is_one_line vsn ≡ true → MayHaveLines o → MayReportRow (searched direction app vsn o)
+reports_searched direction app vsn None line vsn_line has = line
+reports_searched Up app vsn (Some p) line vsn_line has = reports_entry app vsn line vsn_line p.ups has.0
+reports_searched Down app vsn (Some p) line vsn_line has = reports_entry app vsn line vsn_line p.downs has.1
 
 counting_lines : (a : RelupAppForm) (o : Option AppupForm) → MayHaveLines o → MayHaveLines (option_and_then (counting a) o)
 counting_lines a None has = tt
@@ -209,9 +209,9 @@ counting_lines a (Some p) has = go (bytes_eq p.vsn a.vsn)
     go true = has
     go false = tt
 
-tells_between : (direction : Direction) (b a : RelupAppForm) → IsLineApp b → IsLineApp a → MayTellRow (between_versions direction b a)
-tells_between Up b a of of_a = tells_searched Up a.name b.vsn (counting_appup a) of_a.lines.own of.lines.version (counting_lines a a.appup of_a.appup)
-tells_between Down b a of of_a = tells_searched Down b.name a.vsn (counting_appup b) of.lines.own of_a.lines.version (counting_lines b b.appup of.appup)
+reports_between : (direction : Direction) (b a : RelupAppForm) → IsLineApp b → IsLineApp a → MayReportRow (between_versions direction b a)
+reports_between Up b a of of_a = reports_searched Up a.name b.vsn (counting_appup a) of_a.lines.own of.lines.version (counting_lines a a.appup of_a.appup)
+reports_between Down b a of of_a = reports_searched Down b.name a.vsn (counting_appup b) of.lines.own of_a.lines.version (counting_lines b b.appup of.appup)
 
 -- of each application of a way
 named_lines : (s : List ℕ) (apps : List RelupAppForm) → AllByRecursion IsLineApp apps → (b : RelupAppForm) → find (λ (a : RelupAppForm). bytes_eq a.name s) apps ≡ Some b → IsLineApp b
@@ -223,47 +223,47 @@ named_lines s (a ∷ apps) all b is = go (bytes_eq a.name s) is (λ e. named_lin
     go true e rest = let same : a ≡ b = cc in subst IsLineApp same all.0
     go false e rest = rest e
 
-tells_row : (w : WayForm) (b : RelupAppForm) → IsLineApp b → (r : Result (List AppupInstruction) FaultForm) → MayTellRow r → MayTell (row_fault w b r)
-tells_row w b of (Err f) tells = tells
-tells_row w b of (Ok is') all = tells_first IsAppupInstruction (instruction_fault w b) (tells_instruction w b of) is' all
+reports_row : (w : WayForm) (b : RelupAppForm) → IsLineApp b → (r : Result (List AppupInstruction) FaultForm) → MayReportRow r → MayTell (row_fault w b r)
+reports_row w b of (Err f) reports = reports
+reports_row w b of (Ok is') all = reports_first IsAppupInstruction (instruction_fault w b) (reports_instruction w b of) is' all
 
-tells_app : (w : WayForm) → AreLineApps w.left → (a : RelupAppForm) → IsLineApp a → MayTell (app_fault w a)
-tells_app w left a of = go (app_named a.name w.left) refl
+reports_app : (w : WayForm) → AreLineApps w.left → (a : RelupAppForm) → IsLineApp a → MayTell (app_fault w a)
+reports_app w left a of = go (app_named a.name w.left) refl
   where
     other : (b : RelupAppForm) → IsLineApp b → (t : Bool) → MayTell (option_and_then (λ (c : RelupAppForm). row_fault w c (between_versions w.direction c a)) (if t then None else Some b))
     other b of_b true = tt
-    other b of_b false = tells_row w b of_b (between_versions w.direction b a) (tells_between w.direction b a of_b of)
+    other b of_b false = reports_row w b of_b (between_versions w.direction b a) (reports_between w.direction b a of_b of)
 
     go : (o : Option RelupAppForm) → app_named a.name w.left ≡ o → MayTell (option_and_then (λ (c : RelupAppForm). row_fault w c (between_versions w.direction c a)) (option_and_then (if_other a) o))
     go None e = tt
     go (Some b) e = other b (named_lines a.name w.left.apps left b e) (bytes_eq b.vsn a.vsn)
 
-tells_way : (w : WayForm) → AreLineApps w.left → AreLineApps w.target → MayTell (way_fault w)
-tells_way w left target = go (bytes_eq w.left.erts w.target.erts)
+reports_way : (w : WayForm) → AreLineApps w.left → AreLineApps w.target → MayTell (way_fault w)
+reports_way w left target = go (bytes_eq w.left.erts w.target.erts)
   where
     go : (t : Bool) → MayTell (if t then first_fault (app_fault w) w.target.apps else Some needs_new_emulator)
-    go true = tells_first IsLineApp (app_fault w) (tells_app w left) w.target.apps target
+    go true = reports_first IsLineApp (app_fault w) (reports_app w left) w.target.apps target
     go false = tt
 
-tells_release : (direction : Direction) (new other : RelupReleaseForm) → AreLineApps new → AreLineApps other → MayTell (release_fault direction new other)
-tells_release Up new other of of_other = tells_way (way_between Up new other) of_other of
-tells_release Down new other of of_other = tells_way (way_between Down new other) of of_other
+reports_release : (direction : Direction) (new other : RelupReleaseForm) → AreLineApps new → AreLineApps other → MayTell (release_fault direction new other)
+reports_release Up new other of of_other = reports_way (way_between Up new other) of_other of
+reports_release Down new other of of_other = reports_way (way_between Down new other) of of_other
 
 -- A translation is a relup or such a fault.
 abbrev pub IsLineTranslation : Result RelupForm FaultForm → Type 0
 IsLineTranslation (Ok r) = Unit {0}
-IsLineTranslation (Err f) = TellsLineFault f
+IsLineTranslation (Err f) = ReportsLineFault f
 
-unless_told : (r : RelupForm) (o : Option FaultForm) → MayTell o → IsLineTranslation (unless_fault r o)
-unless_told r None tells = tt
-unless_told r (Some f) tells = tells
+unless_reported : (r : RelupForm) (o : Option FaultForm) → MayTell o → IsLineTranslation (unless_fault r o)
+unless_reported r None reports = tt
+unless_reported r (Some f) reports = reports
 
 line_translation : (all : Releases) → AreLineReleases all → IsLineTranslation (translation all.new all.ups all.downs)
 line_translation all of =
-    unless_told (relup_between all.new all.ups all.downs) (fault_between all.new all.ups all.downs)
-    (tells_either _ _
-    (tells_first AreLineApps (release_fault Up all.new) (λ other. tells_release Up all.new other of.new) all.ups of.ups)
-    (tells_first AreLineApps (release_fault Down all.new) (λ other. tells_release Down all.new other of.new) all.downs of.downs))
+    unless_reported (relup_between all.new all.ups all.downs) (fault_between all.new all.ups all.downs)
+    (reports_either _ _
+    (reports_first AreLineApps (release_fault Up all.new) (λ other. reports_release Up all.new other of.new) all.ups of.ups)
+    (reports_first AreLineApps (release_fault Down all.new) (λ other. reports_release Down all.new other of.new) all.downs of.downs))
 
 -- An answer is a translation's lines.
 abbrev pub IsLineAnswer : List ℕ → Type 0

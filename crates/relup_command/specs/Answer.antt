@@ -3,14 +3,16 @@ use Rattle.std.specs.Prelude.{◌≡◌, ℕ, true, List, ◌++◌, codes, Resul
 use Rattle.std.specs.List.{AllByRecursion}
 use Rattle.erl_term.specs.Lines.{is_one_line}
 use Rattle.erl_term.specs.Printing.{text_of}
+use Rattle.erl_term.specs.Within.{IsWithin}
 use Rattle.rel_unpack.specs.Order.{Outcome, Then}
 use Rattle.rel_unpack.specs.Source.{Source}
+use Rattle.relup_file.specs.File.{SaysRelup}
 use Rattle.relup_file.specs.Form.{relup_term}
 use Rattle.relup_file.specs.Relup.{RelupForm}
 use Rattle.relup_translate.specs.Fault.{FaultForm}
 use Rattle.relup_translate.specs.Fault.FaultForm.{no_appup, no_entry, unknown_module, regex_version, needs_new_emulator, unsupported}
 use Rattle.relup_translate.specs.Translation.{translation}
-use Rattle.relup_command.specs.Releases.{ReleasesAt}
+use Rattle.relup_command.specs.Releases.{Releases, ReleasesAt}
 
 -- why the appups give no relup: the number, the name and the detail of their fault
 abbrev pub fault_line : FaultForm → List ℕ
@@ -33,6 +35,20 @@ translation_lines (Err f) = fault_line f
 abbrev pub AnswerAt : Source → List ℕ → List (List ℕ) → List (List ℕ) → Outcome (List ℕ)
 AnswerAt source new ups downs =
     Then (ReleasesAt source new ups downs) (λ all r. r ≡ Ok (translation_lines (translation all.new all.ups all.downs)))
+
+-- The text is a file that says the relup, and then `ok`.
+pub record AnswersFile (text : List ℕ) (relup : RelupForm) : Type 0 where
+  pub file : List ℕ
+  pub is : text ≡ file ++ codes "\nok\n"
+  pub says : SaysRelup file relup
+
+-- The text is that of releases which the files say, and a relup that is made of these can be read back from it, where its term
+-- keeps a reader's limits on depth and on atoms.
+pub record AnswersMadeRelup (source : Source) (new : List ℕ) (ups downs : List (List ℕ)) (text : List ℕ) : Type 0 where
+  pub all : Releases
+  pub there : ReleasesAt source new ups downs (Ok all)
+  pub is : text ≡ translation_lines (translation all.new all.ups all.downs)
+  pub says : (relup : RelupForm) → translation all.new all.ups all.downs ≡ Ok relup → IsWithin 64 (relup_term relup) → AnswersFile text relup
 
 -- Paths in a request of one line are within a line.
 abbrev pub AreLinePaths : List (List ℕ) → Type 0

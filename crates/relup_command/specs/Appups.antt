@@ -15,13 +15,13 @@ use Rattle.relup_row.specs.Release.{RelupAppForm}
 abbrev pub appup_path : RelupAppForm → List ℕ
 appup_path a = codes "lib/" ++ (a.name ++ (codes "-" ++ (a.vsn ++ (codes "/ebin/" ++ (a.name ++ codes ".appup")))))
 
--- what is told of an appup's fault
+-- what is reported of an appup's fault
 abbrev pub appup_trouble : AppupFault → Trouble
 appup_trouble (BadTerm e) = faulty (bad_term e)
 appup_trouble BadShape = misshapen
 appup_trouble NoMemory = faulty no_memory
 
--- the file has a fault that is told so
+-- the file has a fault that is reported so
 abbrev pub HasAppupTrouble : List ℕ → Trouble → Type 0
 HasAppupTrouble bytes t = (f : AppupFault) × IsAppupFault bytes f × (t ≡ appup_trouble f)
 

@@ -14,7 +14,7 @@ abbrev pub IsMadeOf : Source → List ℕ → List (List ℕ) → List (List ℕ
 IsMadeOf source new ups downs relup =
     (all : Releases) × ReleasesAt source new ups downs (Ok all) × (translation all.new all.ups all.downs ≡ Ok relup)
 
--- The first file that isn't taken is told, and else the translation's fault. Out of memory says nothing of them.
+-- The first file that isn't taken is reported, and else the translation's fault. Out of memory says nothing of them.
 abbrev pub IsRefusalOf : Source → List ℕ → List (List ℕ) → List (List ℕ) → RelupError → Type 0
 IsRefusalOf source new ups downs (Files e) = e ≢ NoMemory → ReleasesAt source new ups downs (Err (refusal_of e))
 IsRefusalOf source new ups downs (Appups e) =

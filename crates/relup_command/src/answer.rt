@@ -1,9 +1,11 @@
 //! The answer to the request of a relup.
 ghost use Rattle.std.specs.Prelude.{◌≡◌, IfOk, IsErr, map, string_bytes};
+ghost use Rattle.erl_term.specs.Within.{IsWithin};
+ghost use Rattle.relup_file.specs.Form.{IsRelup, relup_term};
 ghost use Rattle.relup_file.specs.Relup.{relup_of};
 ghost use Rattle.relup_translate.specs.Fault.{FaultForm, Says};
 ghost use Rattle.rel_unpack.specs.Order.{Answers};
-ghost use Rattle.relup_command.specs.Answer.{AnswerAt, fault_line, relup_lines};
+ghost use Rattle.relup_command.specs.Answer.{AnswerAt, AnswersFile, AnswersMadeRelup, fault_line, relup_lines};
 
 use crate::error::RelupError;
 use crate::relup::make_relup_of_files;
@@ -14,7 +16,7 @@ use relup_translate::TranslateError;
 use std::alloc::{AllocError, Global};
 
 /// What is answered to the request of a relup, as [`make_relup_of_files`] makes it: the relup in one line and `ok` in a
-/// second one, or the fault of the appups in a line. An error tells the first file that isn't taken.
+/// second one, or the fault of the appups in a line. An error reports the first file that isn't taken.
 pub fn relup_answer<F: Files>(
     alloc: Global,
     files: &F,
@@ -22,8 +24,12 @@ pub fn relup_answer<F: Files>(
     ups: &[String],
     downs: &[String],
 ) -> Result<String, UnpackError>
-    ensures { Answers string_bytes (AnswerAt (F.gives files.now) new.now
+    ensures answered { Answers string_bytes (AnswerAt (F.gives files.now) new.now
         (map string_bytes ups.now) (map string_bytes downs.now)) result }
+
+    // A relup that is made can be read back from the text, within a reader's limits.
+    ensures read_back { IfOk result (λ text. AnswersMadeRelup (F.gives files.now) new.now
+        (map string_bytes ups.now) (map string_bytes downs.now) (string_bytes text)) }
 {
     match make_relup_of_files(alloc, files, new, ups, downs) {
         Ok(relup) => Ok(relup_lines(alloc, &relup)?),
@@ -33,7 +39,10 @@ pub fn relup_answer<F: Files>(
 }
 
 fn relup_lines(alloc: Global, relup: &Relup) -> Result<String, AllocError>
-    ensures { IfOk result (λ text. string_bytes text ≡ relup_lines (relup_of relup.now)) }
+    ensures lines { IfOk result (λ text. string_bytes text ≡ relup_lines (relup_of relup.now)) }
+    ensures read_back { IfOk result (λ text. IsRelup (relup_of relup.now)
+        → IsWithin 64 (relup_term (relup_of relup.now))
+        → AnswersFile (string_bytes text) (relup_of relup.now)) }
 {
     let mut text = print_relup(alloc, relup)?;
     text.push_str("\nok\n")?;
@@ -42,7 +51,7 @@ fn relup_lines(alloc: Global, relup: &Relup) -> Result<String, AllocError>
 
 // The line of a fault. Out of memory has none.
 fn fault_line(alloc: Global, why: &TranslateError) -> Result<String, AllocError>
-    ensures told { IfOk result (λ text.
+    ensures reported { IfOk result (λ text.
         (f : FaultForm) → Says why.now f → string_bytes text ≡ fault_line f) }
     ensures memory { why.now ≡ TranslateError.NoMemory → IsErr result }
 {

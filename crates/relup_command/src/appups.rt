@@ -59,7 +59,7 @@ fn appup_in<F: Files>(alloc: Global, files: &F, path: &str) -> Result<Appup, Unp
     }
 }
 
-// The refusal that tells a file's fault, where memory isn't what was wanting.
+// The refusal that reports a file's fault, where memory isn't what was wanting.
 fn refusal_for(alloc: Global, path: &str, fault: AppupFault) -> UnpackError
     ensures { result ≢ UnpackError.NoMemory → (fault ≢ AppupFault.NoMemory)
         × (refusal_of result ≡ bad_file path.now (appup_trouble fault)) }

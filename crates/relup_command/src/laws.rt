@@ -1,5 +1,5 @@
-//! Laws of the relups that are made of files. Each function does nothing: its contract is the law.
-ghost use Rattle.relup_command.specs.Laws.{MadeRelupsAreReadBack, MadeRelupsAreNamed};
+//! A law of the relups that are made of files. The function does nothing: its contract is the law.
+ghost use Rattle.relup_command.specs.Laws.{MadeRelupsAreNamed};
 
 use file_source::Files;
 
@@ -7,10 +7,4 @@ use file_source::Files;
 /// the files say. The limits of a reader are another matter.
 pub fn a_relup_made_of_files_has_names_and_versions<F: Files>()
     ensures { (files : F) → MadeRelupsAreNamed (F.gives files) }
-{}
-
-/// What is answered for a made relup is a file that says it, and then `ok`. The relup's term has to be one that a `Term` can
-/// have, as each in memory is, with at most 64 brackets open at once and no atom above 255 characters.
-pub fn an_answered_relup_is_read_back<F: Files>()
-    ensures { (files : F) → MadeRelupsAreReadBack (F.gives files) }
 {}

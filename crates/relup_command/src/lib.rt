@@ -3,10 +3,10 @@
 //! [`make_relup_of_files`] reads the `.rel` file of a release and the `.app` files of its applications, then those of the
 //! releases that it comes from and goes back to, and last the release's appups. It answers the relup that the translation of
 //! `relup_translate` gives of these, the first refusal of a file, or the fault of the appups (clauses `made`, `refused`).
-//! [`relup_answer`] tells it in lines, as a session answers.
+//! [`relup_answer`] prints it in lines, as a session answers (`answered`): a file that says it, where its term keeps the limits of
+//! a reader, and then `ok` (`read_back`).
 //!
-//! The functions of `laws` say that a relup that is made has names and versions, whatever the files say, and that the answer is a
-//! file that says it, where its term is one that a `Term` can have, and keeps the limits of a reader.
+//! The law of `laws` says that a relup that is made has names and versions, whatever the files say.
 //!
 //! Only tested: that files are read where memory is there. Trusted: the toolchain and `thiserror`.
 #![tactic(auto)]

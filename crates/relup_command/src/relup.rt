@@ -14,7 +14,7 @@ use std::alloc::Global;
 /// those of `downs`. A path is of a `.rel` file; those of `.app` and appup files follow from what it says.
 ///
 /// Files are read one after another, each release's before the next one's, and the appups of `new` last. The first one that
-/// isn't taken is told. An application without an appup file has none.
+/// isn't taken is reported. An application without an appup file has none.
 pub fn make_relup_of_files<F: Files>(
     alloc: Global,
     files: &F,

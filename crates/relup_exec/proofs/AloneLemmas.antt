@@ -27,7 +27,7 @@ use Rattle.held_processes.proofs.AnyLemmas.{any_alike}
 use Rattle.held_processes.proofs.StandLemmas.{stand_alone}
 use Rattle.script_progress.specs.Calls.{ChildCall, app_call, child_call, is_on_child}
 use Rattle.script_progress.specs.Calls.ChildCall.{terminates, deletes, restarts, nothing as no_call}
-use Rattle.script_progress.specs.Script.{Run, Site, changed_once, child_stays_at, mode_of, old_version, run_after, stays_at, users_in}
+use Rattle.script_progress.specs.Script.{Run, Site, changed_once, child_stays_at, mode_of, old_version, run_after, stays_at, modules_by_slot_in}
 use Rattle.script_progress.specs.Fault.{Cause, app_call_fault, change_fault, child_call_fault, error_cause, fault, is_stuck, restart_call_fault, super_fault_or}
 use Rattle.script_progress.specs.Fault.Cause.{in_use, no_change, no_memory}
 use Rattle.script_progress.specs.Steps.{IsFault, IsSeen, HasNoFaultAt}
@@ -41,9 +41,9 @@ abbrev pub Alike : Values → Values → Type 0
 Alike f g = (p : ℕ) → p < slots → f p ≡ g p
 
 pub row_alike : (old : OldVersion) (c : ChangeForm) (f g : Values) (r : Run) → Alike f g → (p : ℕ) → p < slots
-    → lacks_row_at old c.extra f (users_in r) c.name r.courses p ≡ lacks_row_at old c.extra g (users_in r) c.name r.courses p
+    → lacks_row_at old c.extra f (modules_by_slot_in r) c.name r.courses p ≡ lacks_row_at old c.extra g (modules_by_slot_in r) c.name r.courses p
 row_alike old c f g r same p inside =
-    ap (λ x. is_held_user (users_in r) c.name r.courses p && not (finds_row old c.extra (replay_from x (r.courses p).pending))) (same p inside)
+    ap (λ x. is_held_user (modules_by_slot_in r) c.name r.courses p && not (finds_row old c.extra (replay_from x (r.courses p).pending))) (same p inside)
 
 pub stuck_alike : (old : Option OldVersion) (c : ChangeForm) (f g : Values) (r : Run) → Alike f g → is_stuck old c f r ≡ is_stuck old c g r
 stuck_alike None c f g r same = refl
@@ -55,9 +55,9 @@ change_alike s mode (c ∷ cs) f g r same =
     ap₂ (λ (b : Bool) (o : Option Cause). if b then Some no_change else o) (stuck_alike (old_version s mode c.name r) c f g r same)
     (change_alike s mode cs f g (changed_once s mode c r) same)
 
-pub uses_alike : (name : List ℕ) (f g : Values) (r : Run) → Alike f g → uses_up f (users_in r) name r.courses ≡ uses_up g (users_in r) name r.courses
+pub uses_alike : (name : List ℕ) (f g : Values) (r : Run) → Alike f g → uses_up f (modules_by_slot_in r) name r.courses ≡ uses_up g (modules_by_slot_in r) name r.courses
 uses_alike name f g r same =
-    any_alike _ _ slots (λ p inside. ap (λ x. runs name (users_in r p) && is_some (up_at (replay_from x (r.courses p).pending).now)) (same p inside))
+    any_alike _ _ slots (λ p inside. ap (λ x. runs name (modules_by_slot_in r p) && is_some (up_at (replay_from x (r.courses p).pending).now)) (same p inside))
 
 -- a child stays so by what is left in the slots
 state_alike : (stay : Stay) (f g : Values) (m : MemberState) → Alike f g → state_stays stay f m ≡ state_stays stay g m
@@ -107,31 +107,31 @@ seen_alone first r v none values at p inside =
 fault_alone : (first : View) (s : Site) (r : Run) (v : View) (i : Instruction) → first.lent ≡ [] → r.values ≡ values_seen first → IsSeen first r v → fault s (values_seen v) r i ≡ fault s (values_alone r) r i
 fault_alone first s r v i none values at = fault_alike s (values_seen v) (values_alone r) r i (seen_alone first r v none values at)
 
--- one instruction that was carried out, of which this is told
+-- one instruction that was carried out, of which this is reported
 step_is : (s : Site) (first u : View) (e b : Bool) (i : Instruction) (rest : List Instruction) (n : ℕ) (r : Run) → first.lent ≡ [] → r.values ≡ values_seen first → HasNoFaultAt s first r b i u
     → outcome_from s e n (i ∷ rest) r ≡ outcome_from s (e && not (is_point i)) (n + 1) rest (run_after s e b i r)
 step_is s first u e b i rest n r none values sound =
     let here : fault s (values_alone r) r i ≡ None = sym (fault_alone first s r u i none values sound.0) ∙ sound.1 in
-    let told : stays_at (values_alone r) i r ≡ b = sym (sound.2 ∙ stays_alike (values_seen u) (values_alone r) i r (seen_alone first r u none values sound.0)) in
+    let reported : stays_at (values_alone r) i r ≡ b = sym (sound.2 ∙ stays_alike (values_seen u) (values_alone r) i r (seen_alone first r u none values sound.0)) in
     ap (λ f. unless_fault f e (n + 1) (outcome_from s (e && not (is_point i)) (n + 1) rest (step_alone s e i r))) here
-    ∙ ap (λ (c : Bool). outcome_from s (e && not (is_point i)) (n + 1) rest (run_after s e c i r)) told
+    ∙ ap (λ (c : Bool). outcome_from s (e && not (is_point i)) (n + 1) rest (run_after s e c i r)) reported
 
 -- instructions that were carried out
-ran_alone : (s : Site) (first since now : View) (e : Bool) (told : List Bool) (is rest : List Instruction) (n : ℕ) (r : Run) → first.lent ≡ [] → r.values ≡ values_seen first → RanAll s first since now e told is r
-    → outcome_from s e n (is ++ rest) r ≡ outcome_from s (still_early e is) (n + length is) rest (run_through s e told is r)
-ran_alone s first since now e told [] rest n r none values ran = ap (λ m. outcome_from s e m rest r) (omega arith)
-ran_alone s first since now true told (i ∷ is) rest n r none values ran =
+ran_alone : (s : Site) (first since now : View) (e : Bool) (reported : List Bool) (is rest : List Instruction) (n : ℕ) (r : Run) → first.lent ≡ [] → r.values ≡ values_seen first → RanAll s first since now e reported is r
+    → outcome_from s e n (is ++ rest) r ≡ outcome_from s (still_early e is) (n + length is) rest (run_through s e reported is r)
+ran_alone s first since now e reported [] rest n r none values ran = ap (λ m. outcome_from s e m rest r) (omega arith)
+ran_alone s first since now true reported (i ∷ is) rest n r none values ran =
     let e' = not (is_point i) in
     let r' = run_after s true false i r in
     step_is s first ran.0 true false i (is ++ rest) n r none values ran.1
-    ∙ (ran_alone s first ran.0 now e' told is rest (n + 1) r' none (step_values s true false i r ∙ values) ran.3
-    ∙ ap (λ m. outcome_from s (still_early e' is) m rest (run_through s e' told is r')) (omega arith))
+    ∙ (ran_alone s first ran.0 now e' reported is rest (n + 1) r' none (step_values s true false i r ∙ values) ran.3
+    ∙ ap (λ m. outcome_from s (still_early e' is) m rest (run_through s e' reported is r')) (omega arith))
 ran_alone s first since now false [] (i ∷ is) rest n r none values ran = absurd ran
-ran_alone s first since now false (b ∷ told) (i ∷ is) rest n r none values ran =
+ran_alone s first since now false (b ∷ reported) (i ∷ is) rest n r none values ran =
     let r' = run_after s false b i r in
     step_is s first ran.0 false b i (is ++ rest) n r none values ran.1
-    ∙ (ran_alone s first ran.0 now false told is rest (n + 1) r' none (step_values s false b i r ∙ values) ran.3
-    ∙ ap (λ m. outcome_from s (still_early false is) m rest (run_through s false told is r')) (omega arith))
+    ∙ (ran_alone s first ran.0 now false reported is rest (n + 1) r' none (step_values s false b i r ∙ values) ran.3
+    ∙ ap (λ m. outcome_from s (still_early false is) m rest (run_through s false reported is r')) (omega arith))
 
 -- a cause that isn't memory
 pub fault_is : (first : View) (s : Site) (v : View) (r : Run) (i : Instruction) (c : Cause) → c ≢ no_memory → IsFault first s v r i c → (fault s (values_seen v) r i ≡ Some c) × IsSeen first r v
@@ -139,15 +139,15 @@ fault_is first s v r i no_memory other fails = absurd (other refl)
 fault_is first s v r i c other fails = fails
 
 -- the first instruction that fails
-failed_alone : (s : Site) (start : Start) (script : List Instruction) (number : ℕ) (c : Cause) (told : List Bool) (front : List Instruction) (i : Instruction) (now v : View) → start.first.lent ≡ [] → c ≢ no_memory
-    → IsInstructionAt script number front i → RanAll s start.first start.first now true told front (began_at s start) → IsFault start.first s v (run_behind s start told front) i c
+failed_alone : (s : Site) (start : Start) (script : List Instruction) (number : ℕ) (c : Cause) (reported : List Bool) (front : List Instruction) (i : Instruction) (now v : View) → start.first.lent ≡ [] → c ≢ no_memory
+    → IsInstructionAt script number front i → RanAll s start.first start.first now true reported front (began_at s start) → IsFault start.first s v (run_behind s start reported front) i c
     → outcome s (began_at s start) script ≡ fails_at (still_early true front) number c
-failed_alone s start script number c told front i now v none other at ran fails =
-    let r = run_behind s start told front in
+failed_alone s start script number c reported front i now v none other at ran fails =
+    let r = run_behind s start reported front in
     let is = fault_is start.first s v r i c other fails in
-    let values : r.values ≡ values_seen start.first = through_values s true told front (began_at s start) in
+    let values : r.values ≡ values_seen start.first = through_values s true reported front (began_at s start) in
     ap (outcome s (began_at s start)) at.is
-    ∙ (ran_alone s start.first start.first now true told front (i ∷ at.rest) 0 (began_at s start) none refl ran
+    ∙ (ran_alone s start.first start.first now true reported front (i ∷ at.rest) 0 (began_at s start) none refl ran
     ∙ (ap (λ f. unless_fault f (still_early true front) (0 + length front + 1) (outcome_from s (still_early true front && not (is_point i)) (0 + length front + 1) at.rest (step_alone s (still_early true front) i r)))
     (sym (fault_alone start.first s r v i none values is.1) ∙ is.0)
     ∙ ap (λ n. fails_at (still_early true front) n c) (omega (arith, at.counted))))
@@ -180,10 +180,10 @@ armed_alone s start script a v none armed m c e =
 pub has_one_outcome : HasOneOutcome
 has_one_outcome = record {
   finished = λ s start script loaded apps v none done.
-      ap (outcome s (began_at s start)) (sym (append-nil script)) ∙ ran_alone s start.first start.first v true done.told script [] 0 (began_at s start) none refl done.ran;
+      ap (outcome s (began_at s start)) (sym (append-nil script)) ∙ ran_alone s start.first start.first v true done.reported script [] 0 (began_at s start) none refl done.ran;
   armed = armed_alone;
   refused = λ s start script number c v none other is.
       failed_alone s start script number c [] is.front is.instruction v v none other is.at is.ran is.fails ∙ ap (λ e. fails_at e number c) (still_before is.front is.early);
   broken = λ s start script number c v none other is.
-      failed_alone s start script number c is.told is.front is.instruction is.then_view is.then_view none other is.at is.ran is.fails ∙ ap (λ e. fails_at e number c) is.late;
+      failed_alone s start script number c is.reported is.front is.instruction is.then_view is.then_view none other is.at is.ran is.fails ∙ ap (λ e. fails_at e number c) is.late;
 }

@@ -10,7 +10,7 @@ use Rattle.relup_instruction.specs.Instruction.{CallForm, ChangeForm, Instructio
 use Rattle.relup_instruction.specs.Instruction.Instruction.{apply, code_change, load, suspend}
 use Rattle.loaded_modules.specs.Loaded.{Module, module_named}
 use Rattle.sup_tree.specs.Children.{child_place, has_one_supervisor}
-use Rattle.held_processes.specs.Course.{Courses, Users, added, on_all}
+use Rattle.held_processes.specs.Course.{Courses, ModulesBySlot, added, on_all}
 use Rattle.held_processes.specs.Course.Operation.{finish}
 use Rattle.held_processes.specs.Following.{AreLeft}
 use Rattle.held_processes.specs.Operations.{Values, any_below, is_lowest, lacks_row_at, values_seen}
@@ -20,7 +20,7 @@ use Rattle.script_progress.specs.Calls.{ChildCall, child_call, is_on_child}
 use Rattle.script_progress.specs.Calls.ChildCall.{terminates, deletes, restarts, nothing}
 use Rattle.script_progress.specs.Fault.{Cause, fault, is_stuck, load_fault, table_fault}
 use Rattle.script_progress.specs.Fault.Cause.{no_memory}
-use Rattle.script_progress.specs.Script.{Run, Site, call_within, change_within, changed_once, changed_within, child_within, courses_within, load_within, mode_of, old_version, run_after, stays_at, users_in, worker_in}
+use Rattle.script_progress.specs.Script.{Run, Site, call_within, change_within, changed_once, changed_within, child_within, courses_within, load_within, mode_of, old_version, run_after, stays_at, modules_by_slot_in, worker_in}
 use Rattle.script_progress.specs.Steps.{HasNoFaultAt, IsFault}
 use Rattle.script_progress.specs.Stops.{CallStops, StopsAt, StopsIn, UnlessMemory, child_count, child_goes, is_first_stuck, is_stuck_at}
 use Rattle.script_progress.proofs.CallLemmas.{left_true, right_true}
@@ -52,18 +52,18 @@ lowest_same f g p q same inside within low lower = by (nat_lt p q) (nat_lt q p) 
 stuck_here : (old : Option OldVersion) (c : ChangeForm) (slot : ℕ) (f : Values) (r : Run) → is_stuck_at old c slot f r ≡ true → is_stuck old c f r ≡ true
 stuck_here None c slot f r stuck = stuck
 stuck_here (Some old) c slot f r stuck =
-    let test = lacks_row_at old c.extra f (users_in r) c.name r.courses in
+    let test = lacks_row_at old c.extra f (modules_by_slot_in r) c.name r.courses in
     let inside : slot < slots = ltb-true slot slots (left_true (nat_lt slot slots) (is_lowest test slot) stuck) in
     any_found test slots slot inside (left_true (test slot) (not (any_below test slot)) (right_true (nat_lt slot slots) (is_lowest test slot) stuck))
 
 -- it is one process
 slot_same : (old : Option OldVersion) (name : List ℕ) (c : ChangeForm) (p q : ℕ) (f g : Values) (r : Run) → Alike f g → is_stuck_at old c p f r ≡ true → is_stuck_at old c q g r ≡ true
-    → change_within name old c p (users_in r) r.courses ≡ change_within name old c q (users_in r) r.courses
+    → change_within name old c p (modules_by_slot_in r) r.courses ≡ change_within name old c q (modules_by_slot_in r) r.courses
 slot_same None name c p q f g r same one other = refl
 slot_same (Some old) name c p q f g r same one other =
-    let left = lacks_row_at old c.extra f (users_in r) c.name r.courses in
-    let right = lacks_row_at old c.extra g (users_in r) c.name r.courses in
-    ap (λ (n : ℕ). change_within name (Some old) c n (users_in r) r.courses)
+    let left = lacks_row_at old c.extra f (modules_by_slot_in r) c.name r.courses in
+    let right = lacks_row_at old c.extra g (modules_by_slot_in r) c.name r.courses in
+    ap (λ (n : ℕ). change_within name (Some old) c n (modules_by_slot_in r) r.courses)
     (lowest_same left right p q (row_alike old c f g r same) (ltb-true p slots (left_true (nat_lt p slots) (is_lowest left p) one)) (ltb-true q slots (left_true (nat_lt q slots) (is_lowest right q) other))
     (right_true (nat_lt p slots) (is_lowest left p) one) (right_true (nat_lt q slots) (is_lowest right q) other))
 
@@ -102,7 +102,7 @@ call_same call first u v c m n r same one other = by (is_on_child call) refl
     by false elsewhere = ap (λ (b : Bool). if b then child_within (child_call call) m r else r.courses) elsewhere ∙ sym (ap (λ (b : Bool). if b then child_within (child_call call) n r else r.courses) elsewhere)
 
 -- a load that fails, but for memory, does nothing
-load_same : (early : Bool) (name : List ℕ) (o : Option Module) (p q : ℕ) (users : Users) (cs : Courses) (c : Cause) → load_fault o users name ≡ Some c
+load_same : (early : Bool) (name : List ℕ) (o : Option Module) (p q : ℕ) (users : ModulesBySlot) (cs : Courses) (c : Cause) → load_fault o users name ≡ Some c
     → load_within early name (worker_in o) p users cs ≡ load_within early name (worker_in o) q users cs
 load_same early name None p q users cs c fails = refl
 load_same early name (Some m) p q users cs c fails = by (worker_in (Some m)) refl
@@ -119,7 +119,7 @@ known c P other h = h
 pub partly_same : (s : Site) (i : Instruction) (first u v : View) (r : Run) (c : Cause) (m n p q : ℕ) → c ≢ no_memory → Alike (values_seen u) (values_seen v) → fault s (values_seen u) r i ≡ Some c
     → StopsIn first s u r i c m p → StopsIn first s v r i c n q → courses_within s false i m p r ≡ courses_within s false i n q r
 partly_same s (suspend ss) first u v r c m n p q other same fails one two = absurd (cc fails)
-partly_same s (load f) first u v r c m n p q other same fails one two = load_same false f.name (module_named f.name r.fetched) p q (users_in r) r.courses c fails
+partly_same s (load f) first u v r c m n p q other same fails one two = load_same false f.name (module_named f.name r.fetched) p q (modules_by_slot_in r) r.courses c fails
 partly_same s (code_change d) first u v r c m n p q other same fails one two =
     changes_same s (mode_of d.mode) d.changes m n p q (values_seen u) (values_seen v) r same (known c _ other one) (known c _ other two)
 partly_same s (apply call) first u v r c m n p q other same fails one two = call_same call first u v c m n r same one two
@@ -136,38 +136,38 @@ parted_same (x ∷ xs) (y ∷ ys) i j as' bs e long =
     let rest = parted_same xs ys i j as' bs tail (cc long) in
     (λ k. head k ∷ rest.0 k, rest.1)
 
--- one thing is told of what was carried out
-told_is : (s : Site) (first u : View) (b : Bool) (i : Instruction) (r : Run) → first.lent ≡ [] → r.values ≡ values_seen first → HasNoFaultAt s first r b i u → b ≡ stays_at (values_alone r) i r
-told_is s first u b i r none values sound = sound.2 ∙ stays_alike (values_seen u) (values_alone r) i r (seen_alone first r u none values sound.0)
+-- one thing is reported of what was carried out
+reported_is : (s : Site) (first u : View) (b : Bool) (i : Instruction) (r : Run) → first.lent ≡ [] → r.values ≡ values_seen first → HasNoFaultAt s first r b i u → b ≡ stays_at (values_alone r) i r
+reported_is s first u b i r none values sound = sound.2 ∙ stays_alike (values_seen u) (values_alone r) i r (seen_alone first r u none values sound.0)
 
-told_same : (s : Site) (first since now from to : View) (e : Bool) (ts us : List Bool) (is : List Instruction) (r : Run) → first.lent ≡ [] → r.values ≡ values_seen first
+reported_same : (s : Site) (first since now from to : View) (e : Bool) (ts us : List Bool) (is : List Instruction) (r : Run) → first.lent ≡ [] → r.values ≡ values_seen first
     → RanAll s first since now e ts is r → RanAll s first from to e us is r → ts ≡ us
-told_same s first since now from to e ts us [] r none values one two = one.0 ∙ sym two.0
-told_same s first since now from to true ts us (i ∷ is) r none values one two =
-    told_same s first one.0 now two.0 to (not (is_point i)) ts us is (run_after s true false i r) none (step_values s true false i r ∙ values) one.3 two.3
-told_same s first since now from to false [] us (i ∷ is) r none values one two = absurd one
-told_same s first since now from to false (b ∷ ts) [] (i ∷ is) r none values one two = absurd two
-told_same s first since now from to false (b ∷ ts) (d ∷ us) (i ∷ is) r none values one two =
-    let same : b ≡ d = told_is s first one.0 b i r none values one.1 ∙ sym (told_is s first two.0 d i r none values two.1) in
-    let rest = told_same s first one.0 now two.0 to false ts us is (run_after s false b i r) none (step_values s false b i r ∙ values) one.3
+reported_same s first since now from to e ts us [] r none values one two = one.0 ∙ sym two.0
+reported_same s first since now from to true ts us (i ∷ is) r none values one two =
+    reported_same s first one.0 now two.0 to (not (is_point i)) ts us is (run_after s true false i r) none (step_values s true false i r ∙ values) one.3 two.3
+reported_same s first since now from to false [] us (i ∷ is) r none values one two = absurd one
+reported_same s first since now from to false (b ∷ ts) [] (i ∷ is) r none values one two = absurd two
+reported_same s first since now from to false (b ∷ ts) (d ∷ us) (i ∷ is) r none values one two =
+    let same : b ≡ d = reported_is s first one.0 b i r none values one.1 ∙ sym (reported_is s first two.0 d i r none values two.1) in
+    let rest = reported_same s first one.0 now two.0 to false ts us is (run_after s false b i r) none (step_values s false b i r ∙ values) one.3
     (subst (λ (x : Bool). RanAll s first two.0 to false us is (run_after s false x i r)) (sym same) two.3) in
     λ k. same k ∷ rest k
 
 -- What is left where this instruction fails, behind these.
-record Breaks (s : Site) (start : Start) (front : List Instruction) (i : Instruction) (told : List Bool) (c : Cause) (v : View) : Type 0 where
+record Breaks (s : Site) (start : Start) (front : List Instruction) (i : Instruction) (reported : List Bool) (c : Cause) (v : View) : Type 0 where
   then_view : View
-  fails : IsFault start.first s then_view (run_behind s start told front) i c
+  fails : IsFault start.first s then_view (run_behind s start reported front) i c
   modules : ℕ
   slot : ℕ
-  stops : StopsAt start.first s then_view (run_behind s start told front) i c modules slot
-  left : AreLeft start.first (on_all finish (courses_within s false i modules slot (run_behind s start told front))) v
+  stops : StopsAt start.first s then_view (run_behind s start reported front) i c modules slot
+  left : AreLeft start.first (on_all finish (courses_within s false i modules slot (run_behind s start reported front))) v
 
-breaks_same : (s : Site) (start : Start) (front : List Instruction) (i : Instruction) (told : List Bool) (c : Cause) (v w : View) → start.first.lent ≡ [] → c ≢ no_memory
-    → Breaks s start front i told c v → Breaks s start front i told c w → (p : ℕ) → p < slots → seen v p ≡ seen w p
-breaks_same s start front i told c v w none other a b p inside =
+breaks_same : (s : Site) (start : Start) (front : List Instruction) (i : Instruction) (reported : List Bool) (c : Cause) (v w : View) → start.first.lent ≡ [] → c ≢ no_memory
+    → Breaks s start front i reported c v → Breaks s start front i reported c w → (p : ℕ) → p < slots → seen v p ≡ seen w p
+breaks_same s start front i reported c v w none other a b p inside =
     let first = start.first in
-    let r = run_behind s start told front in
-    let values : r.values ≡ values_seen first = through_values s true told front (began_at s start) in
+    let r = run_behind s start reported front in
+    let values : r.values ≡ values_seen first = through_values s true reported front (began_at s start) in
     let fault_a = fault_is first s a.then_view r i c other a.fails in
     let fault_b = fault_is first s b.then_view r i c other b.fails in
     let alike : Alike (values_seen a.then_view) (values_seen b.then_view) =
@@ -177,15 +177,15 @@ breaks_same s start front i told c v w none other a b p inside =
     ∙ (ap (λ (cs : Courses). seen first p ++ added (on_all finish cs p).blocks) same
     ∙ sym (stand_alone first.lent (seen first p) (on_all finish (courses_within s false i b.modules b.slot r) p).blocks (seen w p) none (b.left.each p inside).stand))
 
-breaks_of : (s : Site) (start : Start) (script : List Instruction) (number : ℕ) (c : Cause) (v : View) (b : IsBroken s start script number c v) → Breaks s start b.front b.instruction b.told c v
+breaks_of : (s : Site) (start : Start) (script : List Instruction) (number : ℕ) (c : Cause) (v : View) (b : IsBroken s start script number c v) → Breaks s start b.front b.instruction b.reported c v
 breaks_of s start script number c v b = record { then_view = b.then_view; fails = b.fails; modules = b.modules; slot = b.slot; stops = b.stops; left = b.left }
 
 pub leaves_one_history : LeavesOneHistory
 leaves_one_history s start script number c v w none other a b =
     let parts = parted_same a.front b.front a.instruction b.instruction a.at.rest b.at.rest (sym a.at.is ∙ b.at.is) (omega (arith, a.at.counted, b.at.counted)) in
-    let ran = subst (λ (is : List Instruction). Ran s start b.then_view b.told is) (sym parts.0) b.ran in
-    let told = told_same s start.first start.first a.then_view start.first b.then_view true a.told b.told a.front (began_at s start) none refl a.ran ran in
-    let its = subst (λ (is : List Instruction). Breaks s start is b.instruction b.told c w) (sym parts.0) (breaks_of s start script number c w b) in
-    let now = subst (λ (i : Instruction). Breaks s start a.front i b.told c w) (sym parts.1) its in
-    breaks_same s start a.front a.instruction a.told c v w none other (breaks_of s start script number c v a)
-    (subst (λ (bs : List Bool). Breaks s start a.front a.instruction bs c w) (sym told) now)
+    let ran = subst (λ (is : List Instruction). Ran s start b.then_view b.reported is) (sym parts.0) b.ran in
+    let reported = reported_same s start.first start.first a.then_view start.first b.then_view true a.reported b.reported a.front (began_at s start) none refl a.ran ran in
+    let its = subst (λ (is : List Instruction). Breaks s start is b.instruction b.reported c w) (sym parts.0) (breaks_of s start script number c w b) in
+    let now = subst (λ (i : Instruction). Breaks s start a.front i b.reported c w) (sym parts.1) its in
+    breaks_same s start a.front a.instruction a.reported c v w none other (breaks_of s start script number c v a)
+    (subst (λ (bs : List Bool). Breaks s start a.front a.instruction bs c w) (sym reported) now)

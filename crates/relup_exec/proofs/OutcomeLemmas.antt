@@ -36,12 +36,12 @@ run_more_early s start is i a tree v w early ran carried = (
 )
 
 -- and behind it
-pub run_more_late : (s : Site) (start : Start) (told : List Bool) (is : List Instruction) (b : Bool) (i : Instruction) (a : ProgressForm) (tree : List App) (v w : View) → still_early true is ≡ false
-    → Ran s start v told is → IsCarriedOut s (past_behind s start told is) false b i a tree v w
-    → Ran s start w (told ++ b ∷ []) (is ++ i ∷ []) × HasDone (past_behind s start (told ++ b ∷ []) (is ++ i ∷ [])) a tree w
-run_more_late s start told is b i a tree v w late ran carried = (
-  ran_push_late s start.first start.first v w true told is b i (began_at s start) late ran carried.0,
-  subst (λ (r : Run). HasDone (record { first = start.first; run = r }) a tree w) (sym (run_push_late s start.first start.first v true told is b i (began_at s start) late ran)) carried.1,
+pub run_more_late : (s : Site) (start : Start) (reported : List Bool) (is : List Instruction) (b : Bool) (i : Instruction) (a : ProgressForm) (tree : List App) (v w : View) → still_early true is ≡ false
+    → Ran s start v reported is → IsCarriedOut s (past_behind s start reported is) false b i a tree v w
+    → Ran s start w (reported ++ b ∷ []) (is ++ i ∷ []) × HasDone (past_behind s start (reported ++ b ∷ []) (is ++ i ∷ [])) a tree w
+run_more_late s start reported is b i a tree v w late ran carried = (
+  ran_push_late s start.first start.first v w true reported is b i (began_at s start) late ran carried.0,
+  subst (λ (r : Run). HasDone (record { first = start.first; run = r }) a tree w) (sym (run_push_late s start.first start.first v true reported is b i (began_at s start) late ran)) carried.1,
 )
 
 -- the point of no return was passed
@@ -73,13 +73,13 @@ fault_later first s v w r i c same fails = (
     values = λ j p. replay (same p j)
 
 -- All before the point was carried out.
-pub armed_well : (s : Site) (start : Start) (script : List Instruction) (place room : ℕ) (told : List Bool) (is : List Instruction) (a : ProgressForm) (tree : List App) (v : View) (point : IsPointAt script place)
-    → told ≡ [] → length script ≤ room → is ≡ point.front → Ran s start v [] is → HasDone (past_behind s start [] is) a tree v
-    → IsArmed s start script (record { place = place; told = told; room = room; held = a.held; fetched = a.fetched; next = a.next; apps = tree }) v
-armed_well s start script place room told is a tree v point nothing enough same ran done =
+pub armed_well : (s : Site) (start : Start) (script : List Instruction) (place room : ℕ) (reported : List Bool) (is : List Instruction) (a : ProgressForm) (tree : List App) (v : View) (point : IsPointAt script place)
+    → reported ≡ [] → length script ≤ room → is ≡ point.front → Ran s start v [] is → HasDone (past_behind s start [] is) a tree v
+    → IsArmed s start script (record { place = place; reported = reported; room = room; held = a.held; fetched = a.fetched; next = a.next; apps = tree }) v
+armed_well s start script place room reported is a tree v point nothing enough same ran done =
     let done' : HasDone (past_behind s start [] point.front) a tree v = subst (λ (front : List Instruction). HasDone (past_behind s start [] front) a tree v) same done in record {
       point = point;
-      told = nothing;
+      reported = nothing;
       room = enough;
       ran = subst (Ran s start v []) same ran;
       fetched = done'.fetched;

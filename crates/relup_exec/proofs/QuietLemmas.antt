@@ -2,7 +2,7 @@
 use Rattle.std.proofs.Common.{◌≡◌, ℕ, Bool, true, false, ◌&&◌, if◌then◌else◌, codes, List, [], ◌∷◌, Option, Some, None, not, refl, ap, ◌∙◌}
 use Rattle.std.specs.List.{AllByRecursion}
 use Rattle.worker_table.specs.Table.{WorkerTable}
-use Rattle.held_processes.specs.Course.{Courses, Users, on_module}
+use Rattle.held_processes.specs.Course.{Courses, ModulesBySlot, on_module}
 use Rattle.held_processes.specs.Course.Operation.{suspend, load}
 use Rattle.held_processes.proofs.CourseLemmas.{module_adds_no_block}
 use Rattle.relup_instruction.specs.declared.instruction.Direction.{Direction}
@@ -14,7 +14,7 @@ use Rattle.std.specs.Str.{bytes_eq}
 use Rattle.std.proofs.lemmas.Slice.Eq.{bytes_eq-Decides}
 use Rattle.script_progress.specs.Calls.{AppCall, app_call, child_call, first_atom, is_on_child}
 use Rattle.script_progress.specs.Calls.AppCall.{starts, stops, idle}
-use Rattle.script_progress.specs.Script.{Run, Site, call_after, called_after, child_after, changed, changed_once, load_courses, mode_of, old_version, on_each, run_after, suspended_in, users_in, worker_in}
+use Rattle.script_progress.specs.Script.{Run, Site, call_after, called_after, child_after, changed, changed_once, load_courses, mode_of, old_version, on_each, run_after, suspended_in, modules_by_slot_in, worker_in}
 use Rattle.relup_exec.specs.Outcome.{Start, began_at, run_behind, run_through}
 use Rattle.script_progress.specs.Steps.{IsEarly, SameBlocks}
 use Rattle.script_progress.proofs.CallLemmas.{left_true, right_true}
@@ -33,24 +33,24 @@ errors_do_nothing s c stays r early =
     let child : is_on_child c ≡ false = ap (λ (n : List ℕ). bytes_eq n (codes "supervisor")) named in
     ap (λ (b : Bool). if b then child_after (child_call c) stays r else called_after s (app_call c) r) child ∙ ap (λ (k : AppCall). called_after s k r) idles
 
-each_same : (names : List (List ℕ)) (users : Users) (cs : Courses) → SameBlocks cs (on_each suspend names users cs)
+each_same : (names : List (List ℕ)) (users : ModulesBySlot) (cs : Courses) → SameBlocks cs (on_each suspend names users cs)
 each_same [] users cs p = refl
 each_same (m ∷ ms) users cs p = each_same ms users (on_module users m suspend cs) p ∙ module_adds_no_block users m suspend cs tt p
 
-loads_same : (name : List ℕ) (w : Option WorkerTable) (users : Users) (cs : Courses) → SameBlocks cs (load_courses true name w users cs)
+loads_same : (name : List ℕ) (w : Option WorkerTable) (users : ModulesBySlot) (cs : Courses) → SameBlocks cs (load_courses true name w users cs)
 loads_same name None users cs p = refl
 loads_same name (Some w) users cs p = module_adds_no_block users name (load true w) cs tt p
 
 changed_same : (s : Site) (mode : Direction) (cs : List ChangeForm) (r : Run) → SameBlocks r.courses (changed s mode cs r).courses
 changed_same s mode [] r p = refl
 changed_same s mode (c ∷ cs) r p =
-    changed_same s mode cs (changed_once s mode c r) p ∙ change_same c.name (old_version s mode c.name r) c (users_in r) r.courses p
+    changed_same s mode cs (changed_once s mode c r) p ∙ change_same c.name (old_version s mode c.name r) c (modules_by_slot_in r) r.courses p
 
 -- what an instruction does that may stand before the point
 step_same : (s : Site) (i : Instruction) → IsEarly i → (r : Run) → SameBlocks r.courses (run_after s true false i r).courses
 step_same s (instruction.Instruction.load_object_code f) early r p = refl
-step_same s (instruction.Instruction.suspend ss) early r p = each_same (suspended_in ss) (users_in r) r.courses p
-step_same s (instruction.Instruction.load f) early r p = loads_same f.name (worker_in (module_named f.name r.fetched)) (users_in r) r.courses p
+step_same s (instruction.Instruction.suspend ss) early r p = each_same (suspended_in ss) (modules_by_slot_in r) r.courses p
+step_same s (instruction.Instruction.load f) early r p = loads_same f.name (worker_in (module_named f.name r.fetched)) (modules_by_slot_in r) r.courses p
 step_same s (instruction.Instruction.code_change c) early r p = changed_same s (mode_of c.mode) c.changes r p
 step_same s (instruction.Instruction.apply c) early r p = ap (λ (q : Run). (q.courses p).blocks) (errors_do_nothing s c false r early)
 step_same s i early r p = absurd (cc early)

@@ -30,38 +30,38 @@ still_behind [] = refl
 still_behind (i ∷ is) = still_behind is
 
 -- one instruction more, before the point
-pub run_push_early : (s : Site) (e : Bool) (told : List Bool) (is : List Instruction) (i : Instruction) (r : Run) → still_early e is ≡ true
-    → run_through s e told (is ++ i ∷ []) r ≡ run_after s true false i (run_through s e told is r)
-run_push_early s true told [] i r early = refl
-run_push_early s false told [] i r early = absurd (cc early)
-run_push_early s true told (k ∷ is) i r early = run_push_early s (not (is_point k)) told is i (run_after s true false k r) early
-run_push_early s false told (k ∷ is) i r early = absurd (let no = sym (still_behind is) ∙ early in cc no)
+pub run_push_early : (s : Site) (e : Bool) (reported : List Bool) (is : List Instruction) (i : Instruction) (r : Run) → still_early e is ≡ true
+    → run_through s e reported (is ++ i ∷ []) r ≡ run_after s true false i (run_through s e reported is r)
+run_push_early s true reported [] i r early = refl
+run_push_early s false reported [] i r early = absurd (cc early)
+run_push_early s true reported (k ∷ is) i r early = run_push_early s (not (is_point k)) reported is i (run_after s true false k r) early
+run_push_early s false reported (k ∷ is) i r early = absurd (let no = sym (still_behind is) ∙ early in cc no)
 
-pub ran_push_early : (s : Site) (first since mid now : View) (e : Bool) (told : List Bool) (is : List Instruction) (i : Instruction) (r : Run) → still_early e is ≡ true
-    → RanAll s first since mid e told is r → HasNoFault s first mid now (run_through s e told is r) false i → RanAll s first since now e told (is ++ i ∷ []) r
-ran_push_early s first since mid now true told [] i r early ran one = (one.0, one.1, longer_both since mid one.0 ran.1 one.2, (ran.0, one.3))
-ran_push_early s first since mid now false told [] i r early ran one = absurd (cc early)
-ran_push_early s first since mid now true told (k ∷ is) i r early ran one =
-    (ran.0, ran.1, ran.2, ran_push_early s first ran.0 mid now (not (is_point k)) told is i (run_after s true false k r) early ran.3 one)
-ran_push_early s first since mid now false told (k ∷ is) i r early ran one = absurd (let no = sym (still_behind is) ∙ early in cc no)
+pub ran_push_early : (s : Site) (first since mid now : View) (e : Bool) (reported : List Bool) (is : List Instruction) (i : Instruction) (r : Run) → still_early e is ≡ true
+    → RanAll s first since mid e reported is r → HasNoFault s first mid now (run_through s e reported is r) false i → RanAll s first since now e reported (is ++ i ∷ []) r
+ran_push_early s first since mid now true reported [] i r early ran one = (one.0, one.1, longer_both since mid one.0 ran.1 one.2, (ran.0, one.3))
+ran_push_early s first since mid now false reported [] i r early ran one = absurd (cc early)
+ran_push_early s first since mid now true reported (k ∷ is) i r early ran one =
+    (ran.0, ran.1, ran.2, ran_push_early s first ran.0 mid now (not (is_point k)) reported is i (run_after s true false k r) early ran.3 one)
+ran_push_early s first since mid now false reported (k ∷ is) i r early ran one = absurd (let no = sym (still_behind is) ∙ early in cc no)
 
--- one instruction more, of which this is told, behind the point
-pub run_push_late : (s : Site) (first since now : View) (e : Bool) (told : List Bool) (is : List Instruction) (b : Bool) (i : Instruction) (r : Run) → still_early e is ≡ false
-    → RanAll s first since now e told is r → run_through s e (told ++ b ∷ []) (is ++ i ∷ []) r ≡ run_after s false b i (run_through s e told is r)
-run_push_late s first since now true told [] b i r late ran = absurd (cc late)
+-- one instruction more, of which this is reported, behind the point
+pub run_push_late : (s : Site) (first since now : View) (e : Bool) (reported : List Bool) (is : List Instruction) (b : Bool) (i : Instruction) (r : Run) → still_early e is ≡ false
+    → RanAll s first since now e reported is r → run_through s e (reported ++ b ∷ []) (is ++ i ∷ []) r ≡ run_after s false b i (run_through s e reported is r)
+run_push_late s first since now true reported [] b i r late ran = absurd (cc late)
 run_push_late s first since now false [] [] b i r late ran = refl
 run_push_late s first since now false (t ∷ ts) [] b i r late ran = absurd (let none = ran.0 in cc none)
-run_push_late s first since now true told (k ∷ is) b i r late ran = run_push_late s first ran.0 now (not (is_point k)) told is b i (run_after s true false k r) late ran.3
+run_push_late s first since now true reported (k ∷ is) b i r late ran = run_push_late s first ran.0 now (not (is_point k)) reported is b i (run_after s true false k r) late ran.3
 run_push_late s first since now false [] (k ∷ is) b i r late ran = absurd ran
 run_push_late s first since now false (t ∷ ts) (k ∷ is) b i r late ran = run_push_late s first ran.0 now false ts is b i (run_after s false t k r) late ran.3
 
-pub ran_push_late : (s : Site) (first since mid now : View) (e : Bool) (told : List Bool) (is : List Instruction) (b : Bool) (i : Instruction) (r : Run) → still_early e is ≡ false
-    → RanAll s first since mid e told is r → HasNoFault s first mid now (run_through s e told is r) b i → RanAll s first since now e (told ++ b ∷ []) (is ++ i ∷ []) r
-ran_push_late s first since mid now true told [] b i r late ran one = absurd (cc late)
+pub ran_push_late : (s : Site) (first since mid now : View) (e : Bool) (reported : List Bool) (is : List Instruction) (b : Bool) (i : Instruction) (r : Run) → still_early e is ≡ false
+    → RanAll s first since mid e reported is r → HasNoFault s first mid now (run_through s e reported is r) b i → RanAll s first since now e (reported ++ b ∷ []) (is ++ i ∷ []) r
+ran_push_late s first since mid now true reported [] b i r late ran one = absurd (cc late)
 ran_push_late s first since mid now false [] [] b i r late ran one = (one.0, one.1, longer_both since mid one.0 ran.1 one.2, (refl, one.3))
 ran_push_late s first since mid now false (t ∷ ts) [] b i r late ran one = absurd (let none = ran.0 in cc none)
-ran_push_late s first since mid now true told (k ∷ is) b i r late ran one =
-    (ran.0, ran.1, ran.2, ran_push_late s first ran.0 mid now (not (is_point k)) told is b i (run_after s true false k r) late ran.3 one)
+ran_push_late s first since mid now true reported (k ∷ is) b i r late ran one =
+    (ran.0, ran.1, ran.2, ran_push_late s first ran.0 mid now (not (is_point k)) reported is b i (run_after s true false k r) late ran.3 one)
 ran_push_late s first since mid now false [] (k ∷ is) b i r late ran one = absurd ran
 ran_push_late s first since mid now false (t ∷ ts) (k ∷ is) b i r late ran one =
     (ran.0, ran.1, ran.2, ran_push_late s first ran.0 mid now false ts is b i (run_after s false t k r) late ran.3 one)
@@ -71,13 +71,13 @@ still_push e [] i = refl
 still_push e (k ∷ is) i = still_push (e && not (is_point k)) is i
 
 -- what was so is so when more is seen
-pub ran_later : (s : Site) (first since v w : View) (e : Bool) (told : List Bool) (is : List Instruction) (r : Run) → AreLonger v w → RanAll s first since v e told is r → RanAll s first since w e told is r
-ran_later s first since v w e told [] r longer ran = (ran.0, longer_both since v w ran.1 longer)
-ran_later s first since v w true told (i ∷ is) r longer ran =
-    (ran.0, ran.1, ran.2, ran_later s first ran.0 v w (not (is_point i)) told is (run_after s true false i r) longer ran.3)
+pub ran_later : (s : Site) (first since v w : View) (e : Bool) (reported : List Bool) (is : List Instruction) (r : Run) → AreLonger v w → RanAll s first since v e reported is r → RanAll s first since w e reported is r
+ran_later s first since v w e reported [] r longer ran = (ran.0, longer_both since v w ran.1 longer)
+ran_later s first since v w true reported (i ∷ is) r longer ran =
+    (ran.0, ran.1, ran.2, ran_later s first ran.0 v w (not (is_point i)) reported is (run_after s true false i r) longer ran.3)
 ran_later s first since v w false [] (i ∷ is) r longer ran = absurd ran
-ran_later s first since v w false (b ∷ told) (i ∷ is) r longer ran =
-    (ran.0, ran.1, ran.2, ran_later s first ran.0 v w false told is (run_after s false b i r) longer ran.3)
+ran_later s first since v w false (b ∷ reported) (i ∷ is) r longer ran =
+    (ran.0, ran.1, ran.2, ran_later s first ran.0 v w false reported is (run_after s false b i r) longer ran.3)
 
 -- what may stand before the point isn't the point
 pub not_the_point : (i : Instruction) → IsEarly i → is_point i ≡ false
@@ -102,17 +102,17 @@ late_at_first s first since now (i ∷ front) r early longer =
     subst (λ (b : Bool). RanAllLate s first since now (not b) [] (front ++ point_of_no_return ∷ []) next) (sym (not_the_point i early.0)) (late_at_first s first since now front next early.1 longer)
 
 -- one instruction more behind it
-pub late_push : (s : Site) (first since mid now : View) (e : Bool) (told : List Bool) (is : List Instruction) (b : Bool) (i : Instruction) (r : Run) → still_early e is ≡ false
-    → RanAllLate s first since mid e told is r → HasNoFault s first mid now (run_through s e told is r) b i → RanAllLate s first since now e (told ++ b ∷ []) (is ++ i ∷ []) r
-late_push s first since mid now false told is b i r late ran one = ran_push_late s first since mid now false told is b i r late ran one
-late_push s first since mid now true told [] b i r late ran one = absurd ran
-late_push s first since mid now true told (k ∷ is) b i r late ran one = late_push s first since mid now (not (is_point k)) told is b i (run_after s true false k r) late ran one
+pub late_push : (s : Site) (first since mid now : View) (e : Bool) (reported : List Bool) (is : List Instruction) (b : Bool) (i : Instruction) (r : Run) → still_early e is ≡ false
+    → RanAllLate s first since mid e reported is r → HasNoFault s first mid now (run_through s e reported is r) b i → RanAllLate s first since now e (reported ++ b ∷ []) (is ++ i ∷ []) r
+late_push s first since mid now false reported is b i r late ran one = ran_push_late s first since mid now false reported is b i r late ran one
+late_push s first since mid now true reported [] b i r late ran one = absurd ran
+late_push s first since mid now true reported (k ∷ is) b i r late ran one = late_push s first since mid now (not (is_point k)) reported is b i (run_after s true false k r) late ran one
 
 -- what was so is so when more is seen
-pub late_later : (s : Site) (first since v w : View) (e : Bool) (told : List Bool) (is : List Instruction) (r : Run) → AreLonger v w → RanAllLate s first since v e told is r → RanAllLate s first since w e told is r
-late_later s first since v w false told is r longer ran = ran_later s first since v w false told is r longer ran
-late_later s first since v w true told [] r longer ran = absurd ran
-late_later s first since v w true told (i ∷ is) r longer ran = late_later s first since v w (not (is_point i)) told is (run_after s true false i r) longer ran
+pub late_later : (s : Site) (first since v w : View) (e : Bool) (reported : List Bool) (is : List Instruction) (r : Run) → AreLonger v w → RanAllLate s first since v e reported is r → RanAllLate s first since w e reported is r
+late_later s first since v w false reported is r longer ran = ran_later s first since v w false reported is r longer ran
+late_later s first since v w true reported [] r longer ran = absurd ran
+late_later s first since v w true reported (i ∷ is) r longer ran = late_later s first since v w (not (is_point i)) reported is (run_after s true false i r) longer ran
 
 early_or_point : (before after front : List Instruction) (i : Instruction) (rest : List Instruction) → AllByRecursion IsEarly before → AllByRecursion IsEarly front
     → before ++ (point_of_no_return ∷ after) ≡ front ++ (i ∷ rest) → IsEarly i ⊎ (i ≡ point_of_no_return)
@@ -195,8 +195,8 @@ step_values s e b (apply c) r = call_values s c b r
 step_values s e b i r = refl
 
 -- what stood in the slots at first is kept
-pub through_values : (s : Site) (e : Bool) (told : List Bool) (is : List Instruction) (r : Run) → (run_through s e told is r).values ≡ r.values
-through_values s e told [] r = refl
-through_values s true told (i ∷ is) r = through_values s (not (is_point i)) told is (run_after s true false i r) ∙ step_values s true false i r
+pub through_values : (s : Site) (e : Bool) (reported : List Bool) (is : List Instruction) (r : Run) → (run_through s e reported is r).values ≡ r.values
+through_values s e reported [] r = refl
+through_values s true reported (i ∷ is) r = through_values s (not (is_point i)) reported is (run_after s true false i r) ∙ step_values s true false i r
 through_values s false [] (i ∷ is) r = refl
-through_values s false (b ∷ told) (i ∷ is) r = through_values s false told is (run_after s false b i r) ∙ step_values s false b i r
+through_values s false (b ∷ reported) (i ∷ is) r = through_values s false reported is (run_after s false b i r) ∙ step_values s false b i r

@@ -51,7 +51,7 @@ outcome s r script = outcome_from s true 0 script r
 -- refused before it.
 pub record HasOneOutcome : Type 0 where
   pub finished : (s : Site) (start : Start) (script : List Instruction) (loaded : NamedModules) (apps : List App) (v : View)
-      → start.first.lent ≡ [] → (f : IsFinished s start script loaded apps v) → outcome s (began_at s start) script ≡ ends (run_behind s start f.told script)
+      → start.first.lent ≡ [] → (f : IsFinished s start script loaded apps v) → outcome s (began_at s start) script ≡ ends (run_behind s start f.reported script)
   pub armed : (s : Site) (start : Start) (script : List Instruction) (a : ArmedForm) (v : View) → start.first.lent ≡ [] → IsArmed s start script a v
       → (number : ℕ) (c : Cause) → outcome s (began_at s start) script ≡ refuses number c → ⊥
   pub refused : (s : Site) (start : Start) (script : List Instruction) (number : ℕ) (c : Cause) (v : View)
@@ -59,8 +59,8 @@ pub record HasOneOutcome : Type 0 where
   pub broken : (s : Site) (start : Start) (script : List Instruction) (number : ℕ) (c : Cause) (v : View)
       → start.first.lent ≡ [] → c ≢ no_memory → IsBroken s start script number c v → outcome s (began_at s start) script ≡ breaks number c
 
--- Where an instruction fails behind the point, the handler that carries the script out alone leaves one history in each slot, memory
--- aside.
+-- Where an instruction fails behind the point, the handler that carries the script out alone leaves one history in each slot,
+-- memory aside.
 abbrev pub LeavesOneHistory : Type 0
 LeavesOneHistory = (s : Site) (start : Start) (script : List Instruction) (number : ℕ) (c : Cause) (v w : View) → start.first.lent ≡ [] → c ≢ no_memory
     → IsBroken s start script number c v → IsBroken s start script number c w → (p : ℕ) → p < slots → seen v p ≡ seen w p

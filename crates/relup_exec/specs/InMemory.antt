@@ -5,4 +5,4 @@ use Rattle.relup_exec.specs.Outcome.{ArmedForm}
 use Rattle.loaded_modules.specs.Loaded.{listed_in}
 
 abbrev pub armed_of : Armed → ArmedForm
-armed_of a = record { place = a.place; told = a.told.items; room = vec_capacity a.told; held = a.progress.held; fetched = listed_in a.progress.fetched; next = listed_in a.progress.next; apps = a.progress.tree }
+armed_of a = record { place = a.place; reported = a.reported.items; room = vec_capacity a.reported; held = a.progress.held; fetched = listed_in a.progress.fetched; next = listed_in a.progress.next; apps = a.progress.tree }

@@ -30,49 +30,50 @@ abbrev pub still_early : Bool → List Instruction → Bool
 still_early early [] = early
 still_early early (i ∷ is) = still_early (early && not (is_point i)) is
 
--- What instructions do one after another, the point of no return among them. told: of each behind the point, whether it leaves the
--- child that it is on as it is.
+-- What instructions do one after another, the point of no return among them. reported: of each behind the point, whether it leaves
+-- the child that it is on as it is.
 abbrev pub run_through : Site → Bool → List Bool → List Instruction → Run → Run
-run_through s early told [] r = r
-run_through s true told (i ∷ is) r = run_through s (not (is_point i)) told is (run_after s true false i r)
+run_through s early reported [] r = r
+run_through s true reported (i ∷ is) r = run_through s (not (is_point i)) reported is (run_after s true false i r)
 run_through s false [] (i ∷ is) r = r
-run_through s false (b ∷ told) (i ∷ is) r = run_through s false told is (run_after s false b i r)
+run_through s false (b ∷ reported) (i ∷ is) r = run_through s false reported is (run_after s false b i r)
 
 -- what was done behind these, from the first instruction on
 abbrev pub run_behind : Site → Start → List Bool → List Instruction → Run
-run_behind s start told is = run_through s true told is (began_at s start)
+run_behind s start reported is = run_through s true reported is (began_at s start)
 
 abbrev pub past_behind : Site → Start → List Bool → List Instruction → Past
-past_behind s start told is = record { first = start.first; run = run_behind s start told is }
+past_behind s start reported is = record { first = start.first; run = run_behind s start reported is }
 
 -- None of these failed, each by the histories that the handler had seen at a moment of its own: one behind another, between these
--- two. And of each behind the point this is told.
+-- two. And of each behind the point this is reported.
 abbrev pub RanAll : Site → View → View → View → Bool → List Bool → List Instruction → Run → Type 0
-RanAll s first since now early told [] r = (told ≡ []) × AreLonger since now
-RanAll s first since now true told (i ∷ is) r =
-    (u : View) × HasNoFaultAt s first r false i u × AreLonger since u × RanAll s first u now (not (is_point i)) told is (run_after s true false i r)
+RanAll s first since now early reported [] r = (reported ≡ []) × AreLonger since now
+RanAll s first since now true reported (i ∷ is) r =
+    (u : View) × HasNoFaultAt s first r false i u × AreLonger since u × RanAll s first u now (not (is_point i)) reported is (run_after s true false i r)
 RanAll s first since now false [] (i ∷ is) r = ⊥
-RanAll s first since now false (b ∷ told) (i ∷ is) r =
-    (u : View) × HasNoFaultAt s first r b i u × AreLonger since u × RanAll s first u now false told is (run_after s false b i r)
+RanAll s first since now false (b ∷ reported) (i ∷ is) r =
+    (u : View) × HasNoFaultAt s first r b i u × AreLonger since u × RanAll s first u now false reported is (run_after s false b i r)
 
 abbrev pub Ran : Site → Start → View → List Bool → List Instruction → Type 0
-Ran s start now told is = RanAll s start.first start.first now true told is (began_at s start)
+Ran s start now reported is = RanAll s start.first start.first now true reported is (began_at s start)
 
--- The point of no return is one of these instructions, and none of those behind it failed: each by the histories that the handler had
--- seen at a moment of its own, one behind another, between these two. So none of them is judged by an earlier view.
+-- The point of no return is one of these instructions, and none of those behind it failed: each by the histories that the handler
+-- had seen at a moment of its own, one behind another, between these two. So none of them is judged by an earlier view.
 abbrev pub RanAllLate : Site → View → View → View → Bool → List Bool → List Instruction → Run → Type 0
-RanAllLate s first since now false told is r = RanAll s first since now false told is r
-RanAllLate s first since now true told [] r = ⊥
-RanAllLate s first since now true told (i ∷ is) r = RanAllLate s first since now (not (is_point i)) told is (run_after s true false i r)
+RanAllLate s first since now false reported is r = RanAll s first since now false reported is r
+RanAllLate s first since now true reported [] r = ⊥
+RanAllLate s first since now true reported (i ∷ is) r = RanAllLate s first since now (not (is_point i)) reported is (run_after s true false i r)
 
 abbrev pub RanLate : Site → Start → View → View → List Bool → List Instruction → Type 0
-RanLate s start since now told is = RanAllLate s start.first since now true told is (began_at s start)
+RanLate s start since now reported is = RanAllLate s start.first since now true reported is (began_at s start)
 
 -- A script that has come to its point of no return. place: how many instructions stand before the point. next and apps: what is
--- loaded, and what is started, once the script has ended well. told, room: nothing is told yet, and of how many instructions can be.
+-- loaded, and what is started, once the script has ended well. reported, room: nothing is reported yet, and of how many
+-- instructions can be.
 pub record ArmedForm : Type 0 where
   pub place : ℕ
-  pub told : List Bool
+  pub reported : List Bool
   pub room : ℕ
   pub held : HeldSlots
   pub fetched : NamedModules
@@ -95,7 +96,7 @@ CanGoBack first hs v = (courses : Courses) × AllFollow first courses hs v × ((
 -- All before the point was done, and nothing of it stands in a history yet.
 pub record IsArmed (s : Site) (start : Start) (script : List Instruction) (a : ArmedForm) (v : View) : Type 0 where
   pub point : IsPointAt script a.place
-  pub told : a.told ≡ []
+  pub reported : a.reported ≡ []
   pub room : length script ≤ a.room
   pub ran : Ran s start v [] point.front
   pub fetched : a.fetched ≡ (run_behind s start [] point.front).fetched
@@ -122,11 +123,11 @@ pub record IsRefused (s : Site) (start : Start) (script : List Instruction) (num
 
 -- The whole script was carried out: its blocks stand in the histories, and this is loaded and started.
 pub record IsFinished (s : Site) (start : Start) (script : List Instruction) (loaded : NamedModules) (apps : List App) (v : View) : Type 0 where
-  pub told : List Bool
-  pub ran : Ran s start v told script
-  pub loaded_is : loaded ≡ (run_behind s start told script).modules
-  pub apps_are : apps ≡ (run_behind s start told script).apps
-  pub left : AreLeft start.first (on_all finish (run_behind s start told script).courses) v
+  pub reported : List Bool
+  pub ran : Ran s start v reported script
+  pub loaded_is : loaded ≡ (run_behind s start reported script).modules
+  pub apps_are : apps ≡ (run_behind s start reported script).apps
+  pub left : AreLeft start.first (on_all finish (run_behind s start reported script).courses) v
 
 -- An instruction behind the point is the first that fails. What was held is let go with what was done to it by then: by those in
 -- front, and by this one for so many of its modules and for the next in the slots below this. It fails by the histories that the
@@ -136,22 +137,23 @@ pub record IsBroken (s : Site) (start : Start) (script : List Instruction) (numb
   pub instruction : Instruction
   pub at : IsInstructionAt script number front instruction
   pub late : still_early true front ≡ false
-  pub told : List Bool
+  pub reported : List Bool
   pub then_view : View
-  pub ran : Ran s start then_view told front
-  pub fails : IsFault start.first s then_view (run_behind s start told front) instruction c
+  pub ran : Ran s start then_view reported front
+  pub fails : IsFault start.first s then_view (run_behind s start reported front) instruction c
   pub modules : ℕ
   pub slot : ℕ
-  pub stops : StopsAt start.first s then_view (run_behind s start told front) instruction c modules slot
-  pub left : AreLeft start.first (on_all finish (courses_within s false instruction modules slot (run_behind s start told front))) v
+  pub stops : StopsAt start.first s then_view (run_behind s start reported front) instruction c modules slot
+  pub left : AreLeft start.first (on_all finish (courses_within s false instruction modules slot (run_behind s start reported front))) v
   pub longer : AreLonger then_view v
 
 -- The whole script was carried out, and what stands behind its point is judged by no view from before this one.
 pub record IsFinishedFrom (s : Site) (start : Start) (script : List Instruction) (since : View) (loaded : NamedModules) (apps : List App) (v : View) : Type 0 where
   pub finished : IsFinished s start script loaded apps v
-  pub late : RanLate s start since v finished.told script
+  pub late : RanLate s start since v finished.reported script
 
--- An instruction behind the point is the first that fails, and neither it nor those between are judged by a view from before this one.
+-- An instruction behind the point is the first that fails, and neither it nor those between are judged by a view from before this
+-- one.
 pub record IsBrokenFrom (s : Site) (start : Start) (script : List Instruction) (since : View) (number : ℕ) (c : Cause) (v : View) : Type 0 where
   pub broken : IsBroken s start script number c v
-  pub late : RanLate s start since broken.then_view broken.told broken.front
+  pub late : RanLate s start since broken.then_view broken.reported broken.front

@@ -54,7 +54,7 @@ impl Armed {
         let Armed {
             place,
             mut progress,
-            mut told,
+            mut reported,
         } = self;
         let_pass(site, seat, &mut progress.held, &script[..place]);
         for i in place + 1..script.len() {
@@ -67,11 +67,11 @@ impl Armed {
                 site,
                 seat,
                 before,
-                told.as_slice(),
+                reported.as_slice(),
                 instr,
             );
             match done {
-                Ok(stays) => told.push_reserved(stays),
+                Ok(stays) => reported.push_reserved(stays),
                 Err(failure) => {
                     let Progress {
                         held,
@@ -79,7 +79,15 @@ impl Armed {
                         next: _next,
                         tree: _tree,
                     } = progress;
-                    close(held, site, seat, before, told.as_slice(), instr, &failure);
+                    close(
+                        held,
+                        site,
+                        seat,
+                        before,
+                        reported.as_slice(),
+                        instr,
+                        &failure,
+                    );
                     let Failure { cause, .. } = failure;
                     return Err(Failed {
                         instr: i + 1,
@@ -94,7 +102,7 @@ impl Armed {
             next,
             tree: started,
         } = progress;
-        end(held, site, seat, script, told.as_slice());
+        end(held, site, seat, script, reported.as_slice());
         *tree = started;
         Ok(next)
     }
@@ -120,7 +128,7 @@ fn close(
     site: &Site<'_>,
     seat: &mut HandlerSeat,
     _before: &[Instr],
-    _told: &[bool],
+    _reported: &[bool],
     _instr: &Instr,
     _failure: &Failure,
 )
@@ -140,7 +148,7 @@ fn end(
     site: &Site<'_>,
     seat: &mut HandlerSeat,
     _script: &[Instr],
-    _told: &[bool],
+    _reported: &[bool],
 )
     ghost followed: { Followed }
     requires table { seat.old.table ≡ site.now.table.now }

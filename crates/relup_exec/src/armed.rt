@@ -14,8 +14,8 @@ pub struct Armed {
     // How many instructions stand before the point.
     pub(crate) place: usize,
     pub(crate) progress: Progress,
-    // Room for what is told of each instruction behind the point.
-    pub(crate) told: Vec<bool>,
+    // Room for what is reported of each instruction behind the point.
+    pub(crate) reported: Vec<bool>,
 }
 
 impl Armed {
@@ -30,7 +30,7 @@ impl Armed {
         let Armed {
             place: _place,
             progress,
-            told: _told,
+            reported: _reported,
         } = self;
         progress.roll_back(table, seat);
     }

@@ -48,7 +48,7 @@ pub fn run_before<R: Wait>(
         e.instr (cause_of e.cause) seat.new.view) }
 {
     let place = point_in(script);
-    let Ok(told) = Vec::with_capacity(alloc, script.len()) else {
+    let Ok(reported) = Vec::with_capacity(alloc, script.len()) else {
         return Err(Refused {
             instr: 1,
             cause: Cause::NoMemory,
@@ -64,7 +64,7 @@ pub fn run_before<R: Wait>(
         Ok(()) => Ok(Armed {
             place,
             progress,
-            told,
+            reported,
         }),
         Err(refused) => {
             progress.roll_back(site.table, seat);

@@ -5,7 +5,7 @@
 //! fails, and why (`refused`). A script that was refused has added nothing to any history, and holds nothing.
 //! [`Armed::roll_back`] gives all processes back as they were. [`Armed::run_after`] carries out what stands behind the point, and
 //! judges no instruction by an earlier view: where all is done, the blocks of the script stand in the histories, each whole, and
-//! what is loaded and started is what the script says (`finished`); else the first instruction that fails is told, and what was
+//! what is loaded and started is what the script says (`finished`); else the first instruction that fails is reported, and what was
 //! held is let go with the changes made so far (`broken`). All but the way back wait for processes that clients have.
 //!
 //! The laws say that while no pass is lent a script has one outcome, memory aside: the one that `outcome` (specs/Alone) gives by

@@ -36,12 +36,12 @@ of_count bytes f row (inr (r ∷ [], reads, is)) = absurd is
 of_count bytes f row (inr (r ∷ s ∷ rs, reads, is)) = (r ∷ s ∷ rs, reads, refl)
 
 -- the fault of a file that hasn't one term
-pub tells_terms : (bytes : List ℕ) (f : FileFault) → (f ≢ file.NoMemory → IsNoTermFault bytes f) → relup_fault_of_file f ≢ NoMemory → IsRelupFault bytes (relup_fault_of_file f)
-tells_terms bytes (file.BadTerm e) h other = of_no_row bytes e (h (λ same. absurd cc))
-tells_terms bytes (file.BadShape at) h other = of_count bytes (bad_shape at) (λ e is. absurd cc) (h (λ same. absurd cc))
-tells_terms bytes (file.Duplicate name) h other = of_count bytes (duplicate (string_bytes name)) (λ e is. absurd cc) (h (λ same. absurd cc))
-tells_terms bytes file.BadVersion h other = of_count bytes bad_version (λ e is. absurd cc) (h (λ same. absurd cc))
-tells_terms bytes file.NoMemory h other = absurd (other refl)
+pub reports_terms : (bytes : List ℕ) (f : FileFault) → (f ≢ file.NoMemory → IsNoTermFault bytes f) → relup_fault_of_file f ≢ NoMemory → IsRelupFault bytes (relup_fault_of_file f)
+reports_terms bytes (file.BadTerm e) h other = of_no_row bytes e (h (λ same. absurd cc))
+reports_terms bytes (file.BadShape at) h other = of_count bytes (bad_shape at) (λ e is. absurd cc) (h (λ same. absurd cc))
+reports_terms bytes (file.Duplicate name) h other = of_count bytes (duplicate (string_bytes name)) (λ e is. absurd cc) (h (λ same. absurd cc))
+reports_terms bytes file.BadVersion h other = of_count bytes bad_version (λ e is. absurd cc) (h (λ same. absurd cc))
+reports_terms bytes file.NoMemory h other = absurd (other refl)
 
 -- a fault that is passed on
 pub passed_on : {A : Type 0} (P : RelupFault → Type 0) (result : Result A RelupFault) (f : RelupFault) → IsErr result × IsErrAnd result (λ g. g ≡ f) → P f → IfErr result P

@@ -17,7 +17,7 @@ use Rattle.relup_file.specs.declared.fault.RelupFault.TheVariants.{BadTerm, BadS
 use Rattle.relup_file.specs.declared.relup.Relup.{Relup}
 use Rattle.relup_file.specs.Relup.{EntryForm, RelupForm, relup_of}
 use Rattle.relup_file.specs.Form.{entry_term, relup_term, IsEntryTerm, AreEntryTerms, IsOuter, IsRelupTerm, IsScript, IsEntry, IsRelup}
-use Rattle.relup_file.specs.Parts.{entry_in, put_entry, entries_in, Outer, outer_in, join, from_outer, relup_in, TellsBad}
+use Rattle.relup_file.specs.Parts.{entry_in, put_entry, entries_in, Outer, outer_in, join, from_outer, relup_in, ReportsBad}
 use Rattle.relup_file.specs.File.{HasBadEntry, HasTermFault, IsTermFault}
 use Rattle.relup_file.proofs.EntryLemmas.{entries_in-terms, from_entries, IsFirstBad, from_bad, entries_in-bad}
 
@@ -131,7 +131,7 @@ rows ups downs =
     let same : 0 + length ups ≡ count (values_of ups) = omega (arith, count-values_of ups) in
     entries_in-append 0 ups downs ∙ ap (λ (m : ℕ). merge (entries_in 0 (values_of ups)) (entries_in m (values_of downs))) same
 
--- what is told of a term is its fault
+-- what is reported of a term is its fault
 pub from_fault : (v : Value) (n : ℕ) → relup_in v ≡ Err n → HasTermFault v n
 from_fault v n e = go (outer_in v) refl e
   where
@@ -212,7 +212,7 @@ is_said r h = record {
 }
 
 abbrev Answers : Value → Result Relup RelupFault → Type 0
-Answers v result = MatchResult result (λ r. relup_in v ≡ Ok (relup_of r)) (TellsBad (relup_in v))
+Answers v result = MatchResult result (λ r. relup_in v ≡ Ok (relup_of r)) (ReportsBad (relup_in v))
 
 -- The clauses of a function that answers so.
 pub says : (v : Value) (result : Result Relup RelupFault) → Answers v result → IfOk result (λ r. IsRelupTerm v (relup_of r))
@@ -223,7 +223,7 @@ pub fits : (v : Value) (result : Result Relup RelupFault) → Answers v result �
 fits v (Ok r) h = is_relup v (relup_of r) (from_relup v (relup_of r) h)
 fits v (Err f) h = tt
 
-memory_alone : (o : Result RelupForm ℕ) (r : RelupForm) (f : RelupFault) → o ≡ Ok r → TellsBad o f → f ≡ NoMemory
+memory_alone : (o : Result RelupForm ℕ) (r : RelupForm) (f : RelupFault) → o ≡ Ok r → ReportsBad o f → f ≡ NoMemory
 memory_alone o r (BadTerm e) is h = absurd h
 memory_alone (Ok s) r (BadShape n) is h = absurd h
 memory_alone (Err k) r (BadShape n) is h = absurd cc
@@ -234,12 +234,12 @@ pub only : (v : Value) (result : Result Relup RelupFault) → Answers v result �
 only v (Ok x) h r is = let same : Ok (relup_of x) ≡ Ok r = sym h ∙ relup_in-term v r is in cc
 only v (Err f) h r is = memory_alone (relup_in v) r f (relup_in-term v r is) h
 
-told : (v : Value) (o : Result RelupForm ℕ) (f : RelupFault) → relup_in v ≡ o → TellsBad o f → f ≢ NoMemory → IsTermFault v f
-told v o (BadTerm e) is h other = absurd h
-told v (Ok r) (BadShape n) is h other = absurd h
-told v (Err k) (BadShape n) is h other = from_fault v n (is ∙ ap Err (sym h))
-told v o NoMemory is h other = absurd (other refl)
+reported : (v : Value) (o : Result RelupForm ℕ) (f : RelupFault) → relup_in v ≡ o → ReportsBad o f → f ≢ NoMemory → IsTermFault v f
+reported v o (BadTerm e) is h other = absurd h
+reported v (Ok r) (BadShape n) is h other = absurd h
+reported v (Err k) (BadShape n) is h other = from_fault v n (is ∙ ap Err (sym h))
+reported v o NoMemory is h other = absurd (other refl)
 
 pub fault : (v : Value) (result : Result Relup RelupFault) → Answers v result → IfErr result (λ f. f ≢ NoMemory → IsTermFault v f)
 fault v (Ok r) h = tt
-fault v (Err f) h = told v (relup_in v) f refl h
+fault v (Err f) h = reported v (relup_in v) f refl h

@@ -10,7 +10,7 @@ use Rattle.relup_file.specs.declared.fault.RelupFault.TheVariants.{BadTerm, BadS
 use Rattle.relup_file.specs.declared.relup.Relup.{Relup}
 use Rattle.relup_file.specs.declared.relup.RelupEntry.{RelupEntry}
 use Rattle.relup_file.specs.Relup.{EntryForm, entry_of, relup_of}
-use Rattle.relup_file.specs.Parts.{entry_in, put_entry, entries_in, Outer, outer_in, join, from_outer, relup_in, TellsBad}
+use Rattle.relup_file.specs.Parts.{entry_in, put_entry, entries_in, Outer, outer_in, join, from_outer, relup_in, ReportsBad}
 
 -- these in front of the others, if all of those are entries
 abbrev pub behind : List EntryForm → Result (List EntryForm) ℕ → Result (List EntryForm) ℕ
@@ -49,14 +49,14 @@ entries_all before terms i read past so_far =
 -- the next is no entry
 pub entries_bad : (before : ℕ) (terms : List Term) (i : ℕ) (term : Term) (front : List EntryForm) (all : Result (List EntryForm) ℕ)
     → i < length terms → term ≡ get_or terms i term → None ≡ entry_in (value_of term)
-    → behind front (entries_in (before + i) (members_of (drop i terms))) ≡ all → TellsBad all (BadShape (before + i + 1))
+    → behind front (entries_in (before + i) (members_of (drop i terms))) ≡ all → ReportsBad all (BadShape (before + i + 1))
 entries_bad before terms i term front all within at none so_far =
     let later : Values = members_of (drop (i + 1) terms) in
     let split : drop i terms ≡ term ∷ drop (i + 1) terms = drop_more terms i term within ∙ ap (λ (t : Term). t ∷ drop (i + 1) terms) (sym at) in
     let bad : Err (before + i + 1) ≡ all =
     (λ j. behind front (put_entry (before + i + 1) (none j) (entries_in (before + i + 1) later)))
     ∙ (ap (λ (ts : List Term). behind front (entries_in (before + i) (members_of ts))) (sym split) ∙ so_far) in
-    subst (λ (o : Result (List EntryForm) ℕ). TellsBad o (BadShape (before + i + 1))) bad refl
+    subst (λ (o : Result (List EntryForm) ℕ). ReportsBad o (BadShape (before + i + 1))) bad refl
 
 -- a relup whose upgrades are read
 parts : (v : Value) (o : Outer) (ups : List Term) (us : List EntryForm) → Some o ≡ outer_in v → o.ups ≡ members_of ups → entries_in 0 (members_of ups) ≡ Ok us
@@ -70,17 +70,17 @@ pub both_read : (v : Value) (o : Outer) (ups : List Term) (us ds : List EntryFor
     → entries_in (length ups) o.downs ≡ Ok ds → relup_in v ≡ Ok (record { vsn = o.vsn; ups = us; downs = ds })
 both_read v o ups us ds outer is read also = parts v o ups us outer is read ∙ ap (join o.vsn (Ok us)) also
 
-tells : (vsn : List ℕ) (us : List EntryForm) (d : Result (List EntryForm) ℕ) (f : RelupFault) → TellsBad d f → TellsBad (join vsn (Ok us) d) f
-tells vsn us d (BadTerm e) h = absurd h
-tells vsn us (Ok ds) (BadShape n) h = absurd h
-tells vsn us (Err k) (BadShape n) h = h
-tells vsn us d NoMemory h = tt
+reports : (vsn : List ℕ) (us : List EntryForm) (d : Result (List EntryForm) ℕ) (f : RelupFault) → ReportsBad d f → ReportsBad (join vsn (Ok us) d) f
+reports vsn us d (BadTerm e) h = absurd h
+reports vsn us (Ok ds) (BadShape n) h = absurd h
+reports vsn us (Err k) (BadShape n) h = h
+reports vsn us d NoMemory h = tt
 
 pub bad_down : (v : Value) (o : Outer) (ups : List Term) (us : List EntryForm) (result : Result Relup RelupFault) (f : RelupFault)
     → Some o ≡ outer_in v → o.ups ≡ members_of ups → entries_in 0 (members_of ups) ≡ Ok us
-    → TellsBad (entries_in (length ups) o.downs) f → IsErr result × IsErrAnd result (λ g. g ≡ f)
-    → MatchResult result (λ r. relup_in v ≡ Ok (relup_of r)) (TellsBad (relup_in v))
-bad_down v o ups us (Ok r) f outer is read told same = absurd same.1
-bad_down v o ups us (Err g) f outer is read told same =
-    subst (λ h. TellsBad (relup_in v) h) (sym same.1)
-    (subst (λ d. TellsBad d f) (sym (parts v o ups us outer is read)) (tells o.vsn us (entries_in (length ups) o.downs) f told))
+    → ReportsBad (entries_in (length ups) o.downs) f → IsErr result × IsErrAnd result (λ g. g ≡ f)
+    → MatchResult result (λ r. relup_in v ≡ Ok (relup_of r)) (ReportsBad (relup_in v))
+bad_down v o ups us (Ok r) f outer is read reported same = absurd same.1
+bad_down v o ups us (Err g) f outer is read reported same =
+    subst (λ h. ReportsBad (relup_in v) h) (sym same.1)
+    (subst (λ d. ReportsBad d f) (sym (parts v o ups us outer is read)) (reports o.vsn us (entries_in (length ups) o.downs) f reported))

@@ -46,9 +46,9 @@ from_outer (Some o) = join o.vsn (entries_in 0 o.ups) (entries_in (count o.ups) 
 abbrev pub relup_in : Value → Result RelupForm ℕ
 relup_in v = from_outer (outer_in v)
 
--- told of this number, or out of memory
-abbrev pub TellsBad : {A : Type 0} → Result A ℕ → RelupFault → Type 0
-TellsBad o (BadTerm e) = ⊥
-TellsBad (Ok r) (BadShape n) = ⊥
-TellsBad (Err k) (BadShape n) = n ≡ k
-TellsBad o NoMemory = Unit {0}
+-- reported of this number, or out of memory
+abbrev pub ReportsBad : {A : Type 0} → Result A ℕ → RelupFault → Type 0
+ReportsBad o (BadTerm e) = ⊥
+ReportsBad (Ok r) (BadShape n) = ⊥
+ReportsBad (Err k) (BadShape n) = n ≡ k
+ReportsBad o NoMemory = Unit {0}

@@ -3,7 +3,7 @@ ghost use Rattle.std.specs.Prelude.{◌≡◌, ◌+◌, ◌<◌, ◌^◌, length
 ghost use Rattle.std.specs.Option.{option_map};
 ghost use Rattle.erl_term.specs.Value.{members_of, value_of};
 ghost use Rattle.relup_file.specs.Relup.{entry_of, relup_of};
-ghost use Rattle.relup_file.specs.Parts.{entry_in, entries_in, relup_in, TellsBad};
+ghost use Rattle.relup_file.specs.Parts.{entry_in, entries_in, relup_in, ReportsBad};
 
 use crate::outline::outer_in;
 use crate::{Relup, RelupEntry, RelupFault};
@@ -41,7 +41,7 @@ fn entries_in(alloc: Global, before: usize, terms: &[Term]) -> Result<Vec<RelupE
     requires { before + length terms.now < 2 ^ 63 }
     ensures { MatchResult result
         (λ v. entries_in before (members_of terms.now) ≡ Ok (map entry_of v.items))
-        (TellsBad (entries_in before (members_of terms.now))) }
+        (ReportsBad (entries_in before (members_of terms.now))) }
 {
     let mut entries = Vec::with_capacity(alloc, terms.len())?;
     for (i, term) in terms.iter().enumerate() {
@@ -57,7 +57,7 @@ fn entries_in(alloc: Global, before: usize, terms: &[Term]) -> Result<Vec<RelupE
 pub(crate) fn relup_in(alloc: Global, term: &Term) -> Result<Relup, RelupFault>
     ensures { MatchResult result
         (λ r. relup_in (value_of term.now) ≡ Ok (relup_of r))
-        (TellsBad (relup_in (value_of term.now))) }
+        (ReportsBad (relup_in (value_of term.now))) }
 {
     let Some(outline) = outer_in(alloc, term)? else {
         return Err(RelupFault::BadShape(0));

@@ -95,12 +95,12 @@ of_name key m seen k b is new = ap (λ s. not (contains_by (λ (x : Bor (List �
 pub kept_more : (key : MentionForm → List ℕ) (ms : List Mention) (i : ℕ) (m : Mention) (seen more : Seen) (k : Bor (List ℕ)) (added : Bool) (kept pushed now_kept : List Mention) → i < length ms → get_or ms i m ≡ m
     → k.now ≡ key (mention_of m) → Updates (λ (x y : Bor (List ℕ)). slice_cmp nat_cmp x.now y.now) seen more k true
     → added ≡ not (contains (λ (x y : Bor (List ℕ)). slice_cmp nat_cmp x.now y.now) seen k) → added ≡ true → now_kept ≡ pushed → pushed ≡ kept ++ (m ∷ []) → KeepsFirsts key ms i seen kept → KeepsFirsts key ms (i + 1) more now_kept
-kept_more key ms i m seen more k added kept pushed now_kept within at is put tells new same grown keeps =
+kept_more key ms i m seen more k added kept pushed now_kept within at is put reports new same grown keeps =
     let rest = map mention_of (drop (i + 1) ms) in
     ap (λ ns. map mention_of ns ++ new_firsts key more rest) (same ∙ grown)
     ∙ ap (λ ns. ns ++ new_firsts key more rest) (map-append mention_of kept (m ∷ []))
     ∙ append_assoc (map mention_of kept) (mention_of m ∷ []) (new_firsts key more rest)
-    ∙ ap (λ ns. map mention_of kept ++ ns) (sym (new_first key seen more k (mention_of m) rest is (of_name key (mention_of m) seen k true is (sym tells ∙ new)) put))
+    ∙ ap (λ ns. map mention_of kept ++ ns) (sym (new_first key seen more k (mention_of m) rest is (of_name key (mention_of m) seen k true is (sym reports ∙ new)) put))
     ∙ ap (λ ns. map mention_of kept ++ new_firsts key seen ns) (sym (from_place ms i m within at))
     ∙ keeps
 
@@ -108,7 +108,7 @@ kept_more key ms i m seen more k added kept pushed now_kept within at is put tel
 pub kept_same : (key : MentionForm → List ℕ) (ms : List Mention) (i : ℕ) (m : Mention) (seen more : Seen) (k : Bor (List ℕ)) (added : Bool) (kept now_kept : List Mention) → i < length ms → get_or ms i m ≡ m
     → k.now ≡ key (mention_of m) → Updates (λ (x y : Bor (List ℕ)). slice_cmp nat_cmp x.now y.now) seen more k true
     → added ≡ not (contains (λ (x y : Bor (List ℕ)). slice_cmp nat_cmp x.now y.now) seen k) → added ≡ false → now_kept ≡ kept → KeepsFirsts key ms i seen kept → KeepsFirsts key ms (i + 1) more now_kept
-kept_same key ms i m seen more k added kept now_kept within at is put tells old same keeps =
-    ap₂ (λ ns os. map mention_of ns ++ os) same (sym (no_first key seen more k (mention_of m) (map mention_of (drop (i + 1) ms)) is (of_name key (mention_of m) seen k false is (sym tells ∙ old)) put))
+kept_same key ms i m seen more k added kept now_kept within at is put reports old same keeps =
+    ap₂ (λ ns os. map mention_of ns ++ os) same (sym (no_first key seen more k (mention_of m) (map mention_of (drop (i + 1) ms)) is (of_name key (mention_of m) seen k false is (sym reports ∙ old)) put))
     ∙ ap (λ ns. map mention_of kept ++ new_firsts key seen ns) (sym (from_place ms i m within at))
     ∙ keeps

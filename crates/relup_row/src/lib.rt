@@ -4,7 +4,7 @@
 //! A [`Way`] is between two releases. [`push_row`] writes what a row becomes behind the point of no return, cut into blocks
 //! and single instructions; [`push_added`] and [`push_removed`] what an application does that comes or goes.
 //! [`push_mentions`] and [`push_app_modules`] note the modules that are loaded, [`push_fetches`] writes the
-//! `load_object_code` for them, and [`push_written_fetches`] those that the appup has itself. [`row_asks_restart`] tells
+//! `load_object_code` for them, and [`push_written_fetches`] those that the appup has itself. [`row_asks_restart`] reports
 //! whether a `restart_emulator` has to be the last instruction. Each equals its definition in specs/Script or specs/Fetches.
 //! A module is found among n of an application in log n comparisons ([`ModuleNames`]).
 //!

@@ -133,13 +133,7 @@ pub fn push_written_fetches(
 fn asks_restart(instr: &AppupInstr) -> bool
     ensures { result ≡ asks_restart (appup_instruction_of instr.now) }
 {
-    match instr {
-        AppupInstr::LowLevel(instr) => match instr {
-            Instr::RestartEmulator => true,
-            _ => false,
-        },
-        _ => false,
-    }
+    matches!(instr, AppupInstr::LowLevel(Instr::RestartEmulator))
 }
 
 /// Whether a row asks for a restart of the runtime system.

@@ -233,9 +233,9 @@ at_instruction side is_last n i f e = go (is_supported i) (may_stand side is_las
     go true false q = let same : Misplaced n ≡ f = cc in inl (sym same)
     go false b q = let same : Unsupported n ≡ f = cc in inr (sym same)
 
-tells_wrong : (script : List Instruction) (f : ScriptFault) (n : ℕ) → HasWrong script f → (f ≡ Misplaced n) ⊎ (f ≡ Unsupported n) → IsScriptFault script f
-tells_wrong script f n h (inl same) = subst (IsScriptFault script) (sym same) (subst (HasWrong script) same h)
-tells_wrong script f n h (inr same) = subst (IsScriptFault script) (sym same) (subst (HasWrong script) same h)
+reports_wrong : (script : List Instruction) (f : ScriptFault) (n : ℕ) → HasWrong script f → (f ≡ Misplaced n) ⊎ (f ≡ Unsupported n) → IsScriptFault script f
+reports_wrong script f n h (inl same) = subst (IsScriptFault script) (sym same) (subst (HasWrong script) same h)
+reports_wrong script f n h (inr same) = subst (IsScriptFault script) (sym same) (subst (HasWrong script) same h)
 
 pub fault_is : (script : List Instruction) (f : ScriptFault) → script_fault script ≡ Some f → IsScriptFault script f
 fault_is script f e = go (split_point script) refl e
@@ -244,10 +244,10 @@ fault_is script f e = go (split_point script) refl e
         → option_or o (part_fault Late (length p.0 + 1) p.1) ≡ Some f → IsScriptFault script f
     on_sides p is one (Some g) early q =
         let first = from_part Early 0 p.0 f (early ∙ q) in
-        tells_wrong script f _ (record { before = p.0; after = p.1; is = (from_split script p is).0; one = one; first = inl first }) (at_instruction Early (is_end first.rest) _ first.wrong f first.fault)
+        reports_wrong script f _ (record { before = p.0; after = p.1; is = (from_split script p is).0; one = one; first = inl first }) (at_instruction Early (is_end first.rest) _ first.wrong f first.fault)
     on_sides p is one None early q =
         let first = from_part Late (length p.0 + 1) p.1 f q in
-        tells_wrong script f _ (record { before = p.0; after = p.1; is = (from_split script p is).0; one = one; first = inr (all_right Early 0 p.0 early, first) })
+        reports_wrong script f _ (record { before = p.0; after = p.1; is = (from_split script p is).0; one = one; first = inr (all_right Early 0 p.0 early, first) })
         (at_instruction Late (is_end first.rest) _ first.wrong f first.fault)
 
     behind : (p : Halves) → split_point script ≡ Some p → (o : Option Halves) → split_point p.1 ≡ o → (if is_some o then Some TwoPoints else sides p) ≡ Some f → IsScriptFault script f
@@ -297,15 +297,15 @@ is_fault script TwoPoints h = go (split_point script) refl
 is_fault script (Misplaced n) h = wrong script (Misplaced n) h
 is_fault script (Unsupported n) h = wrong script (Unsupported n) h
 
--- The clauses of a function that tells the fault.
+-- The clauses of a function that reports the fault.
 pub not_runnable : (script : List Instruction) (f : ScriptFault) → Some f ≡ script_fault script → IsRunnable script → ⊥
 not_runnable script f is h = let none = is_runnable script h in absurd cc
 
-pub tells_one : (script : List Instruction) (f : ScriptFault) → Some f ≡ script_fault script → (g : ScriptFault) → (f ≡ g → IsScriptFault script g) × (IsScriptFault script g → f ≡ g)
-tells_one script f is g = (λ same. fault_is script g (sym is ∙ ap Some same), λ h. let other = is_fault script g h in cc)
+pub reports_one : (script : List Instruction) (f : ScriptFault) → Some f ≡ script_fault script → (g : ScriptFault) → (f ≡ g → IsScriptFault script g) × (IsScriptFault script g → f ≡ g)
+reports_one script f is g = (λ same. fault_is script g (sym is ∙ ap Some same), λ h. let other = is_fault script g h in cc)
 
-pub tells_none : (script : List Instruction) → None ≡ script_fault script → (g : ScriptFault) → IsScriptFault script g → ⊥
-tells_none script is g h = let other = is_fault script g h in absurd cc
+pub reports_none : (script : List Instruction) → None ≡ script_fault script → (g : ScriptFault) → IsScriptFault script g → ⊥
+reports_none script is g h = let other = is_fault script g h in absurd cc
 
 -- Each of these may stand behind the point, whether it is run or not.
 abbrev pub MayFollow : List Instruction → Type 0

@@ -104,7 +104,7 @@ may_stand Late is_last i = may_follow i && (is_last || not (is_restart i))
 abbrev pub IsRight : Side → Bool → Instruction → Type 0
 IsRight side is_last i = IsTrue (is_supported i && may_stand side is_last i)
 
--- none stands behind an instruction with these behind it
+-- an instruction with these behind it is the last one
 abbrev pub is_end : List Instruction → Bool
 is_end is = length is == 0
 

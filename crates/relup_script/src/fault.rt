@@ -1,7 +1,7 @@
 //! Why a script isn't run.
 use std::fmt::{self, Display, Formatter};
 
-/// Why a script isn't run. An instruction is told by its place, counted from 1. It is shown by its name alone.
+/// Why a script isn't run. An instruction is reported by its place, counted from 1. It is shown by its name alone.
 #[derive(Clone, Copy, Debug)]
 pub enum ScriptFault {
     /// It has no point of no return.

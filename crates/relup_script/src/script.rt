@@ -20,7 +20,7 @@ pub(crate) enum Side {
 pub fn check(script: &[Instr]) -> Result<(), ScriptFault>
     ensures runnable { IsOk result ↔ IsRunnable (script_of script.now) }
 
-    // The fault is told that the script has.
+    // The fault is reported that the script has.
     ensures fault { (f : ScriptFault) → (result ≡ Err f) ↔ IsScriptFault (script_of script.now) f }
 {
     match fault_of(script) {

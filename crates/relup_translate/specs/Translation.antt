@@ -1,4 +1,5 @@
--- The relup between releases that the appups of the higher one say (OTP: systools:make_relup/3; the order of applications is this project's own).
+-- The relup between releases that the appups of the higher one say (OTP: systools:make_relup/3; the order of applications is this
+-- project's own).
 use Rattle.std.specs.Prelude.{ℕ, Bool, true, false, List, [], ◌∷◌, ◌++◌, map, reverse, Option, None, Some, is_some, Result, Ok, Err, if◌then◌else◌}
 use Rattle.std.specs.List.{filter_map}
 use Rattle.std.specs.Option.{option_and_then, option_or}
@@ -148,7 +149,7 @@ entry direction new other = record { vsn = other.vsn; descr = list no_values; sc
 abbrev pub release_fault : Direction → RelupReleaseForm → RelupReleaseForm → Option FaultForm
 release_fault direction new other = way_fault (way_between direction new other)
 
--- The first fault is told: of the upgrades, then of the downgrades, release by release.
+-- The first fault is reported: of the upgrades, then of the downgrades, release by release.
 abbrev pub fault_between : RelupReleaseForm → List RelupReleaseForm → List RelupReleaseForm → Option FaultForm
 fault_between new ups downs = option_or (first_fault (release_fault Up new) ups) (first_fault (release_fault Down new) downs)
 

@@ -1,5 +1,5 @@
 -- Calls that start applications.
-use Rattle.std.proofs.Common.{◌≡◌, ℕ, Bool, true, false, nat_lt, List, length, if◌then◌else◌, sym, ap, subst, subst₂, ◌∙◌, Option, None, Some, is_some, Ok}
+use Rattle.std.proofs.Common.{◌≡◌, ℕ, Bool, true, false, not, nat_lt, List, length, if◌then◌else◌, sym, ap, subst, subst₂, ◌∙◌, Option, None, Some, is_some, Ok}
 use Rattle.std.proofs.lemmas.Bool.{le-ltb, lt-ltb}
 use Rattle.std.specs.Option.{option_and_then}
 use Rattle.library.specs.Library.{Library}
@@ -16,6 +16,7 @@ use Rattle.script_progress.specs.Fault.{Cause, app_start_fault, start_fault, sta
 use Rattle.script_progress.specs.Fault.Cause.{no_table, no_slot, unsupported, no_memory}
 use Rattle.script_progress.specs.Script.{Run, scene_of, started_from, tables_among, with_scene}
 use Rattle.script_progress.specs.Steps.{HasDone, IsCause, Past, ProgressForm, followed_in}
+use Rattle.script_progress.specs.Stops.{may_start}
 
 -- what is loaded is found as it is listed
 pub tables_are : (past : Past) (a : ProgressForm) (tree : List App) (v : View) (next : Modules) → HasDone past a tree v → ((name : List ℕ) → next name ≡ module_named name a.next)
@@ -72,6 +73,19 @@ why_not past l NoSlot c why is =
 why_not past l NoMemory c why is =
     let same : no_memory ≡ c = cc is in
     subst (IsCause (start_fault (Some l) past.run)) same tt
+
+-- one that fails wasn't started yet
+was_new : (name : List ℕ) (top : Option (List ℕ)) (tables : Tables) (s : Scene) (e : StartError) (c : Cause) → IsWhyNot e name top tables s → start_cause e ≡ Some c → app_named name s.apps ≡ None
+was_new name top tables s AlreadyStarted c why is = absurd (cc is)
+was_new name top tables s (NoTable m) c why is = why.0
+was_new name top tables s Unsupported c why is = why.0
+was_new name top tables s NoSlot c why is = why.0
+was_new name top tables s NoMemory c why is = why
+
+pub start_asks : (past : Past) (l : Library) (a : ProgressForm) (tree : List App) (v : View) (tables : Tables) (e : StartError) (c : Cause) → HasDone past a tree v
+    → IsWhyNot e l.app.name l.app.top tables (scene_at (followed_in past) tree) → start_cause e ≡ Some c → may_start (Some l) past.run ≡ true
+start_asks past l a tree v tables e c done why is =
+    ap (λ (o : Option App). not (is_some o)) (ap (app_named l.app.name) (sym done.apps) ∙ was_new l.app.name l.app.top tables (scene_at (followed_in past) tree) e c why is)
 
 pub start_fails : (past : Past) (l : Library) (a : ProgressForm) (tree : List App) (v : View) (next : Modules) (e : StartError) (c : Cause) → HasDone past a tree v → ((name : List ℕ) → next name ≡ module_named name a.next)
     → IsWhyNot e l.app.name l.app.top (tables_of next) (scene_at (followed_in past) tree) → start_cause e ≡ Some c → IsCause (start_fault (Some l) past.run) c

@@ -49,24 +49,20 @@ error_on_no_child call raises =
     ((bytes_eq-Decides call.name (codes "erlang")).0 (left_true (bytes_eq call.name (codes "erlang")) (bytes_eq call.function (codes "error") && has_one call.args) raises))
 
 -- which call asks for memory
-pub asks_memory : {X : Type 0} (r : Result X Failure) → AsksMemory true r
-asks_memory (Ok x) = tt
-asks_memory (Err e) = λ _. refl
-
-pub error_memory : (call : CallForm) → is_error call ≡ true → call_takes_memory call ≡ true
-error_memory call raises = ap (λ (b : Bool). b || (if is_on_child call then child_takes_memory (child_call call) else app_takes_memory (app_call call))) raises
+pub error_memory : (s : Site) (seen : Values) (call : CallForm) (r : Run) → is_error call ≡ true → call_takes_memory s seen call r ≡ true
+error_memory s seen call r raises = ap (λ (b : Bool). b || (if is_on_child call then child_takes_memory seen (child_call call) r else app_takes_memory s (app_call call) r)) raises
 
 no_error : (call : CallForm) (name : List ℕ) → bytes_eq call.name name ≡ true → bytes_eq name (codes "erlang") ≡ false → is_error call ≡ false
 no_error call name is other =
     ap (λ (b : Bool). b && (bytes_eq call.function (codes "error") && has_one call.args)) (ap (λ (n : List ℕ). bytes_eq n (codes "erlang")) ((bytes_eq-Decides call.name name).0 is) ∙ other)
 
-app_memory : (call : CallForm) → bytes_eq call.name (codes "application") ≡ true → call_takes_memory call ≡ app_takes_memory (app_call call)
-app_memory call is =
-    ap₂ (λ (e k : Bool). e || (if k then child_takes_memory (child_call call) else app_takes_memory (app_call call))) (no_error call (codes "application") is refl) (app_on_no_child call is)
+app_memory : (s : Site) (seen : Values) (call : CallForm) (r : Run) → bytes_eq call.name (codes "application") ≡ true → call_takes_memory s seen call r ≡ app_takes_memory s (app_call call) r
+app_memory s seen call r is =
+    ap₂ (λ (e k : Bool). e || (if k then child_takes_memory seen (child_call call) r else app_takes_memory s (app_call call) r)) (no_error call (codes "application") is refl) (app_on_no_child call is)
 
-child_memory : (call : CallForm) → bytes_eq call.name (codes "supervisor") ≡ true → call_takes_memory call ≡ child_takes_memory (child_call call)
-child_memory call is =
-    ap₂ (λ (e k : Bool). e || (if k then child_takes_memory (child_call call) else app_takes_memory (app_call call))) (no_error call (codes "supervisor") is refl) is
+child_memory : (s : Site) (seen : Values) (call : CallForm) (r : Run) → bytes_eq call.name (codes "supervisor") ≡ true → call_takes_memory s seen call r ≡ child_takes_memory seen (child_call call) r
+child_memory s seen call r is =
+    ap₂ (λ (e k : Bool). e || (if k then child_takes_memory seen (child_call call) r else app_takes_memory s (app_call call) r)) (no_error call (codes "supervisor") is refl) is
 
 -- a call by this name is neither an error, nor one on a child; or it is one on a child
 on_app : (s : Site) (call : CallForm) (r : Run) → bytes_eq call.name (codes "application") ≡ true
@@ -133,7 +129,7 @@ raised s past call e a tree v done raises cause =
     record {
       then_view = v;
       fails = cause_seen past.first v r (call_fault s (values_seen v) call r) (cause_of e.cause) (subst (λ (f : Option Cause). IsCause f (cause_of e.cause)) (sym fault) cause) (seen_in past a tree v done);
-      stops = (λ _. error_memory call raises, λ on_child. absurd (true≢false (sym on_child ∙ child)));
+      stops = (λ _. error_memory s (values_seen v) call r raises, λ on_child. absurd (true≢false (sym on_child ∙ child)));
       since = longer_still v;
       longer = longer_still v;
       partly = subst (λ (cs : Courses). AllFollow past.first cs a.held v) (sym (ap (λ (b : Bool). if b then child_within (child_call call) e.modules r else r.courses) child)) done.follow;
@@ -141,7 +137,7 @@ raised s past call e a tree v done raises cause =
 
 -- a call on an application was made, or fails
 pub app_called : {X : Type 0} (s : Site) (past : Past) (call : CallForm) (r : Result X Failure) (a a' : ProgressForm) (tree tree' : List App) (v w : View) → HasDone past a tree v → AreLonger v w
-    → bytes_eq call.name (codes "application") ≡ true → CallsApp s past (app_call call) r a' tree' w → AsksMemory (app_takes_memory (app_call call)) r
+    → bytes_eq call.name (codes "application") ≡ true → CallsApp s past (app_call call) r a' tree' w → AsksMemory (app_takes_memory s (app_call call) past.run) r
     → CarriesOutLate s past (apply call) (on_no_child r) a' tree' v w
 app_called s past call (Ok x) a a' tree tree' v w done longer named called asks =
     let is = on_app s call past.run named in (
@@ -154,7 +150,7 @@ app_called s past call (Err e) a a' tree tree' v w done longer named called asks
       then_view = w;
       fails = cause_seen past.first w past.run (call_fault s (values_seen w) call past.run) (cause_of e.cause) (subst (λ (f : Option Cause). IsCause f (cause_of e.cause)) (sym (is.fault (values_seen w))) called.0)
           (seen_of past.first past.run past.run.courses a'.held w (λ p. refl) called.1);
-      stops = (λ m. app_memory call named ∙ asks m, λ on_child. absurd (true≢false (sym on_child ∙ app_on_no_child call named)));
+      stops = (λ m. app_memory s (values_seen w) call past.run named ∙ asks m, λ on_child. absurd (true≢false (sym on_child ∙ app_on_no_child call named)));
       since = longer;
       longer = longer_still w;
       partly = subst (λ (cs : Courses). AllFollow past.first cs a'.held w) (sym (is.courses e.modules)) called.1;
@@ -162,24 +158,24 @@ app_called s past call (Err e) a a' tree tree' v w done longer named called asks
 
 -- a call on a child of a supervisor was made, or fails
 pub child_called : (s : Site) (past : Past) (call : CallForm) (r : Result Bool Failure) (a : ProgressForm) (tree : List App) (v w : View)
-    → bytes_eq call.name (codes "supervisor") ≡ true → CallsChild past (child_call call) r a tree v w → AsksMemory (child_takes_memory (child_call call)) r
+    → bytes_eq call.name (codes "supervisor") ≡ true → CallsChild past (child_call call) r a tree v w
     → CarriesOutLate s past (apply call) r a tree v w
-child_called s past call (Ok stays) a tree v w named called asks =
+child_called s past call (Ok stays) a tree v w named called =
     let is = on_child s call past.run named in (
       (
         called.then_view,
-        (called.seen, is.fault (values_seen called.then_view) ∙ called.sound, called.told ∙ sym (is.stay (values_seen called.then_view))),
+        (called.seen, is.fault (values_seen called.then_view) ∙ called.sound, called.reported ∙ sym (is.stay (values_seen called.then_view))),
         called.since,
         called.longer,
       ),
       subst (λ (q : Run). HasDone (record past { run = q }) a tree w) (sym (is.run stays)) called.done,
     )
-child_called s past call (Err e) a tree v w named called asks =
+child_called s past call (Err e) a tree v w named called =
     let is = on_child s call past.run named in
     record {
       then_view = called.then_view;
       fails = subst (λ (f : Option Cause). IsCauseIn past.first called.then_view past.run f (cause_of e.cause)) (sym (is.fault (values_seen called.then_view))) called.fails;
-      stops = (λ m. child_memory call named ∙ asks m, λ on_child. (called.seen, called.counted));
+      stops = (λ m. child_memory s (values_seen called.then_view) call past.run named ∙ called.asks m, λ on_child. (called.seen, called.counted));
       since = called.since;
       longer = called.longer;
       partly = subst (λ (cs : Courses). AllFollow past.first cs a.held w) (sym (is.courses e.modules)) called.partly;

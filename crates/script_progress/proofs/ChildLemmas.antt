@@ -29,7 +29,7 @@ use Rattle.script_progress.specs.Fault.Cause.{no_super}
 use Rattle.script_progress.specs.InMemory.{cause_of}
 use Rattle.script_progress.specs.Script.{Run, child_after, child_stays_at, child_within, restarted_at, scene_of, tables_among}
 use Rattle.script_progress.specs.Steps.{HasDone, IsCause, IsSeen, Past, ProgressForm, followed_in}
-use Rattle.script_progress.specs.Stops.{child_count, child_goes, may_begin}
+use Rattle.script_progress.specs.Stops.{child_count, child_goes, is_memory, may_begin}
 use Rattle.script_progress.proofs.AppLemmas.{room_fault, scene_is, tables_are}
 use Rattle.script_progress.proofs.SeenLemmas.{cause_seen, seen_in, seen_of}
 use Rattle.held_processes.proofs.SlotLemmas.{longer_still}
@@ -59,7 +59,7 @@ without_super : (past : Past) (c : ChildCall) (hs : HeldSlots) (v w : View) → 
     → AllFollow past.first (child_within c 0 past.run) hs w → IsNotMade past c superless hs v w
 without_super past c hs v w since none follow partly =
     let seen = seen_of past.first past.run past.run.courses hs w (λ p. refl) follow in
-    record { then_view = w; fails = (none (values_seen w), seen); since = since; longer = longer_still w; seen = seen; counted = none_given_up (values_seen w) c past.run; partly = partly }
+    record { then_view = w; fails = (none (values_seen w), seen); asks = λ m. absurd (cc m); since = since; longer = longer_still w; seen = seen; counted = none_given_up (values_seen w) c past.run; partly = partly }
 
 -- the supervisors that are started are those of the script
 none_in : (past : Past) (name : List ℕ) (a : ProgressForm) (tree : List App) (v : View) → HasDone past a tree v → has_one_supervisor name tree ≡ false → has_one_supervisor name past.run.apps ≡ false
@@ -72,7 +72,7 @@ done_as past a tree tree' hs v w s done same follow = record { follow = follow; 
 
 -- any other call does nothing
 pub nothing_called : (past : Past) (a : ProgressForm) (tree : List App) (v : View) → HasDone past a tree v → IsMade past nothing false a tree v v
-nothing_called past a tree v done = record { then_view = v; seen = seen_in past a tree v done; sound = refl; told = refl; since = longer_still v; longer = longer_still v; done = done }
+nothing_called past a tree v done = record { then_view = v; seen = seen_in past a tree v done; sound = refl; reported = refl; since = longer_still v; longer = longer_still v; done = done }
 
 -- a child was terminated
 pub terminated : (past : Past) (name id : List ℕ) (a : ProgressForm) (tree tree' : List App) (hs : HeldSlots) (v w : View) → HasDone past a tree v → AreLonger v w
@@ -84,7 +84,7 @@ terminated past name id a tree tree' hs v w done longer is =
       then_view = v;
       seen = seen_in past a tree v done;
       sound = one_super name r None here.one;
-      told = refl;
+      reported = refl;
       since = longer_still v;
       longer = longer;
       done = done_as past a tree tree' hs v w (with_terminated name id (scene_of r)) done here.tree here.follow;
@@ -100,7 +100,7 @@ deleted past name id stays a tree tree' hs v w done is =
       then_view = here.stay.0;
       seen = here.stay.1;
       sound = one_super name r None here.one;
-      told = here.stay.2;
+      reported = here.stay.2;
       since = here.stay.3;
       longer = here.stay.4;
       done = by stays here.tree here.follow;
@@ -146,7 +146,7 @@ kept past name id a tree tree' hs v w done is = record {
   then_view = is.stay.0;
   seen = is.stay.1;
   sound = stays_sound (values_seen is.stay.0) name id past.run is.one (sym is.stay.2);
-  told = is.stay.2;
+  reported = is.stay.2;
   since = is.stay.3;
   longer = is.stay.4;
   done = done_as past a tree tree' hs v w (scene_of past.run) done is.tree is.follow;
@@ -166,7 +166,7 @@ begun past name id a tree tree' hs v w done is =
       then_view = is.stay.0;
       seen = is.stay.1;
       sound = begins_fault seen name id r p None is.one (sym goes) is.there is.sound ∙ room;
-      told = goes;
+      reported = goes;
       since = is.stay.3;
       longer = is.stay.4;
       done = subst (λ (o : Option Place). HasDone (record past { run = restarted_at name id o r }) (record a { held = hs }) tree' w) (sym is.there)
@@ -216,12 +216,13 @@ pub not_restarted : (past : Past) (name id : List ℕ) (x : NotRestarted) (e : F
 not_restarted past name id x e a tree tree' hs v w next done whole listed caused counted is =
     by x.error refl (subst₂ (λ (t : Tables) (s : Scene). RestartsIn past.first name id t s (Err x) tree' hs v w) (tables_are past a tree v next done listed) (scene_is past a tree v done) is)
   where
-    its : (c : Cause) (n : ℕ) → c ≡ cause_of e.cause → n ≡ e.modules → (u : View) → n ≡ child_count (values_seen u) c (restarts name id) past.run → IsSeen past.first past.run u → IsCause (child_call_fault (values_seen u) (restarts name id) past.run) c → AreLonger v u → AreLonger u w
+    its : (c : Cause) (n : ℕ) → c ≡ cause_of e.cause → n ≡ e.modules → (u : View) → n ≡ child_count (values_seen u) c (restarts name id) past.run → IsSeen past.first past.run u → IsCause (child_call_fault (values_seen u) (restarts name id) past.run) c → (is_memory c ≡ true → may_begin (values_seen u) name id past.run ≡ true) → AreLonger v u → AreLonger u w
         → AllFollow past.first (child_within (restarts name id) n past.run) hs w → IsNotMade past (restarts name id) e hs v w
-    its c n same number u counts seen fails since longer follow = record {
+    its c n same number u counts seen fails asks since longer follow = record {
       then_view = u;
       fails = cause_seen past.first u past.run (child_call_fault (values_seen u) (restarts name id) past.run) (cause_of e.cause)
           (subst (IsCause (child_call_fault (values_seen u) (restarts name id) past.run)) same fails) seen;
+      asks = λ m. asks (ap is_memory same ∙ m);
       since = since;
       longer = longer;
       seen = seen;
@@ -235,16 +236,17 @@ not_restarted past name id x e a tree tree' hs v w next done whole listed caused
         let goes : false ≡ child_stays_at (values_seen u) (restarts name id) past.run = f.stay.2 ∙ ap (child_stays UpOrTemporary (now_in (values_seen u) past.run.courses)) (sym f.there) in
         let given : x.given_up ≡ child_goes (restart_cause x.error) (child_place name id past.run.apps) past.run =
         f.given_up ∙ (goes_as x.error f.place past.run ∙ ap (λ (o : Option Place). child_goes (restart_cause x.error) o past.run) (sym f.there)) in
-        let begins : child_goes (restart_cause x.error) (child_place name id past.run.apps) past.run
+        let begins : may_begin (values_seen u) name id past.run ≡ true = ap₂ (λ (one stays : Bool). one && not stays) f.one (sym goes) in
+        let counts : child_goes (restart_cause x.error) (child_place name id past.run.apps) past.run
         ≡ (may_begin (values_seen u) name id past.run && child_goes (restart_cause x.error) (child_place name id past.run.apps) past.run) =
-        ap₂ (λ (one stays : Bool). (one && not stays) && child_goes (restart_cause x.error) (child_place name id past.run.apps) past.run) (sym f.one) goes in
-        its (restart_cause x.error) (if x.given_up then 1 else 0) (sym caused) (sym counted) u (ap (λ (b : Bool). if b then 1 else 0) (given ∙ begins)) f.stay.1 (why_not past name id (values_seen u) f.place x.error f.one (sym goes) f.there f.why) f.stay.3 f.stay.4
+        ap (λ (b : Bool). b && child_goes (restart_cause x.error) (child_place name id past.run.apps) past.run) (sym begins) in
+        its (restart_cause x.error) (if x.given_up then 1 else 0) (sym caused) (sym counted) u (ap (λ (b : Bool). if b then 1 else 0) (given ∙ counts)) f.stay.1 (why_not past name id (values_seen u) f.place x.error f.one (sym goes) f.there f.why) (λ _. begins) f.stay.3 f.stay.4
         (given_up_as past name id f.place x.given_up hs w f.there f.follow)
 
     by : (k : RestartError) → x.error ≡ k → FailsToRestart k past.first name id (tables_among past.run.modules) (scene_of past.run) x tree' hs v w → IsNotMade past (restarts name id) e hs v w
     by NoSuper named f =
         its no_super 0 (sym (caused ∙ ap restart_cause named)) (sym (counted ∙ ap (λ (b : Bool). if b then 1 else 0) f.1)) w (none_given_up (values_seen w) (restarts name id) past.run) (seen_of past.first past.run past.run.courses hs w (λ p. refl) f.3)
-        (not_one_super name past.run (restart_call_fault (child_stays_at (values_seen w) (restarts name id) past.run) name id past.run) f.0) whole (longer_still w) f.3
+        (not_one_super name past.run (restart_call_fault (child_stays_at (values_seen w) (restarts name id) past.run) name id past.run) f.0) (λ m. absurd (cc m)) whole (longer_still w) f.3
     by NoTable named f = gone f
     by Unsupported named f = gone f
     by NoSlot named f = gone f

@@ -1,5 +1,5 @@
 -- What calls on children of supervisors leave to each other.
-use Rattle.std.specs.Prelude.{◌≡◌, Bool, List, None, Result, Ok, Err}
+use Rattle.std.specs.Prelude.{◌≡◌, Bool, true, List, None, Result, Ok, Err}
 use Rattle.proc_table.specs.declared.view.View.{View}
 use Rattle.sup_tree.specs.declared.error.RestartError.{RestartError}
 use Rattle.sup_tree.specs.declared.error.RestartError.TheVariants.{NoSuper, NoTable, Unsupported, NoSlot, NoMemory}
@@ -16,7 +16,7 @@ use Rattle.script_progress.specs.Fault.Cause.{no_table, unsupported, no_slot, no
 use Rattle.script_progress.specs.InMemory.{cause_of}
 use Rattle.script_progress.specs.Script.{child_after, child_stays_at, child_within}
 use Rattle.script_progress.specs.Steps.{HasDone, IsCauseIn, IsSeen, Past, ProgressForm}
-use Rattle.script_progress.specs.Stops.{child_count}
+use Rattle.script_progress.specs.Stops.{child_count, child_takes_memory, is_memory}
 
 abbrev pub child_call_of : declared.ChildCall → ChildCall
 child_call_of (Terminates child) = terminates child.supervisor.now child.id.now
@@ -38,15 +38,16 @@ pub record IsMade (past : Past) (c : ChildCall) (stays : Bool) (a : ProgressForm
   pub then_view : View
   pub seen : IsSeen past.first past.run then_view
   pub sound : child_call_fault (values_seen then_view) c past.run ≡ None
-  pub told : stays ≡ child_stays_at (values_seen then_view) c past.run
+  pub reported : stays ≡ child_stays_at (values_seen then_view) c past.run
   pub since : AreLonger v then_view
   pub longer : AreLonger then_view w
   pub done : HasDone (record past { run = child_after c stays past.run }) a tree w
 
--- It fails. What stood for the child is given up, or isn't.
+-- It fails, and is out of memory only where it asks for memory. What stood for the child is given up, or isn't.
 pub record IsNotMade (past : Past) (c : ChildCall) (e : Failure) (hs : HeldSlots) (v w : View) : Type 0 where
   pub then_view : View
   pub fails : IsCauseIn past.first then_view past.run (child_call_fault (values_seen then_view) c past.run) (cause_of e.cause)
+  pub asks : is_memory (cause_of e.cause) ≡ true → child_takes_memory (values_seen then_view) c past.run ≡ true
   pub since : AreLonger v then_view
   pub longer : AreLonger then_view w
   pub seen : IsSeen past.first past.run then_view

@@ -18,11 +18,11 @@ use Rattle.started_members.specs.Begins.{restart_fault}
 use Rattle.sup_tree.specs.Tree.{app_named, supervises}
 use Rattle.app_members.specs.Walk.{StartFault, app_fault, app_starts}
 use Rattle.app_members.specs.Walk as walk
-use Rattle.held_processes.specs.Course.{Users}
+use Rattle.held_processes.specs.Course.{ModulesBySlot}
 use Rattle.held_processes.specs.Applications.{room_in}
 use Rattle.held_processes.specs.Operations.{Values, holds_user, is_used, lacks_row, uses_up}
 use Rattle.held_processes.specs.Restarts.{child_ended, restart_starts}
-use Rattle.script_progress.specs.Script.{Site, Run, changed_once, child_stays_at, library_for, mode_of, old_version, scene_of, tables_among, target_library, users_in, worker_in}
+use Rattle.script_progress.specs.Script.{Site, Run, changed_once, child_stays_at, library_for, mode_of, old_version, scene_of, tables_among, target_library, modules_by_slot_in, worker_in}
 use Rattle.script_progress.specs.Calls.{AppCall, ChildCall, app_call, child_call, is_on_child}
 use Rattle.script_progress.specs.Calls.AppCall.{starts, stops, idle}
 use Rattle.script_progress.specs.Calls.ChildCall.{terminates, deletes, restarts, nothing}
@@ -68,19 +68,19 @@ fetch_fault None names = Some no_library
 fetch_fault (Some l) names = if list_all (λ n. is_some (library_modules l n)) names then None else Some no_module
 
 -- A process runs the module, and no table of a worker was fetched.
-abbrev pub table_fault : Option WorkerTable → Users → List ℕ → Option Cause
+abbrev pub table_fault : Option WorkerTable → ModulesBySlot → List ℕ → Option Cause
 table_fault (Some w) users name = None
 table_fault None users name = if is_used users name then Some no_table else None
 
 -- the module wasn't fetched, or not with the table that its processes need
-abbrev pub load_fault : Option Module → Users → List ℕ → Option Cause
+abbrev pub load_fault : Option Module → ModulesBySlot → List ℕ → Option Cause
 load_fault None users name = Some not_fetched
 load_fault (Some m) users name = table_fault (worker_in (Some m)) users name
 
 -- whether a process of the module is held whose code can't be changed: there is no version to change it from, or no row
 abbrev pub is_stuck : Option OldVersion → ChangeForm → Values → Run → Bool
-is_stuck None c seen r = holds_user (users_in r) c.name r.courses
-is_stuck (Some old) c seen r = lacks_row old c.extra seen (users_in r) c.name r.courses
+is_stuck None c seen r = holds_user (modules_by_slot_in r) c.name r.courses
+is_stuck (Some old) c seen r = lacks_row old c.extra seen (modules_by_slot_in r) c.name r.courses
 
 -- one of these changes can't be made, behind those in front of it
 abbrev pub change_fault : Site → Direction → List ChangeForm → Values → Run → Option Cause
@@ -90,7 +90,7 @@ change_fault s mode (c ∷ cs) seen r =
 
 -- a process that is up runs the module, or a supervisor of a started application
 abbrev pub remove_fault : List ℕ → Values → Run → Option Cause
-remove_fault name seen r = if supervises name r.apps || uses_up seen (users_in r) name r.courses then Some in_use else None
+remove_fault name seen r = if supervises name r.apps || uses_up seen (modules_by_slot_in r) name r.courses then Some in_use else None
 
 abbrev pub walk_cause : StartFault → Cause
 walk_cause (walk.StartFault.no_table m) = no_table
@@ -148,7 +148,7 @@ call_fault s seen c r =
 -- Why an instruction fails behind what was done, where the histories that the handler has seen leave this; memory aside.
 abbrev pub fault : Site → Values → Run → Instruction → Option Cause
 fault s seen r (load_object_code f) = fetch_fault (library_for s f) f.modules
-fault s seen r (load p) = load_fault (module_named p.name r.fetched) (users_in r) p.name
+fault s seen r (load p) = load_fault (module_named p.name r.fetched) (modules_by_slot_in r) p.name
 fault s seen r (code_change c) = change_fault s (mode_of c.mode) c.changes seen r
 fault s seen r (remove p) = remove_fault p.name seen r
 fault s seen r (apply c) = call_fault s seen c r

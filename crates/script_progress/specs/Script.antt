@@ -24,8 +24,8 @@ use Rattle.sup_tree.specs.Tree.{App, app_named}
 use Rattle.held_processes.specs.Applications.{Scene, with_started, with_stopped}
 use Rattle.held_processes.specs.Children.{child_stays, with_deleted, with_terminated}
 use Rattle.held_processes.specs.Course as course
-use Rattle.held_processes.specs.Course.{Courses, Operation, Users, opening, on_module, on_all}
-use Rattle.held_processes.specs.Operations.{Values, now_in, part_way, users_of}
+use Rattle.held_processes.specs.Course.{Courses, Operation, ModulesBySlot, opening, on_module, on_all}
+use Rattle.held_processes.specs.Operations.{Values, now_in, part_way, modules_by_slot}
 use Rattle.held_processes.specs.Restarts.{child_ended, with_restarted}
 use Rattle.script_progress.specs.Calls.{AppCall, ChildCall, app_call, child_call, is_on_child}
 use Rattle.script_progress.specs.Calls.AppCall.{starts, stops, idle}
@@ -51,11 +51,11 @@ pub record Run : Type 0 where
 abbrev pub began : Site → List App → Values → Run
 began s apps values = record { fetched = []; modules = s.loaded; apps = apps; values = values; courses = λ p. opening }
 
-abbrev pub users_in : Run → Users
-users_in r = users_of r.apps
+abbrev pub modules_by_slot_in : Run → ModulesBySlot
+modules_by_slot_in r = modules_by_slot r.apps
 
-abbrev pub with_courses : Run → (Users → Courses → Courses) → Run
-with_courses r f = record r { courses = f (users_in r) r.courses }
+abbrev pub with_courses : Run → (ModulesBySlot → Courses → Courses) → Run
+with_courses r f = record r { courses = f (modules_by_slot_in r) r.courses }
 
 -- these modules of a library, in place of those of their names
 abbrev pub fetched_of : Library → List (List ℕ) → NamedModules → NamedModules
@@ -79,7 +79,7 @@ abbrev pub worker_in : Option Module → Option WorkerTable
 worker_in m = worker_table (option_and_then (λ (n : Module). n.table) m)
 
 -- each process of a module gets the table of a worker; nothing is done to one where another kind is loaded
-abbrev pub load_courses : Bool → List ℕ → Option WorkerTable → Users → Courses → Courses
+abbrev pub load_courses : Bool → List ℕ → Option WorkerTable → ModulesBySlot → Courses → Courses
 load_courses keep name None users cs = cs
 load_courses keep name (Some w) users cs = on_module users name (course.Operation.load keep w) cs
 
@@ -97,7 +97,7 @@ abbrev pub old_version : Site → Direction → List ℕ → Run → Option OldV
 old_version s Up name r = option_map up (version_in name s.loaded)
 old_version s Down name r = option_map down (option_or (version_in name r.fetched) (version_in name r.modules))
 
-abbrev pub change_courses : List ℕ → Option OldVersion → ChangeForm → Users → Courses → Courses
+abbrev pub change_courses : List ℕ → Option OldVersion → ChangeForm → ModulesBySlot → Courses → Courses
 change_courses name None c users cs = cs
 change_courses name (Some old) c users cs = on_module users name (course.Operation.change old c.extra) cs
 
@@ -130,7 +130,7 @@ mode_of None = Up
 mode_of (Some d) = d
 
 -- an operation on the processes of several modules, one module after another
-abbrev pub on_each : Operation → List (List ℕ) → Users → Courses → Courses
+abbrev pub on_each : Operation → List (List ℕ) → ModulesBySlot → Courses → Courses
 on_each op [] users cs = cs
 on_each op (n ∷ ns) users cs = on_each op ns users (on_module users n op cs)
 
@@ -161,7 +161,7 @@ called_after s (stops name) r = with_scene r (with_stopped name (scene_of r))
 called_after s idle r = r
 
 -- whether a call leaves the child that it is on as it is, where the histories that the handler has seen leave this: it is up, or
--- there is none
+-- there is none; or, where it is to begin again, its process began as a temporary one and still stands
 abbrev pub child_stays_at : Values → ChildCall → Run → Bool
 child_stays_at seen (deletes super id) r = child_stays stay.Up (now_in seen r.courses) (child_place super id r.apps)
 child_stays_at seen (restarts super id) r = child_stays stay.UpOrTemporary (now_in seen r.courses) (child_place super id r.apps)
@@ -204,22 +204,22 @@ run_after s early stays (apply c) r = call_after s c stays r
 run_after s early stays i r = r
 
 -- an operation that was done to the processes of so many of these modules, and of the next one to those in the slots below this
-abbrev pub each_within : Operation → List (List ℕ) → ℕ → ℕ → Users → Courses → Courses
+abbrev pub each_within : Operation → List (List ℕ) → ℕ → ℕ → ModulesBySlot → Courses → Courses
 each_within op [] n slot users cs = cs
 each_within op (m ∷ ms) zero slot users cs = part_way slot users m op cs
 each_within op (m ∷ ms) (suc n) slot users cs = each_within op ms n slot users (on_module users m op cs)
 
-abbrev pub load_within : Bool → List ℕ → Option WorkerTable → ℕ → Users → Courses → Courses
+abbrev pub load_within : Bool → List ℕ → Option WorkerTable → ℕ → ModulesBySlot → Courses → Courses
 load_within keep name None slot users cs = cs
 load_within keep name (Some w) slot users cs = part_way slot users name (course.Operation.load keep w) cs
 
-abbrev pub change_within : List ℕ → Option OldVersion → ChangeForm → ℕ → Users → Courses → Courses
+abbrev pub change_within : List ℕ → Option OldVersion → ChangeForm → ℕ → ModulesBySlot → Courses → Courses
 change_within name None c slot users cs = cs
 change_within name (Some old) c slot users cs = part_way slot users name (course.Operation.change old c.extra) cs
 
 abbrev pub changed_within : Site → Direction → List ChangeForm → ℕ → ℕ → Run → Courses
 changed_within s mode [] n slot r = r.courses
-changed_within s mode (c ∷ cs) zero slot r = change_within c.name (old_version s mode c.name r) c slot (users_in r) r.courses
+changed_within s mode (c ∷ cs) zero slot r = change_within c.name (old_version s mode c.name r) c slot (modules_by_slot_in r) r.courses
 changed_within s mode (c ∷ cs) (suc n) slot r = changed_within s mode cs n slot (changed_once s mode c r)
 
 -- What stood for a child that doesn't begin again was given up, or nothing was done yet.
@@ -233,8 +233,8 @@ call_within c n r = if is_on_child c then child_within (child_call c) n r else r
 -- The courses where an instruction failed: it was done for so many of its modules, and for the next one in the slots below this. A
 -- call that fails behind the point was done for one where what stood for its child was given up.
 abbrev pub courses_within : Site → Bool → Instruction → ℕ → ℕ → Run → Courses
-courses_within s early (suspend ss) n slot r = each_within course.Operation.suspend (suspended_in ss) n slot (users_in r) r.courses
-courses_within s early (load p) n slot r = load_within early p.name (worker_in (module_named p.name r.fetched)) slot (users_in r) r.courses
+courses_within s early (suspend ss) n slot r = each_within course.Operation.suspend (suspended_in ss) n slot (modules_by_slot_in r) r.courses
+courses_within s early (load p) n slot r = load_within early p.name (worker_in (module_named p.name r.fetched)) slot (modules_by_slot_in r) r.courses
 courses_within s early (code_change c) n slot r = changed_within s (mode_of c.mode) c.changes n slot r
 courses_within s false (apply c) n slot r = call_within c n r
 courses_within s early i n slot r = r.courses

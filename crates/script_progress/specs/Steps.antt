@@ -99,12 +99,12 @@ pub record IsFailed (s : Site) (past : Past) (i : Instruction) (e : Failure) (hs
   pub longer : AreLonger then_view w
   pub partly : AllFollow past.first (courses_within s false i e.modules e.slot past.run) hs w
 
--- It was carried out behind the point of no return, and this is told of the child that it is on; or it fails.
+-- It was carried out behind the point of no return, and this is reported of the child that it is on; or it fails.
 abbrev pub CarriesOutLate : Site → Past → Instruction → Result Bool Failure → ProgressForm → List App → View → View → Type 0
 CarriesOutLate s past i (Ok stays) a tree v w = IsCarriedOut s past false stays i a tree v w
 CarriesOutLate s past i (Err e) a tree v w = IsFailed s past i e a.held v w
 
--- what is told where an instruction is on no child
+-- what is reported where an instruction is on no child
 abbrev pub on_no_child : {X : Type 0} → Result X Failure → Result Bool Failure
 on_no_child (Ok x) = Ok false
 on_no_child (Err e) = Err e

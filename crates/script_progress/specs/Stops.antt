@@ -1,6 +1,7 @@
 -- How far an instruction comes that fails.
-use Rattle.std.specs.Prelude.{◌≡◌, ℕ, zero, suc, Bool, true, false, ◌&&◌, ◌||◌, not, nat_lt, List, [], ◌∷◌, Option, Some, None, Result, Ok, Err, if◌then◌else◌}
+use Rattle.std.specs.Prelude.{◌≡◌, ℕ, zero, suc, Bool, true, false, ◌&&◌, ◌||◌, not, nat_lt, List, [], ◌∷◌, is_some, Option, Some, None, Result, Ok, Err, if◌then◌else◌}
 use Rattle.std.specs.Option.{option_map_or}
+use Rattle.library.specs.Library.{Library}
 use Rattle.worker_table.specs.Table.{OldVersion}
 use Rattle.proc_table.specs.declared.view.View.{View}
 use Rattle.proc_table.specs.Agrees.{slots}
@@ -9,6 +10,7 @@ use Rattle.relup_instruction.specs.Instruction.{CallForm, ChangeForm, Instructio
 use Rattle.relup_instruction.specs.Instruction.Instruction.{load_object_code, suspend, load, code_change, apply}
 use Rattle.relup_script.specs.Script.{is_error}
 use Rattle.sup_tree.specs.Children.{child_place, has_one_supervisor}
+use Rattle.sup_tree.specs.Tree.{app_named}
 use Rattle.started_members.specs.Places.{Place}
 use Rattle.held_processes.specs.Children.{AreSeen}
 use Rattle.held_processes.specs.Operations.{Values, is_lowest, lacks_row_at, values_seen}
@@ -20,9 +22,9 @@ use Rattle.script_progress.specs.Calls.ChildCall.{restarts}
 use Rattle.script_progress.specs.Fault.{Cause, is_stuck}
 use Rattle.script_progress.specs.Fault.Cause.{no_memory, no_slot, no_super}
 use Rattle.script_progress.specs.InMemory.{cause_of}
-use Rattle.script_progress.specs.Script.{Run, Site, changed_once, child_stays_at, mode_of, old_version, users_in}
+use Rattle.script_progress.specs.Script.{Run, Site, changed_once, child_stays_at, mode_of, old_version, target_library, modules_by_slot_in}
 
--- A statement of each cause but out of memory, which may be told anywhere.
+-- A statement of each cause but out of memory, which may be reported anywhere.
 abbrev pub UnlessMemory : Cause → Type 0 → Type 0
 UnlessMemory no_memory P = Unit {0}
 UnlessMemory c P = P
@@ -31,7 +33,7 @@ UnlessMemory c P = P
 -- each slot will do.
 abbrev pub is_stuck_at : Option OldVersion → ChangeForm → ℕ → Values → Run → Bool
 is_stuck_at None c slot seen r = is_stuck None c seen r
-is_stuck_at (Some old) c slot seen r = nat_lt slot slots && is_lowest (lacks_row_at old c.extra seen (users_in r) c.name r.courses) slot
+is_stuck_at (Some old) c slot seen r = nat_lt slot slots && is_lowest (lacks_row_at old c.extra seen (modules_by_slot_in r) c.name r.courses) slot
 
 -- whether the change behind so many others is the first that can't be made, for the process in this slot
 abbrev pub is_first_stuck : Site → Direction → List ChangeForm → ℕ → ℕ → Values → Run → Bool
@@ -71,26 +73,33 @@ abbrev pub is_memory : Cause → Bool
 is_memory no_memory = true
 is_memory c = false
 
--- whether a call asks for memory: for what an application or a child needs that begins, or for the term of an error
-abbrev pub app_takes_memory : AppCall → Bool
-app_takes_memory (starts name) = true
-app_takes_memory call = false
+-- whether an application is there to start: the release has it, and it isn't started yet
+abbrev pub may_start : Option Library → Run → Bool
+may_start None r = false
+may_start (Some l) r = not (is_some (app_named l.app.name r.apps))
 
-abbrev pub child_takes_memory : ChildCall → Bool
-child_takes_memory (restarts super id) = true
-child_takes_memory call = false
+-- Whether a call asks for memory: for what an application or a child needs that is there to start or to begin again, or for the
+-- term of an error. A call that leaves all as it is asks for none.
+abbrev pub app_takes_memory : Site → AppCall → Run → Bool
+app_takes_memory s (starts name) r = may_start (target_library s name) r
+app_takes_memory s call r = false
 
-abbrev pub call_takes_memory : CallForm → Bool
-call_takes_memory c = is_error c || (if is_on_child c then child_takes_memory (child_call c) else app_takes_memory (app_call c))
+abbrev pub child_takes_memory : Values → ChildCall → Run → Bool
+child_takes_memory seen (restarts super id) r = may_begin seen super id r
+child_takes_memory seen call r = false
 
--- whether an instruction asks for memory
-abbrev pub takes_memory : Instruction → Bool
-takes_memory (load_object_code f) = true
-takes_memory (suspend ss) = true
-takes_memory (load p) = true
-takes_memory (code_change c) = true
-takes_memory (apply c) = call_takes_memory c
-takes_memory i = false
+abbrev pub call_takes_memory : Site → Values → CallForm → Run → Bool
+call_takes_memory s seen c r =
+    is_error c || (if is_on_child c then child_takes_memory seen (child_call c) r else app_takes_memory s (app_call c) r)
+
+-- whether an instruction asks for memory, where the histories that the handler has seen leave this
+abbrev pub takes_memory : Site → Values → Run → Instruction → Bool
+takes_memory s seen r (load_object_code f) = true
+takes_memory s seen r (suspend ss) = true
+takes_memory s seen r (load p) = true
+takes_memory s seen r (code_change c) = true
+takes_memory s seen r (apply c) = call_takes_memory s seen c r
+takes_memory s seen r i = false
 
 -- A call that fails is out of memory only if it asks for memory.
 abbrev pub AsksMemory : {X : Type 0} → Bool → Result X Failure → Type 0
@@ -99,4 +108,4 @@ AsksMemory asks (Err e) = is_memory (cause_of e.cause) ≡ true → asks ≡ tru
 
 -- It stops there, and is out of memory only if it asks for memory.
 abbrev pub StopsAt : View → Site → View → Run → Instruction → Cause → ℕ → ℕ → Type 0
-StopsAt first s v r i c n slot = (is_memory c ≡ true → takes_memory i ≡ true) × StopsIn first s v r i c n slot
+StopsAt first s v r i c n slot = (is_memory c ≡ true → takes_memory s (values_seen v) r i ≡ true) × StopsIn first s v r i c n slot

@@ -13,7 +13,7 @@ ghost use Rattle.script_progress.specs.Calls.AppCall.{stops};
 ghost use Rattle.script_progress.specs.Calls.{app_call, first_atom};
 ghost use Rattle.script_progress.specs.Script.{called_after, target_library};
 ghost use Rattle.script_progress.specs.Steps.{CarriesOutLate, HasDone, Past, progress_of};
-ghost use Rattle.script_progress.specs.Stops.{AsksMemory, app_takes_memory};
+ghost use Rattle.script_progress.specs.Stops.{AsksMemory, app_takes_memory, may_start};
 ghost use Rattle.held_processes.specs.Following.{AreLonger};
 
 use crate::cause::failure_at_start;
@@ -38,7 +38,7 @@ enum AppCall<'a> {
 }
 
 /// Makes a call on an application or on a child of a supervisor behind the point of no return, or raises the script's error. It
-/// tells whether a child was left as it is. Where it fails, the failure tells why, and whether what stood for a child was given
+/// reports whether a child was left as it is. Where it fails, the failure reports why, and whether what stood for a child was given
 /// up. It waits for processes that clients have.
 pub fn apply<R: Wait>(
     progress: &mut Progress,
@@ -80,7 +80,8 @@ fn call_app<R: Wait>(
     ensures longer { AreLonger seat.old.view seat.new.view }
     ensures called { CallsApp (site_of site.now) past (app_call_of call.entry)
         result (progress_of progress.new) progress.new.tree seat.new.view }
-    ensures memory { AsksMemory (app_takes_memory (app_call_of call.entry)) result }
+    ensures memory { AsksMemory
+        (app_takes_memory (site_of site.now) (app_call_of call.entry) past.run) result }
 {
     match call {
         AppCall::Starts(app) => match target_library(site, app) {
@@ -111,6 +112,7 @@ fn start_from<R: Wait>(
     ensures longer { AreLonger seat.old.view seat.new.view }
     ensures started { StartsFrom (Some (library_of library.now)) past
         result (progress_of progress.new) progress.new.tree seat.new.view }
+    ensures memory { AsksMemory (may_start (Some (library_of library.now)) past.run) result }
 {
     let Library { app, .. } = library;
     match progress.held.start_app(

@@ -15,8 +15,8 @@ pub enum Cause {
     NoModule,
     /// No instruction fetched the module before.
     NotFetched,
-    /// A process runs the module, and no table of a worker was fetched; or for a child that begins no table is loaded, or one of the
-    /// other kind, or a top has the table of a worker.
+    /// A process runs the module, and no table of a worker was fetched; or for a child that begins no table is loaded, or one of
+    /// the other kind, or a top has the table of a worker.
     NoTable,
     /// A process of the module is held and up, and no row of its table says how its code is changed; or one is held, and there is
     /// no version to change it from or to.
@@ -57,7 +57,7 @@ pub fn failure_at_start(cause: Cause) -> Failure
     }
 }
 
-/// What is told of an instruction that is on no child: it left none as it is, or it fails as it did.
+/// What is reported of an instruction that is on no child: it left none as it is, or it fails as it did.
 pub fn on_no_child(done: Result<(), Failure>) -> Result<bool, Failure>
     ensures { result ≡ on_no_child done }
 {

@@ -1,5 +1,5 @@
 //! Calls on children of supervisors (OTP: supervisor:terminate_child/2, delete_child/2 and restart_child/2).
-ghost use Rattle.std.specs.Prelude.{◌≡◌, false, if◌then◌else◌};
+ghost use Rattle.std.specs.Prelude.{◌≡◌, if◌then◌else◌};
 ghost use Rattle.erl_term.specs.Value.{members_of};
 ghost use Rattle.relup_instruction.specs.Instruction.{call_of};
 ghost use Rattle.script_progress.specs.Calls.ChildCall.{terminates, deletes, restarts};
@@ -7,7 +7,6 @@ ghost use Rattle.script_progress.specs.Calls.{child_call, second_atom};
 ghost use Rattle.script_progress.specs.Children.{CallsChild, child_call_of, restart_cause};
 ghost use Rattle.script_progress.specs.InMemory.{cause_of};
 ghost use Rattle.script_progress.specs.Steps.{HasDone, Past, progress_of};
-ghost use Rattle.script_progress.specs.Stops.{AsksMemory, child_takes_memory};
 ghost use Rattle.held_processes.specs.Following.{AreLonger};
 
 use crate::calls::first_atom;
@@ -29,7 +28,7 @@ pub(crate) enum ChildCall<'a> {
     Nothing,
 }
 
-// A call on a child of a supervisor, which tells whether the child was left as it is.
+// A call on a child of a supervisor, which reports whether the child was left as it is.
 pub(crate) fn call_child<R: Wait>(
     progress: &mut Progress,
     rt: &R,
@@ -46,7 +45,6 @@ pub(crate) fn call_child<R: Wait>(
     ensures called { CallsChild past (child_call_of call.entry)
         result (progress_of progress.new) progress.new.tree
         seat.old.view seat.new.view }
-    ensures memory { AsksMemory (child_takes_memory (child_call_of call.entry)) result }
 {
     match call {
         ChildCall::Terminates(child) => terminate_child(progress, rt, site, seat, &child),
@@ -72,7 +70,6 @@ fn terminate_child<R: Wait>(
     ensures called { CallsChild past (terminates child.now.supervisor.now child.now.id.now)
         result (progress_of progress.new) progress.new.tree
         seat.old.view seat.new.view }
-    ensures memory { AsksMemory false result }
 {
     match progress
         .held
@@ -99,7 +96,6 @@ fn delete_child<R: Wait>(
     ensures called { CallsChild past (deletes child.now.supervisor.now child.now.id.now)
         result (progress_of progress.new) progress.new.tree
         seat.old.view seat.new.view }
-    ensures memory { AsksMemory false result }
 {
     match progress
         .held
@@ -110,7 +106,7 @@ fn delete_child<R: Wait>(
     }
 }
 
-// The child begins again, with the tables that are loaded, unless it is up.
+// The child begins again, with the tables that are loaded, unless it stays.
 fn restart_child<R: Wait>(
     progress: &mut Progress,
     rt: &R,

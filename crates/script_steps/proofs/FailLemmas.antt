@@ -1,5 +1,5 @@
 -- How an instruction fails.
-use Rattle.std.proofs.Common.{◌≡◌, ◌∙◌, true, false, true≢false, List, Option, Result, Ok, Err, ap, subst, sym}
+use Rattle.std.proofs.Common.{◌≡◌, ◌∙◌, true, false, true≢false, List, Option, Result, Ok, Err, subst, sym}
 use Rattle.proc_table.specs.declared.view.View.{View}
 use Rattle.held_processes.proofs.SlotLemmas.{longer_still}
 use Rattle.held_processes.specs.Following.{AreLonger}
@@ -29,6 +29,6 @@ raises_early s past i call e a tree v is early done cause =
     let fault = error_fault s call (values_seen v) past.run raises in
     subst (λ (j : Instruction). CarriesOut {X = Unit {0}} s past true j (Err e) a tree v v) (sym is) (
       cause_seen past.first v past.run (call_fault s (values_seen v) call past.run) (cause_of e.cause) (subst (λ (f : Option Cause). IsCause f (cause_of e.cause)) (sym fault) cause) (seen_in past a tree v done),
-      (λ _. error_memory call raises, λ on_child. absurd (true≢false (sym on_child ∙ error_on_no_child call raises))),
+      (λ _. error_memory s (values_seen v) call past.run raises, λ on_child. absurd (true≢false (sym on_child ∙ error_on_no_child call raises))),
       done.follow,
     )

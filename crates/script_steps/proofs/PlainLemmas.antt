@@ -2,9 +2,9 @@
 use Rattle.std.proofs.Common.{◌≡◌, ℕ, ◌<◌, ◌+◌, List, String, map, take, length, get_or, string_bytes, refl, sym, ap, subst, ◌∙◌, Ok, Bool, true, false, None}
 use Rattle.std.specs.declared.alloc.Global.{Global}
 use Rattle.proc_table.specs.declared.view.View.{View}
-use Rattle.held_processes.specs.Course.{Courses, Operation, Users, on_module}
+use Rattle.held_processes.specs.Course.{Courses, Operation, ModulesBySlot, on_module}
 use Rattle.held_processes.specs.Following.{AllFollow, AreLonger, HeldSlots}
-use Rattle.held_processes.specs.Operations.{Values, users_of, values_seen}
+use Rattle.held_processes.specs.Operations.{Values, modules_by_slot, values_seen}
 use Rattle.relup_instruction.specs.Instruction.{Instruction}
 use Rattle.relup_instruction.specs.Instruction.Instruction.{purge, restart_emulator}
 use Rattle.sup_tree.specs.Tree.{App}
@@ -20,7 +20,7 @@ use Rattle.script_steps.proofs.RowLemmas.{more}
 use Rattle.script_progress.proofs.SeenLemmas.{seen_in}
 
 -- it is done to the processes of one module more
-pub done_more : (op : Operation) (names : List (String Global)) (i : ℕ) (n : String Global) (m : List ℕ) (users : Users) (cs : Courses) → i < length names → n ≡ get_or names i n → m ≡ string_bytes n
+pub done_more : (op : Operation) (names : List (String Global)) (i : ℕ) (n : String Global) (m : List ℕ) (users : ModulesBySlot) (cs : Courses) → i < length names → n ≡ get_or names i n → m ≡ string_bytes n
     → on_each op (map string_bytes (take (i + 1) names)) users cs ≡ on_module users m op (on_each op (map string_bytes (take i names)) users cs)
 done_more op names i n m users cs within at named =
     let before = map string_bytes (take i names) in
@@ -44,13 +44,13 @@ plain_run s Stop names r = refl
 plain_run s Start names r = refl
 
 pub plain_carried : (s : Site) (past : Past) (plain : Plain) (names : List (List ℕ)) (a : ProgressForm) (hs : HeldSlots) (tree : List App) (v w : View) → HasDone past a tree v → AreLonger v w
-    → AllFollow past.first (on_each (plain_operation plain) names (users_of tree) past.run.courses) hs w
+    → AllFollow past.first (on_each (plain_operation plain) names (modules_by_slot tree) past.run.courses) hs w
     → CarriesOut {X = Unit {0}} s past false (plain_instruction plain names) (Ok tt) (record a { held = hs }) tree v w
 plain_carried s past plain names a hs tree v w done longer follow = (
   (v, (seen_in past a tree v done, plain_is_sound s plain names v past.run, sym (plain_stays plain names (values_seen v) past.run)), longer_still v, longer),
   subst (λ (r : Run). HasDone (record past { run = r }) (record a { held = hs }) tree w) (sym (plain_run s plain names past.run))
       (record {
-        follow = subst (λ (apps : List App). AllFollow past.first (on_each (plain_operation plain) names (users_of apps) past.run.courses) hs w) done.apps follow;
+        follow = subst (λ (apps : List App). AllFollow past.first (on_each (plain_operation plain) names (modules_by_slot apps) past.run.courses) hs w) done.apps follow;
         fetched = done.fetched;
         next = done.next;
         apps = done.apps;

@@ -2,7 +2,7 @@
 use Rattle.std.proofs.Common.{◌≡◌, ℕ, ◌||◌, Bool, false, List, if◌then◌else◌, refl, sym, ap, ◌∙◌, None, Some, Ok}
 use Rattle.proc_table.specs.declared.view.View.{View}
 use Rattle.held_processes.specs.Following.{AllFollow, AreLonger}
-use Rattle.held_processes.specs.Operations.{uses_up, users_of, values_seen}
+use Rattle.held_processes.specs.Operations.{uses_up, modules_by_slot, values_seen}
 use Rattle.relup_instruction.specs.Instruction.{PurgingForm}
 use Rattle.relup_instruction.specs.Instruction.Instruction.{remove}
 use Rattle.loaded_modules.specs.Loaded.{NamedModules, without_module}
@@ -14,23 +14,23 @@ use Rattle.script_progress.specs.Steps.{CarriesOut, HasDone, Past, ProgressForm}
 use Rattle.held_processes.proofs.SlotLemmas.{longer_still}
 use Rattle.script_progress.proofs.SeenLemmas.{seen_of}
 
--- whether the module runs somewhere, as it was told, is as the script knows it
-told_here : (past : Past) (name : List ℕ) (a : ProgressForm) (tree : List App) (v w : View) → HasDone past a tree v
-    → (supervises name tree || uses_up (values_seen w) (users_of tree) name past.run.courses) ≡ (supervises name past.run.apps || uses_up (values_seen w) (users_of past.run.apps) name past.run.courses)
-told_here past name a tree v w done =
-    λ j. supervises name (done.apps j) || uses_up (values_seen w) (users_of (done.apps j)) name past.run.courses
+-- whether the module runs somewhere, as it was reported, is as the script knows it
+reported_here : (past : Past) (name : List ℕ) (a : ProgressForm) (tree : List App) (v w : View) → HasDone past a tree v
+    → (supervises name tree || uses_up (values_seen w) (modules_by_slot tree) name past.run.courses) ≡ (supervises name past.run.apps || uses_up (values_seen w) (modules_by_slot past.run.apps) name past.run.courses)
+reported_here past name a tree v w done =
+    λ j. supervises name (done.apps j) || uses_up (values_seen w) (modules_by_slot (done.apps j)) name past.run.courses
 
-nothing_told : (past : Past) (name : List ℕ) (a : ProgressForm) (tree : List App) (v w : View) (b : Bool) → HasDone past a tree v
-    → b ≡ (supervises name tree || uses_up (values_seen w) (users_of tree) name past.run.courses) → b ≡ false → remove_fault name (values_seen w) past.run ≡ None
-nothing_told past name a tree v w b done is unused =
-    ap (λ (c : Bool). if c then Some in_use else None) (sym (told_here past name a tree v w done) ∙ (sym is ∙ unused))
+nothing_reported : (past : Past) (name : List ℕ) (a : ProgressForm) (tree : List App) (v w : View) (b : Bool) → HasDone past a tree v
+    → b ≡ (supervises name tree || uses_up (values_seen w) (modules_by_slot tree) name past.run.courses) → b ≡ false → remove_fault name (values_seen w) past.run ≡ None
+nothing_reported past name a tree v w b done is unused =
+    ap (λ (c : Bool). if c then Some in_use else None) (sym (reported_here past name a tree v w done) ∙ (sym is ∙ unused))
 
 -- nothing runs it
 pub removed_well : (s : Site) (past : Past) (p : PurgingForm) (m : List ℕ) (a : ProgressForm) (next : NamedModules) (tree : List App) (v w : View) (b : Bool) → HasDone past a tree v → AreLonger v w
-    → AllFollow past.first past.run.courses a.held w → m ≡ p.name → b ≡ (supervises p.name tree || uses_up (values_seen w) (users_of tree) p.name past.run.courses) → b ≡ false → next ≡ without_module m a.next
+    → AllFollow past.first past.run.courses a.held w → m ≡ p.name → b ≡ (supervises p.name tree || uses_up (values_seen w) (modules_by_slot tree) p.name past.run.courses) → b ≡ false → next ≡ without_module m a.next
     → CarriesOut {X = Unit {0}} s past false (remove p) (Ok tt) (record a { next = next }) tree v w
 removed_well s past p m a next tree v w b done longer follow named is unused removed = (
-  (w, (seen_of past.first past.run past.run.courses a.held w (λ p. refl) follow, nothing_told past p.name a tree v w b done is unused, refl), longer, longer_still w),
+  (w, (seen_of past.first past.run past.run.courses a.held w (λ p. refl) follow, nothing_reported past p.name a tree v w b done is unused, refl), longer, longer_still w),
   record {
     follow = follow;
     fetched = done.fetched;

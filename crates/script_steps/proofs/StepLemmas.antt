@@ -7,10 +7,10 @@ use Rattle.proc_table.specs.Agrees.{slots}
 use Rattle.std.proofs.lemmas.Bool.{lt-ltb}
 use Rattle.std.proofs.lemmas.List.{length-map, length-take-le}
 use Rattle.held_processes.specs.Course as course
-use Rattle.held_processes.specs.Course.{Courses, Operation, Users, on_module}
+use Rattle.held_processes.specs.Course.{Courses, Operation, ModulesBySlot, on_module}
 use Rattle.held_processes.specs.declared.steps.Undone.{Undone}
 use Rattle.held_processes.specs.Following.{AllFollow, AreLonger, HeldSlots}
-use Rattle.held_processes.specs.Operations.{Changes, FindsRows, IsDone, TellsHeldUser, Values, any_below, holds_user, is_lowest, lacks_row, lacks_row_at, part_way, users_of, values_seen}
+use Rattle.held_processes.specs.Operations.{Changes, FindsRows, IsDone, ReportsHeldUser, Values, any_below, holds_user, is_lowest, lacks_row, lacks_row_at, part_way, modules_by_slot, values_seen}
 use Rattle.relup_instruction.specs.declared.instruction.Direction.{Direction}
 use Rattle.relup_instruction.specs.declared.instruction.Direction.TheVariants.{Up}
 use Rattle.relup_instruction.specs.declared.instruction.Suspension.{Suspension}
@@ -23,7 +23,7 @@ use Rattle.script_progress.specs.declared.cause.Failure.{Failure}
 use Rattle.script_progress.specs.Fault.{Cause, change_fault, fetch_fault, is_stuck, load_fault, table_fault}
 use Rattle.script_progress.specs.Fault.Cause.{no_change, no_memory}
 use Rattle.script_progress.specs.InMemory.{cause_of}
-use Rattle.script_progress.specs.Script.{Run, Site, change_courses, change_within, changed, changed_once, changed_within, each_within, fetched_from, fetched_of, library_for, load_within, mode_of, old_version, on_each, processes_changed, supervisors_changed, suspended_in, tables_among, users_in, worker_in}
+use Rattle.script_progress.specs.Script.{Run, Site, change_courses, change_within, changed, changed_once, changed_within, each_within, fetched_from, fetched_of, library_for, load_within, mode_of, old_version, on_each, processes_changed, supervisors_changed, suspended_in, tables_among, modules_by_slot_in, worker_in}
 use Rattle.script_progress.specs.Steps.{CarriesOut, HasDone, IsCause, Past, ProgressForm, followed_in}
 use Rattle.script_progress.specs.Stops.{UnlessMemory, is_first_stuck, is_stuck_at}
 use Rattle.script_steps.specs.Steps.{AreDone, ChangesOnce, ChangesProcesses, FailsToChange, GivesTable}
@@ -37,12 +37,12 @@ use Rattle.script_steps.proofs.RowLemmas.{more, parted}
 
 -- the processes of all modules are suspended, or memory was refused
 pub suspended : (s : Site) (past : Past) (early : Bool) (ss : List SuspensionForm) (r : Result (Unit {0}) Failure) (a : ProgressForm) (tree : List App) (hs : HeldSlots) (v w : View) → HasDone past a tree v → AreLonger v w
-    → AreDone (followed_in past) (users_of tree) course.Operation.suspend (suspended_in ss) r hs w
+    → AreDone (followed_in past) (modules_by_slot tree) course.Operation.suspend (suspended_in ss) r hs w
     → CarriesOut s past early (suspend ss) r (record a { held = hs }) tree v w
 suspended s past early ss (Ok x) a tree hs v w done longer did = (
   (v, (seen_in past a tree v done, refl, refl), longer_still v, longer),
   record {
-    follow = subst (λ (as' : List App). AllFollow past.first (on_each course.Operation.suspend (suspended_in ss) (users_of as') past.run.courses) hs w) done.apps did;
+    follow = subst (λ (as' : List App). AllFollow past.first (on_each course.Operation.suspend (suspended_in ss) (modules_by_slot as') past.run.courses) hs w) done.apps did;
     fetched = done.fetched;
     next = done.next;
     apps = done.apps;
@@ -52,7 +52,7 @@ suspended s past early ss (Ok x) a tree hs v w done longer did = (
 suspended s past early ss (Err e) a tree hs v w done longer did = (
   memory_in past.first w past.run None (cause_of e.cause) did.0,
   (λ _. refl, tt),
-  subst (λ (as' : List App). AllFollow past.first (each_within course.Operation.suspend (suspended_in ss) e.modules e.slot (users_of as') past.run.courses) hs w) done.apps did.1,
+  subst (λ (as' : List App). AllFollow past.first (each_within course.Operation.suspend (suspended_in ss) e.modules e.slot (modules_by_slot as') past.run.courses) hs w) done.apps did.1,
 )
 
 names_of : (fs : List SuspensionForm) (f : SuspensionForm) (gs : List SuspensionForm) → suspended_in (fs ++ (f ∷ gs)) ≡ suspended_in fs ++ (f.name ∷ suspended_in gs)
@@ -60,7 +60,7 @@ names_of [] f gs = refl
 names_of (g ∷ fs) f gs = ap (λ (ns : List (List ℕ)). g.name ∷ ns) (names_of fs f gs)
 
 -- processes of one more module are suspended
-pub suspended_more : (ss : List Suspension) (i : ℕ) (s : Suspension) (users : Users) (cs : Courses) → i < length ss → s ≡ get_or ss i s
+pub suspended_more : (ss : List Suspension) (i : ℕ) (s : Suspension) (users : ModulesBySlot) (cs : Courses) → i < length ss → s ≡ get_or ss i s
     → on_each course.Operation.suspend (suspended_in (map suspension_of (take (i + 1) ss))) users cs
     ≡ on_module users (suspension_of s).name course.Operation.suspend (on_each course.Operation.suspend (suspended_in (map suspension_of (take i ss))) users cs)
 suspended_more ss i s users cs within at =
@@ -69,7 +69,7 @@ suspended_more ss i s users cs within at =
     ∙ each_push course.Operation.suspend (suspended_in (map suspension_of (take i ss))) (suspension_of s).name users cs)
 
 -- those of one module aren't
-pub suspended_within : (ss : List Suspension) (i : ℕ) (s : Suspension) (slot : ℕ) (users : Users) (cs : Courses) → i < length ss → s ≡ get_or ss i s
+pub suspended_within : (ss : List Suspension) (i : ℕ) (s : Suspension) (slot : ℕ) (users : ModulesBySlot) (cs : Courses) → i < length ss → s ≡ get_or ss i s
     → each_within course.Operation.suspend (suspended_in (map suspension_of ss)) i slot users cs
     ≡ part_way slot users (suspension_of s).name course.Operation.suspend (on_each course.Operation.suspend (suspended_in (map suspension_of (take i ss))) users cs)
 suspended_within ss i s slot users cs within at =
@@ -101,7 +101,7 @@ fetched_well s past early f a ms tree v done did = (
 )
 
 -- a module that was fetched is loaded, unless its processes can't get its table
-load_fault_is : (o : Option Module) (users : Users) (name : List ℕ) → IsSome o → load_fault o users name ≡ table_fault (worker_in o) users name
+load_fault_is : (o : Option Module) (users : ModulesBySlot) (name : List ℕ) → IsSome o → load_fault o users name ≡ table_fault (worker_in o) users name
 load_fault_is None users name there = absurd (cc there)
 load_fault_is (Some m) users name there = refl
 
@@ -113,7 +113,7 @@ pub loaded_well : (s : Site) (past : Past) (early : Bool) (p : PurgingForm) (a :
 loaded_well s past early p a n hs got before next tree tree' v w named there done longer given same kept stays loaded =
     let fetched : got ≡ past.run.fetched = same ∙ done.fetched in
     let modules : before ≡ past.run.modules = kept ∙ done.next in (
-      (v, (seen_in past a tree v done, load_fault_is (module_named p.name past.run.fetched) (users_in past.run) p.name there ∙ given.0, refl), longer_still v, longer),
+      (v, (seen_in past a tree v done, load_fault_is (module_named p.name past.run.fetched) (modules_by_slot_in past.run) p.name there ∙ given.0, refl), longer_still v, longer),
       record {
         follow = given.1;
         fetched = fetched;
@@ -128,9 +128,9 @@ pub load_of_nothing : (s : Site) (past : Past) (early : Bool) (p : PurgingForm) 
     → module_named p.name past.run.fetched ≡ None → HasDone past a tree v → e ≡ record { cause = NotFetched; modules = 0; slot = 0 }
     → CarriesOut {X = Unit {0}} s past early (load p) (Err e) a tree v v
 load_of_nothing s past early p e a tree v none done is = subst (λ (f : Failure). CarriesOut {X = Unit {0}} s past early (load p) (Err f) a tree v v) (sym is) (
-  (ap (λ (o : Option Module). load_fault o (users_in past.run) p.name) none, seen_in past a tree v done),
+  (ap (λ (o : Option Module). load_fault o (modules_by_slot_in past.run) p.name) none, seen_in past a tree v done),
   (λ _. refl, tt),
-  subst (λ (o : Option Module). AllFollow past.first (load_within early p.name (worker_in o) 0 (users_in past.run) past.run.courses) a.held v) (sym none) done.follow,
+  subst (λ (o : Option Module). AllFollow past.first (load_within early p.name (worker_in o) 0 (modules_by_slot_in past.run) past.run.courses) a.held v) (sym none) done.follow,
 )
 
 -- why a single change of code fails
@@ -143,23 +143,23 @@ stuck_by s mode c seen r o b there stuck = ap (λ (q : Option OldVersion). once_
 
 -- what a change comes to, by what is in the tree
 changes_by : (past : Past) (c : ChangeForm) (tree : List App) (n : List ℕ) (old : OldVersion) (a : ProgressForm) (hs : HeldSlots) (v : View) (r q : Result (Unit {0}) Undone) → n ≡ c.name
-    → HasDone past a tree v → Changes (users_of tree) n old c.extra a.held r hs → r ≡ q
-    → IsDone past.first (users_in past.run) c.name (course.Operation.change old c.extra) past.run.courses q hs v
-    × FindsRows old c.extra (values_seen v) (users_in past.run) c.name past.run.courses q
+    → HasDone past a tree v → Changes (modules_by_slot tree) n old c.extra a.held r hs → r ≡ q
+    → IsDone past.first (modules_by_slot_in past.run) c.name (course.Operation.change old c.extra) past.run.courses q hs v
+    × FindsRows old c.extra (values_seen v) (modules_by_slot_in past.run) c.name past.run.courses q
 changes_by past c tree n old a hs v r q named done changes is =
-    let at_q : Changes (users_of tree) n old c.extra a.held q hs = subst (λ (x : Result (Unit {0}) Undone). Changes (users_of tree) n old c.extra a.held x hs) is changes in
-    let here : Changes (users_in past.run) n old c.extra a.held q hs = subst (λ (as' : List App). Changes (users_of as') n old c.extra a.held q hs) done.apps at_q in
-    let its : Changes (users_in past.run) c.name old c.extra a.held q hs = subst (λ (m : List ℕ). Changes (users_in past.run) m old c.extra a.held q hs) named here in
+    let at_q : Changes (modules_by_slot tree) n old c.extra a.held q hs = subst (λ (x : Result (Unit {0}) Undone). Changes (modules_by_slot tree) n old c.extra a.held x hs) is changes in
+    let here : Changes (modules_by_slot_in past.run) n old c.extra a.held q hs = subst (λ (as' : List App). Changes (modules_by_slot as') n old c.extra a.held q hs) done.apps at_q in
+    let its : Changes (modules_by_slot_in past.run) c.name old c.extra a.held q hs = subst (λ (m : List ℕ). Changes (modules_by_slot_in past.run) m old c.extra a.held q hs) named here in
     its past.first past.run.courses v done.follow
 
 pub changed_by_row : (s : Site) (past : Past) (mode : Direction) (number : ℕ) (c : ChangeForm) (tree : List App) (n : List ℕ) (old : OldVersion) (a : ProgressForm) (hs : HeldSlots) (v : View) (r : Result (Unit {0}) Undone)
-    → n ≡ c.name → old_version s mode c.name past.run ≡ Some old → HasDone past a tree v → Changes (users_of tree) n old c.extra a.held r hs → r ≡ Ok tt
+    → n ≡ c.name → old_version s mode c.name past.run ≡ Some old → HasDone past a tree v → Changes (modules_by_slot tree) n old c.extra a.held r hs → r ≡ Ok tt
     → ChangesProcesses {X = Unit {0}} s past mode number c (Ok tt) (record a { held = hs }) tree v
 changed_by_row s past mode number c tree n old a hs v r named there done changes is =
     let did = changes_by past c tree n old a hs v r (Ok tt) named done changes is in (
       stuck_by s mode c (values_seen v) past.run (Some old) false there did.1,
       record {
-        follow = subst (λ (o : Option OldVersion). AllFollow past.first (change_courses c.name o c (users_in past.run) past.run.courses) hs v) (sym there) did.0;
+        follow = subst (λ (o : Option OldVersion). AllFollow past.first (change_courses c.name o c (modules_by_slot_in past.run) past.run.courses) hs v) (sym there) did.0;
         fetched = done.fetched;
         next = done.next;
         apps = done.apps;
@@ -168,14 +168,14 @@ changed_by_row s past mode number c tree n old a hs v r named there done changes
     )
 
 pub changed_without_row : (s : Site) (past : Past) (mode : Direction) (number : ℕ) (c : ChangeForm) (tree : List App) (n : List ℕ) (old : OldVersion) (a : ProgressForm) (hs : HeldSlots) (v : View) (r : Result (Unit {0}) Undone) (e : Undone) (k : Failure)
-    → n ≡ c.name → old_version s mode c.name past.run ≡ Some old → HasDone past a tree v → Changes (users_of tree) n old c.extra a.held r hs → r ≡ Err e
+    → n ≡ c.name → old_version s mode c.name past.run ≡ Some old → HasDone past a tree v → Changes (modules_by_slot tree) n old c.extra a.held r hs → r ≡ Err e
     → cause_of k.cause ≡ no_change → k.modules ≡ number → k.slot ≡ e.slot
     → ChangesProcesses {X = Unit {0}} s past mode number c (Err k) (record a { held = hs }) tree v
 changed_without_row s past mode number c tree n old a hs v r e k named there done changes is cause counted at =
     let did = changes_by past c tree n old a hs v r (Err e) named done changes is in
     let seen = values_seen v in
-    let test = lacks_row_at old c.extra seen (users_in past.run) c.name past.run.courses in
-    let lacks : lacks_row old c.extra seen (users_in past.run) c.name past.run.courses ≡ true =
+    let test = lacks_row_at old c.extra seen (modules_by_slot_in past.run) c.name past.run.courses in
+    let lacks : lacks_row old c.extra seen (modules_by_slot_in past.run) c.name past.run.courses ≡ true =
     any_found test slots e.slot did.1.0 (left_true (test e.slot) (not (any_below test e.slot)) did.1.1) in
     let here : is_stuck_at (old_version s mode c.name past.run) c k.slot seen past.run ≡ true =
     ap (λ (o : Option OldVersion). is_stuck_at o c k.slot seen past.run) there
@@ -183,32 +183,32 @@ changed_without_row s past mode number c tree n old a hs v r e k named there don
       subst (λ (x : Cause). IsCause (change_fault s mode (c ∷ []) seen past.run) x) (sym cause) (stuck_by s mode c seen past.run (Some old) true there lacks),
       counted,
       subst (λ (x : Cause). UnlessMemory x (is_stuck_at (old_version s mode c.name past.run) c k.slot seen past.run ≡ true)) (sym cause) here,
-      subst (λ (o : Option OldVersion). AllFollow past.first (change_within c.name o c k.slot (users_in past.run) past.run.courses) hs v) (sym there)
-          (subst (λ (m : ℕ). AllFollow past.first (part_way m (users_in past.run) c.name (course.Operation.change old c.extra) past.run.courses) hs v) (sym at) did.0),
+      subst (λ (o : Option OldVersion). AllFollow past.first (change_within c.name o c k.slot (modules_by_slot_in past.run) past.run.courses) hs v) (sym there)
+          (subst (λ (m : ℕ). AllFollow past.first (part_way m (modules_by_slot_in past.run) c.name (course.Operation.change old c.extra) past.run.courses) hs v) (sym at) did.0),
     )
 
-told_of : (past : Past) (c : ChangeForm) (tree : List App) (n : List ℕ) (a : ProgressForm) (v : View) (b : Bool) → n ≡ c.name → HasDone past a tree v → TellsHeldUser (users_of tree) n a.held b
-    → b ≡ holds_user (users_in past.run) c.name past.run.courses
-told_of past c tree n a v b named done told =
-    let here : TellsHeldUser (users_in past.run) n a.held b = subst (λ (as' : List App). TellsHeldUser (users_of as') n a.held b) done.apps told in
-    let its : TellsHeldUser (users_in past.run) c.name a.held b = subst (λ (m : List ℕ). TellsHeldUser (users_in past.run) m a.held b) named here in
+reported_of : (past : Past) (c : ChangeForm) (tree : List App) (n : List ℕ) (a : ProgressForm) (v : View) (b : Bool) → n ≡ c.name → HasDone past a tree v → ReportsHeldUser (modules_by_slot tree) n a.held b
+    → b ≡ holds_user (modules_by_slot_in past.run) c.name past.run.courses
+reported_of past c tree n a v b named done reported =
+    let here : ReportsHeldUser (modules_by_slot_in past.run) n a.held b = subst (λ (as' : List App). ReportsHeldUser (modules_by_slot as') n a.held b) done.apps reported in
+    let its : ReportsHeldUser (modules_by_slot_in past.run) c.name a.held b = subst (λ (m : List ℕ). ReportsHeldUser (modules_by_slot_in past.run) m a.held b) named here in
     its past.first past.run.courses v done.follow
 
 -- nothing of a change was done
 not_changed : (s : Site) (past : Past) (mode : Direction) (c : ChangeForm) (k : Failure) (a : ProgressForm) (tree : List App) (v : View) → HasDone past a tree v → k.slot ≡ 0
-    → AllFollow past.first (change_within c.name (old_version s mode c.name past.run) c k.slot (users_in past.run) past.run.courses) a.held v
+    → AllFollow past.first (change_within c.name (old_version s mode c.name past.run) c k.slot (modules_by_slot_in past.run) past.run.courses) a.held v
 not_changed s past mode c k a tree v done at =
-    follow_same past.first past.run.courses (change_within c.name (old_version s mode c.name past.run) c k.slot (users_in past.run) past.run.courses) a.held v
-    (λ p inside. sym (ap (λ (m : ℕ). change_within c.name (old_version s mode c.name past.run) c m (users_in past.run) past.run.courses p) at
-    ∙ change_none_within c.name (old_version s mode c.name past.run) c (users_in past.run) past.run.courses p)) done.follow
+    follow_same past.first past.run.courses (change_within c.name (old_version s mode c.name past.run) c k.slot (modules_by_slot_in past.run) past.run.courses) a.held v
+    (λ p inside. sym (ap (λ (m : ℕ). change_within c.name (old_version s mode c.name past.run) c m (modules_by_slot_in past.run) past.run.courses p) at
+    ∙ change_none_within c.name (old_version s mode c.name past.run) c (modules_by_slot_in past.run) past.run.courses p)) done.follow
 
 -- there is no version to change from, and a process is held
 pub held_without_version : (s : Site) (past : Past) (mode : Direction) (number : ℕ) (c : ChangeForm) (tree : List App) (n : List ℕ) (k : Failure) (a : ProgressForm) (v : View) (b : Bool) → n ≡ c.name
-    → old_version s mode c.name past.run ≡ None → HasDone past a tree v → TellsHeldUser (users_of tree) n a.held b → b ≡ true
+    → old_version s mode c.name past.run ≡ None → HasDone past a tree v → ReportsHeldUser (modules_by_slot tree) n a.held b → b ≡ true
     → cause_of k.cause ≡ no_change → k.modules ≡ number → k.slot ≡ 0 → ChangesProcesses {X = Unit {0}} s past mode number c (Err k) a tree v
-held_without_version s past mode number c tree n k a v b named none done told is_held cause counted at =
+held_without_version s past mode number c tree n k a v b named none done reported is_held cause counted at =
     let seen = values_seen v in
-    let held = sym (told_of past c tree n a v b named done told) ∙ is_held in (
+    let held = sym (reported_of past c tree n a v b named done reported) ∙ is_held in (
       subst (λ (x : Cause). IsCause (change_fault s mode (c ∷ []) seen past.run) x) (sym cause) (stuck_by s mode c seen past.run None true none held),
       counted,
       subst (λ (x : Cause). UnlessMemory x (is_stuck_at (old_version s mode c.name past.run) c k.slot seen past.run ≡ true)) (sym cause)
@@ -218,12 +218,12 @@ held_without_version s past mode number c tree n k a v b named none done told is
 
 -- there is none, and no process is held
 pub free_without_version : (s : Site) (past : Past) (mode : Direction) (number : ℕ) (c : ChangeForm) (tree : List App) (n : List ℕ) (a : ProgressForm) (v : View) (b : Bool) → n ≡ c.name
-    → old_version s mode c.name past.run ≡ None → HasDone past a tree v → TellsHeldUser (users_of tree) n a.held b → b ≡ false
+    → old_version s mode c.name past.run ≡ None → HasDone past a tree v → ReportsHeldUser (modules_by_slot tree) n a.held b → b ≡ false
     → ChangesProcesses {X = Unit {0}} s past mode number c (Ok tt) a tree v
-free_without_version s past mode number c tree n a v b named none done told is_free = (
-  stuck_by s mode c (values_seen v) past.run None false none (sym (told_of past c tree n a v b named done told) ∙ is_free),
+free_without_version s past mode number c tree n a v b named none done reported is_free = (
+  stuck_by s mode c (values_seen v) past.run None false none (sym (reported_of past c tree n a v b named done reported) ∙ is_free),
   record {
-    follow = subst (λ (o : Option OldVersion). AllFollow past.first (change_courses c.name o c (users_in past.run) past.run.courses) a.held v) (sym none) done.follow;
+    follow = subst (λ (o : Option OldVersion). AllFollow past.first (change_courses c.name o c (modules_by_slot_in past.run) past.run.courses) a.held v) (sym none) done.follow;
     fetched = done.fetched;
     next = done.next;
     apps = done.apps;
@@ -253,10 +253,10 @@ fails_once s past mode number c e (Ok x) a tree v fails passed = absurd passed
 fails_once s past mode number c e (Err k) a tree v fails passed = subst (λ (q : Failure). FailsToChange s past mode number c q a v) (sym passed) fails
 
 -- in all slots
-all_within : (users : Users) (name : List ℕ) (op : Operation) (cs : Courses) (p : ℕ) → p < slots → on_module users name op cs p ≡ part_way slots users name op cs p
+all_within : (users : ModulesBySlot) (name : List ℕ) (op : Operation) (cs : Courses) (p : ℕ) → p < slots → on_module users name op cs p ≡ part_way slots users name op cs p
 all_within users name op cs p inside = sym (ap (λ (b : Bool). if b then on_module users name op cs p else cs p) (lt-ltb p slots inside))
 
-change_all_within : (name : List ℕ) (old : Option OldVersion) (c : ChangeForm) (users : Users) (cs : Courses) (p : ℕ) → p < slots → change_courses name old c users cs p ≡ change_within name old c slots users cs p
+change_all_within : (name : List ℕ) (old : Option OldVersion) (c : ChangeForm) (users : ModulesBySlot) (cs : Courses) (p : ℕ) → p < slots → change_courses name old c users cs p ≡ change_within name old c slots users cs p
 change_all_within name None c users cs p inside = refl
 change_all_within name (Some old) c users cs p inside = all_within users name (course.Operation.change old c.extra) cs p inside
 
@@ -266,7 +266,7 @@ pub supervisors_not_changed : (s : Site) (past : Past) (mode : Direction) (numbe
     → ChangesOnce {X = Unit {0}} s past mode number c (Err k) b tree v
 supervisors_not_changed s past mode number c k a b before tree v did held cause counted at =
     let old = old_version s mode c.name past.run in
-    let users = users_in past.run in (
+    let users = modules_by_slot_in past.run in (
       subst (λ (x : Cause). IsCause (change_fault s mode (c ∷ []) (values_seen v) past.run) x) (sym cause) tt,
       counted,
       subst (λ (x : Cause). UnlessMemory x (is_stuck_at old c k.slot (values_seen v) past.run ≡ true)) (sym cause) tt,
@@ -298,7 +298,7 @@ fault_behind s mode (c ∷ cs) rest seen r none =
     behind_first (is_stuck (old_version s mode c.name r) c seen r) (change_fault s mode cs seen next) (change_fault s mode (cs ++ rest) seen next) (change_fault s mode rest seen (changed s mode cs next))
     (fault_behind s mode cs rest seen next) none
 
--- the first that fails tells why
+-- the first that fails reports why
 first_fails : (b : Bool) (o : Option Cause) (k : Cause) → IsCause (if b then Some no_change else None) k → IsCause (if b then Some no_change else o) k
 first_fails true o k is = is
 first_fails false o no_memory is = tt
@@ -349,7 +349,7 @@ change_stops s past early conversion mode number front c rest e a tree v moded p
     let why : IsCause (change_fault s mode (front ++ (c ∷ rest)) seen past.run) (cause_of e.cause) =
     subst (λ (o : Option Cause). IsCause o (cause_of e.cause)) (sym (fault_behind s mode front (c ∷ rest) seen past.run none))
     (first_fails (is_stuck (old_version s mode c.name behind) c seen behind) (change_fault s mode rest seen (changed_once s mode c behind)) (cause_of e.cause) once.0) in
-    let at : changed_within s mode (front ++ (c ∷ rest)) e.modules e.slot past.run ≡ change_within c.name (old_version s mode c.name behind) c e.slot (users_in behind) behind.courses =
+    let at : changed_within s mode (front ++ (c ∷ rest)) e.modules e.slot past.run ≡ change_within c.name (old_version s mode c.name behind) c e.slot (modules_by_slot_in behind) behind.courses =
     ap (λ (n : ℕ). changed_within s mode (front ++ (c ∷ rest)) n e.slot past.run) (once.1 ∙ sym long) ∙ changed_stopped s mode front c rest e.slot past.run in
     let its : AllFollow past.first (changed_within s mode (front ++ (c ∷ rest)) e.modules e.slot past.run) a.held v = subst (λ (cs : Courses). AllFollow past.first cs a.held v) (sym at) once.3 in
     let first : UnlessMemory (cause_of e.cause) (is_first_stuck s mode (front ++ (c ∷ rest)) e.modules e.slot seen past.run ≡ true) =

@@ -7,12 +7,12 @@ use Rattle.relup_instruction.specs.Instruction.{ChangeForm, Instruction}
 use Rattle.relup_instruction.specs.Instruction.Instruction.{apply}
 use Rattle.loaded_modules.specs.Loaded.{NamedModules, module_named}
 use Rattle.sup_tree.specs.Tree.{App}
-use Rattle.held_processes.specs.Course.{Operation, Users}
+use Rattle.held_processes.specs.Course.{Operation, ModulesBySlot}
 use Rattle.held_processes.specs.Following.{AllFollow, Followed, HeldSlots}
 use Rattle.held_processes.specs.Operations.{values_seen}
 use Rattle.script_progress.specs.declared.cause.Cause as declared
 use Rattle.script_progress.specs.declared.cause.Failure.{Failure}
-use Rattle.script_progress.specs.Script.{Site, change_within, changed_once, each_within, fetched_from, load_courses, load_within, old_version, on_each, processes_changed, users_in, worker_in}
+use Rattle.script_progress.specs.Script.{Site, change_within, changed_once, each_within, fetched_from, load_courses, load_within, old_version, on_each, processes_changed, modules_by_slot_in, worker_in}
 use Rattle.script_progress.specs.Fault.{change_fault, fetch_fault, table_fault}
 use Rattle.script_progress.specs.Fault.Cause.{no_memory}
 use Rattle.script_progress.specs.InMemory.{cause_of}
@@ -25,7 +25,7 @@ is_call (apply c) = true
 is_call i = false
 
 -- The operation was done to the processes of all these modules, or to some of them, since memory was refused.
-abbrev pub AreDone : {X : Type 0} → Followed → Users → Operation → List (List ℕ) → Result X Failure → HeldSlots → View → Type 0
+abbrev pub AreDone : {X : Type 0} → Followed → ModulesBySlot → Operation → List (List ℕ) → Result X Failure → HeldSlots → View → Type 0
 AreDone followed users op names (Ok x) hs v = AllFollow followed.first (on_each op names users followed.courses) hs v
 AreDone followed users op names (Err e) hs v =
     (cause_of e.cause ≡ no_memory) × AllFollow followed.first (each_within op names e.modules e.slot users followed.courses) hs v
@@ -38,18 +38,18 @@ Fetches l names ms (Err e) ms' = IsCause (fetch_fault l names) (cause_of e)
 -- The processes of a module got the table of a worker that was fetched, if any was; or they, or some of them, can't get it.
 abbrev pub GivesTable : {X : Type 0} → Past → Bool → List ℕ → Result X Failure → HeldSlots → View → Type 0
 GivesTable past early name (Ok x) hs v =
-    (table_fault (worker_in (module_named name past.run.fetched)) (users_in past.run) name ≡ None)
-    × AllFollow past.first (load_courses early name (worker_in (module_named name past.run.fetched)) (users_in past.run) past.run.courses) hs v
+    (table_fault (worker_in (module_named name past.run.fetched)) (modules_by_slot_in past.run) name ≡ None)
+    × AllFollow past.first (load_courses early name (worker_in (module_named name past.run.fetched)) (modules_by_slot_in past.run) past.run.courses) hs v
 GivesTable past early name (Err e) hs v =
-    IsCauseIn past.first v past.run (table_fault (worker_in (module_named name past.run.fetched)) (users_in past.run) name) (cause_of e.cause)
-    × AllFollow past.first (load_within early name (worker_in (module_named name past.run.fetched)) e.slot (users_in past.run) past.run.courses) hs v
+    IsCauseIn past.first v past.run (table_fault (worker_in (module_named name past.run.fetched)) (modules_by_slot_in past.run) name) (cause_of e.cause)
+    × AllFollow past.first (load_within early name (worker_in (module_named name past.run.fetched)) e.slot (modules_by_slot_in past.run) past.run.courses) hs v
 
 -- The change of code can't be made, behind so many others, for the process in this slot.
 abbrev pub FailsToChange : Site → Past → Direction → ℕ → ChangeForm → Failure → ProgressForm → View → Type 0
 FailsToChange s past mode number c e a v =
     IsCause (change_fault s mode (c ∷ []) (values_seen v) past.run) (cause_of e.cause) × (e.modules ≡ number)
     × UnlessMemory (cause_of e.cause) (is_stuck_at (old_version s mode c.name past.run) c e.slot (values_seen v) past.run ≡ true)
-    × AllFollow past.first (change_within c.name (old_version s mode c.name past.run) c e.slot (users_in past.run) past.run.courses) a.held v
+    × AllFollow past.first (change_within c.name (old_version s mode c.name past.run) c e.slot (modules_by_slot_in past.run) past.run.courses) a.held v
 
 -- It was made, or can't be made.
 abbrev pub ChangesOnce : {X : Type 0} → Site → Past → Direction → ℕ → ChangeForm → Result X Failure → ProgressForm → List App → View → Type 0

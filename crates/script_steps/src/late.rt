@@ -17,8 +17,8 @@ use script_progress::{Failure, Progress, Site, apply, on_no_child};
 use std::alloc::Global;
 use std::sync::Wait;
 
-/// Carries out an instruction that may stand behind the point of no return, and tells whether the child that it is on, if it
-/// is on one, was left as it is. By those before it, and by what was told of them, the caller's proof names what was done. It
+/// Carries out an instruction that may stand behind the point of no return, and reports whether the child that it is on, if it
+/// is on one, was left as it is. By those before it, and by what was reported of them, the caller's proof names what was done. It
 /// waits for processes that clients have.
 pub fn carry_out_late<R: Wait>(
     progress: &mut Progress,
@@ -27,7 +27,7 @@ pub fn carry_out_late<R: Wait>(
     site: &Site<'_>,
     seat: &mut HandlerSeat,
     _before: &[Instr],
-    _told: &[bool],
+    _reported: &[bool],
     instr: &Instr,
 ) -> Result<bool, Failure>
     ghost past: { Past }

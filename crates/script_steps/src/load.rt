@@ -1,5 +1,5 @@
 //! `load`: a module that was fetched is loaded, and processes get its table.
-ghost use Rattle.held_processes.specs.Operations.{is_used, users_of};
+ghost use Rattle.held_processes.specs.Operations.{is_used, modules_by_slot};
 ghost use Rattle.relup_instruction.specs.Instruction.Instruction.{load};
 ghost use Rattle.relup_instruction.specs.Instruction.{purging_of};
 ghost use Rattle.script_progress.specs.InMemory.{site_of};
@@ -134,7 +134,7 @@ fn worker_in<'a>(fetched: &'a Loaded, name: &str) -> Option<&'a Worker>
 
 // Whether a process runs the module.
 fn is_used(users: &Users<'_>) -> bool
-    ensures { result ≡ is_used (users_of users.now.tree.now) users.now.module.now }
+    ensures { result ≡ is_used (modules_by_slot users.now.tree.now) users.now.module.now }
 {
     for slot in 0..Pid::count() {
         if users.include(slot) {

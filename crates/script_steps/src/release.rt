@@ -2,7 +2,7 @@
 ghost use Rattle.std.specs.Prelude.{◌≡◌, Ok, false, map, string_bytes};
 ghost use Rattle.held_processes.specs.Course.{on_module};
 ghost use Rattle.held_processes.specs.Following.{AllFollow, AreLonger, Followed};
-ghost use Rattle.held_processes.specs.Operations.{users_of};
+ghost use Rattle.held_processes.specs.Operations.{modules_by_slot};
 ghost use Rattle.script_progress.specs.InMemory.{site_of};
 ghost use Rattle.script_steps.specs.Plain.{plain_instruction, plain_operation};
 ghost use Rattle.script_progress.specs.Script.{on_each};
@@ -67,7 +67,8 @@ fn do_all<R: Wait>(
     ensures table { seat.new.table ≡ seat.old.table }
     ensures longer { AreLonger seat.old.view seat.new.view }
     ensures done { AllFollow followed.first (on_each (plain_operation plain)
-        (map string_bytes names.now) (users_of tree.now) followed.courses) held.new seat.new.view }
+        (map string_bytes names.now) (modules_by_slot tree.now) followed.courses)
+        held.new seat.new.view }
 {
     for (i, name) in names.iter().enumerate() {
         let before = &names[..i];
@@ -99,7 +100,7 @@ fn do_next<R: Wait>(
     requires follow { AllFollow followed.first followed.courses held.old seat.old.view }
     ensures table { seat.new.table ≡ seat.old.table }
     ensures longer { AreLonger seat.old.view seat.new.view }
-    ensures done { AllFollow followed.first (on_module (users_of users.now.tree.now)
+    ensures done { AllFollow followed.first (on_module (modules_by_slot users.now.tree.now)
         users.now.module.now (plain_operation plain) followed.courses) held.new seat.new.view }
 {
     match plain {

@@ -1,7 +1,7 @@
 //! `remove`: a module isn't loaded any more.
 ghost use Rattle.std.specs.Prelude.{◌≡◌, ◌||◌, false};
 ghost use Rattle.held_processes.specs.Following.{AllFollow, AreLonger, Followed};
-ghost use Rattle.held_processes.specs.Operations.{uses_up, users_of, values_seen};
+ghost use Rattle.held_processes.specs.Operations.{uses_up, modules_by_slot, values_seen};
 ghost use Rattle.relup_instruction.specs.Instruction.{purging_of};
 ghost use Rattle.relup_instruction.specs.Instruction.Instruction.{remove};
 ghost use Rattle.script_progress.specs.InMemory.{site_of};
@@ -50,8 +50,8 @@ fn is_in_use<R: Wait>(
     requires follow { AllFollow followed.first followed.courses progress.now.held seat.old.view }
     ensures table { seat.new.table ≡ seat.old.table }
     ensures longer { AreLonger seat.old.view seat.new.view }
-    ensures told { result ≡ (supervises (purging_of purging.now).name progress.now.tree
-        || uses_up (values_seen seat.new.view) (users_of progress.now.tree)
+    ensures reported { result ≡ (supervises (purging_of purging.now).name progress.now.tree
+        || uses_up (values_seen seat.new.view) (modules_by_slot progress.now.tree)
         (purging_of purging.now).name followed.courses) }
     ensures follow { AllFollow followed.first followed.courses progress.now.held seat.new.view }
 {

@@ -1,7 +1,7 @@
 //! `suspend`: processes are held until they are resumed.
 ghost use Rattle.held_processes.specs.Course.Operation.{suspend};
 ghost use Rattle.held_processes.specs.Following.{AllFollow, AreLonger, Followed};
-ghost use Rattle.held_processes.specs.Operations.{IsDone, users_of};
+ghost use Rattle.held_processes.specs.Operations.{IsDone, modules_by_slot};
 ghost use Rattle.relup_instruction.specs.Instruction as instruction;
 ghost use Rattle.relup_instruction.specs.Instruction.{suspension_of};
 ghost use Rattle.script_progress.specs.InMemory.{site_of};
@@ -63,7 +63,7 @@ fn hold_all<R: Wait>(
     requires follow { AllFollow followed.first followed.courses held.old seat.old.view }
     ensures table { seat.new.table ≡ seat.old.table }
     ensures longer { AreLonger seat.old.view seat.new.view }
-    ensures done { AreDone followed (users_of tree.now) suspend
+    ensures done { AreDone followed (modules_by_slot tree.now) suspend
         (suspended_in (map suspension_of suspensions.now)) result held.new seat.new.view }
 {
     for (i, suspension) in suspensions.iter().enumerate() {
@@ -95,8 +95,9 @@ fn hold_next<R: Wait>(
     requires follow { AllFollow followed.first followed.courses held.old seat.old.view }
     ensures table { seat.new.table ≡ seat.old.table }
     ensures longer { AreLonger seat.old.view seat.new.view }
-    ensures done { IsDone followed.first (users_of tree.now) (suspension_of suspension.now).name
-        suspend followed.courses result held.new seat.new.view }
+    ensures done { IsDone followed.first (modules_by_slot tree.now)
+        (suspension_of suspension.now).name suspend followed.courses result held.new
+        seat.new.view }
 {
     let users = Users {
         tree,

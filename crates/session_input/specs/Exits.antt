@@ -1,4 +1,4 @@
--- How the program tells that a session ended before its input did.
+-- How the program reports that a session ended before its input did.
 use Rattle.std.specs.Prelude.{ℕ, List, codes}
 use Rattle.session_input.specs.declared.error.SessionError.{SessionError}
 use Rattle.session_input.specs.declared.error.SessionError.TheVariants.{Read, Write, Limit, NoMemory}

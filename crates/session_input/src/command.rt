@@ -12,7 +12,7 @@ pub enum Command {
     SetUnpacked(String),
     /// Installs the release of this version.
     Install(String),
-    /// Tells the version and the description of the entry by which the release of this version would be installed. It changes
+    /// Reports the version and the description of the entry by which the release of this version would be installed. It changes
     /// nothing.
     Check(String),
     /// Makes the release of this version, the current one, permanent.
@@ -23,7 +23,7 @@ pub enum Command {
     RebootOld(String),
     /// Boots the node on the disk.
     Boot,
-    /// Tells what the node starts.
+    /// Reports what the node starts.
     Start,
     /// Lists the node's releases.
     Releases,
@@ -31,7 +31,7 @@ pub enum Command {
     Procs,
     /// Lists the modules that the node has loaded.
     Modules,
-    /// Tells the state of a process: the name of its application, and its id there.
+    /// Reports the state of a process: the name of its application, and its id there.
     Peek(String, String),
     /// Calls a process: the name of its application, its id there, and the input.
     Call(String, String, u32),

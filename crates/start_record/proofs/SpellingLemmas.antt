@@ -1,4 +1,4 @@
--- A start slot spells one start at most, and which one its text tells.
+-- A start slot spells one start at most, and which one its text says.
 use Rattle.std.proofs.Common.{◌≡◌, ◌≢◌, ℕ, ◌<◌, ◌≤◌, Bool, true, List, [], ◌∷◌, ◌++◌, length, take, drop, get_or, Option, None, Some, Result, Ok, Err, IfSome, IsNone, Bor, refl, sym, ◌∙◌, ap, subst, arith}
 use Rattle.std.specs.Prelude.{All, MatchOption, MatchResult, slice_range}
 use Rattle.std.specs.List.{list_all, AllPass}
@@ -55,7 +55,7 @@ parted (x ∷ a) b (y ∷ c) d h k e =
     let rest = parted a b c d (and_parts _ _ h).1 (and_parts _ _ k).1 behind in
     ((λ i. first i ∷ rest.0 i), rest.1)
 
--- a text of a start tells its versions
+-- a text of a start says its versions
 same_start : (v w : Versions) → AreVersions v → AreVersions w → start_text v ≡ start_text w → v ≡ w
 same_start v w of_v of_w same =
     let parts = parted v.erts (v.vsn ++ 10 ∷ []) w.erts (w.vsn ++ 10 ∷ []) (are_visible v.erts of_v.0) (are_visible w.erts of_w.0) same in

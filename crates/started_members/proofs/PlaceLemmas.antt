@@ -177,27 +177,18 @@ pub range_there : (o : Option Place) (ms : List Member) (start end : ℕ) → Ar
 range_there None ms start end at = absurd at
 range_there (Some p) ms start end at = (p, refl, at)
 
--- what is left around a range that was taken out
-pub record IsLeft (p : Place) (start : ℕ) (ms : List Member) : Type 0 where
-  pub is : ms ≡ p.before ++ p.behind
-  pub start_is : start ≡ length p.before
-
-pub left_around : (p : Place) (ms : List Member) (start end : ℕ) → IsRange ms p start end → IsLeft p start (remove_range ms start end)
-left_around p ms start end at = let parts = around p ms start end at in record { is = λ j. parts.before j ++ parts.behind j; start_is = at.start_is }
-
--- others were put in there
-pub put_there : (p : Place) (start : ℕ) (ms new all : List Member) → IsLeft p start ms → all ≡ take start ms ++ (new ++ drop start ms) → all ≡ replaced (in_place new) p
-put_there p start ms new all left put =
-    put ∙ (λ j. ((λ k. take (left.start_is k) (left.is k)) ∙ take-append_seam p.before p.behind) j ++ (new ++ ((λ k. drop (left.start_is k) (left.is k)) ∙ drop-append_seam p.before p.behind) j))
+-- a range was taken out, and others were put in there
+pub put_there : (p : Place) (ms left new all : List Member) (start end : ℕ) → IsRange ms p start end → left ≡ remove_range ms start end → all ≡ take start left ++ (new ++ drop start left)
+    → all ≡ replaced (in_place new) p
+put_there p ms left new all start end at is put =
+    let parts = around p ms start end at in
+    let both : left ≡ p.before ++ p.behind = is ∙ (λ j. parts.before j ++ parts.behind j) in
+    put ∙ (λ j. ((λ k. take (at.start_is k) (both k)) ∙ take-append_seam p.before p.behind) j ++ (new ++ ((λ k. drop (at.start_is k) (both k)) ∙ drop-append_seam p.before p.behind) j))
 
 pub fewer_left : (p : Place) (ms left : List Member) (start end : ℕ) → IsRange ms p start end → left ≡ remove_range ms start end → length left ≤ length ms
 fewer_left p ms left start end at is =
+    let parts = around p ms start end at in
     let long : length ms ≡ length p.before + length (with_below p ++ p.behind) = ap length at.is ∙ length-append p.before (with_below p ++ p.behind) in
     let behind : length (with_below p ++ p.behind) ≡ length (with_below p) + length p.behind = length-append (with_below p) p.behind in
-    let short : length left ≡ length p.before + length p.behind = ap length (is ∙ (left_around p ms start end at).is) ∙ length-append p.before p.behind in
+    let short : length left ≡ length p.before + length p.behind = ap length (is ∙ (λ j. parts.before j ++ parts.behind j)) ∙ length-append p.before p.behind in
     omega (arith, long, behind, short)
-
-pub left_length : (p : Place) (start : ℕ) (ms : List Member) → IsLeft p start ms → start ≤ length ms
-left_length p start ms left =
-    let long : length ms ≡ length p.before + length p.behind = ap length left.is ∙ length-append p.before p.behind in
-    omega (arith, long, left.start_is)

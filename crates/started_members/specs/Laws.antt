@@ -39,8 +39,8 @@ FirstSlots = FreeFrom 0 (handler_view slots)
     × ((app : List ℕ) (ss : List Start) (n : ℕ) (v w : View) (ps : List StartedProcess) → FreeFrom n v → BeganInOrder app ss v ps w
     → AreFrom n ps × FreeFrom (n + length ps) w)
 
--- Where the supervisors of a module get other children, the processes are those from before, in another order: none is lost, and none
--- stands twice.
+-- Where the supervisors of a module get other children, the processes are those from before, in another order: none is lost, and
+-- none stands twice.
 abbrev pub KeepsProcesses : Type 0
 KeepsProcesses = (name : List ℕ) (cs : List ChildSpec) (ms : List Member)
     → IsPermutation (processes_among ms) (processes_among (members_changed name cs ms))

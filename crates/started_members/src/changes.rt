@@ -124,12 +124,10 @@ fn take_child(branches: &mut Vec<Branch>, id: &str) -> Option<Branch>
 fn place_of_id(branches: &[Branch], id: &str) -> Option<usize>
     ensures { IsPlaceOfId id.now branches.now result }
 {
-    let mut place = 0;
-    for branch in branches {
+    for (place, branch) in branches.iter().enumerate() {
         if branch.member.id.as_str() == id {
             return Some(place);
         }
-        place += 1;
     }
     None
 }

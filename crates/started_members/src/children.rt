@@ -41,8 +41,8 @@ pub fn terminate<R: Wait>(
     remove_below(members, start, end);
 }
 
-/// The child of this id of the first supervisor of this module among these members goes, unless it is up. It answers whether nothing
-/// was done: the child is up, or there is none.
+/// The child of this id of the first supervisor of this module among these members goes, unless it is up. It answers whether
+/// nothing was done: the child is up, or there is none.
 pub fn delete<R: Wait>(
     rt: &R,
     table: &ProcTable,

@@ -5,7 +5,8 @@ use std::alloc::{AllocError, Global};
 use std::sync::Wait;
 use std::thread::Threads;
 
-/// Behind each command of a session on a disk that never fails, none of them first: what was written by then, and what a boot tells.
+/// Behind each command of a session on a disk that never fails, none of them first: what was written by then, and what a boot
+/// reports.
 #[derive(Drop)]
 pub(crate) struct Expected {
     steps: Vec<Step>,
@@ -14,8 +15,8 @@ pub(crate) struct Expected {
 #[derive(Drop)]
 struct Step {
     written: String,
-    told: String,
-    // what a boot tells that comes in place of the one behind a restart: none where the command has none
+    reported: String,
+    // what a boot reports that comes in place of the one behind a restart: none where the command has none
     within: String,
 }
 
@@ -34,7 +35,7 @@ impl Expected {
         Ok(expected)
     }
 
-    // Notes what a session of these lines writes, and what a boot tells behind it.
+    // Notes what a session of these lines writes, and what a boot reports behind it.
     fn add<H: Threads + Wait + Sync>(
         &mut self,
         rt: &H,
@@ -43,13 +44,13 @@ impl Expected {
     ) -> Result<(), AllocError> {
         let disk = MemDisk::new(alloc, CAPACITY, LOG)?;
         let (disk, written) = run(rt, alloc, disk, lines.as_str())?;
-        let (_, told) = run(rt, alloc, disk, BOOT)?;
+        let (_, reported) = run(rt, alloc, disk, BOOT)?;
         let before = self.steps.last().map_or("", |step| step.written.as_str());
         let line = boot_line(written.as_str(), before);
-        let within = told_within(rt, alloc, lines, written.as_str(), line)?;
+        let within = reported_within(rt, alloc, lines, written.as_str(), line)?;
         self.steps.push(Step {
             written,
-            told,
+            reported,
             within,
         })?;
         Ok(())
@@ -73,21 +74,22 @@ impl Expected {
             .map_or("", |step| step.written.as_str())
     }
 
-    /// Whether a boot may tell this behind so many answers: what it tells behind these commands, or behind one more, or within that.
+    /// Whether a boot may report this behind so many answers: what it reports behind these commands, or behind one more, or within
+    /// that.
     pub(crate) fn explains(&self, answered: usize, boot: &str) -> bool {
         let next = answered.saturating_add(1);
-        self.tells(answered, boot) || self.tells(next, boot) || self.tells_within(next, boot)
+        self.reports(answered, boot) || self.reports(next, boot) || self.reports_within(next, boot)
     }
 
-    fn tells_within(&self, count: usize, boot: &str) -> bool {
+    fn reports_within(&self, count: usize, boot: &str) -> bool {
         self.steps.get(count).is_some_and(|step| !step.within.is_empty()
             && step.within.as_str() == boot)
     }
 
-    fn tells(&self, count: usize, boot: &str) -> bool {
+    fn reports(&self, count: usize, boot: &str) -> bool {
         self.steps
             .get(count)
-            .is_some_and(|step| step.told.as_str() == boot)
+            .is_some_and(|step| step.reported.as_str() == boot)
     }
 }
 
@@ -100,8 +102,8 @@ fn boot_line<'a>(text: &'a str, before: &str) -> &'a str {
     }
 }
 
-// What a boot tells that comes in place of this one: its line, and what stands behind it.
-fn told_within<H: Threads + Wait + Sync>(
+// What a boot reports that comes in place of this one: its line, and what stands behind it.
+fn reported_within<H: Threads + Wait + Sync>(
     rt: &H,
     alloc: Global,
     lines: String,

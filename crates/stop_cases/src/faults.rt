@@ -8,8 +8,9 @@ use std::thread::Threads;
 use text_cases::Answer;
 
 /// Appends for how many of the disk's calls it is so, up to the first for which it isn't, that where this call fails its command
-/// is answered Device, all behind it Dead up to the next boot, and that a boot behind the session tells what it had acknowledged, or
-/// that with the command which failed. The calls are those from the first that the command of number `from` makes, counted from 0.
+/// is answered Device, all behind it Dead up to the next boot, and that a boot behind the session reports what it had acknowledged,
+/// or that with the command which failed. The calls are those from the first that the command of number `from` makes, counted from
+/// 0.
 pub(crate) fn push_faults<H: Threads + Wait + Sync>(
     rt: &H,
     alloc: Global,
@@ -107,7 +108,7 @@ fn is_device_then_dead(text: &str, commands: &[String]) -> bool {
     lines.next().is_none()
 }
 
-// Whether the first of these commands is an installation, and this tells that it is done.
+// Whether the first of these commands is an installation, and this reports that it is done.
 fn is_installed(line: &str, commands: &[String]) -> bool {
     let installs = |command: &String| command.starts_with("install ");
     line.starts_with("ok ") && commands.first().is_some_and(installs)

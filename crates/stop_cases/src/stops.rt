@@ -17,7 +17,7 @@ const CRASHES: [Crash; 5] = [
 ];
 
 /// Appends for how many stops it is so, up to the first for which it isn't, that a boot of each image which a crash may then leave
-/// tells what the session had acknowledged, or that with the command in which it stopped. The stops are those in each call of the
+/// reports what the session had acknowledged, or that with the command in which it stopped. The stops are those in each call of the
 /// disk from the first of them that the command of number `from` makes, counted from 0.
 pub(crate) fn push_stops<H: Threads + Wait + Sync>(
     rt: &H,
@@ -85,7 +85,7 @@ fn is_explained<H: Threads + Wait + Sync>(
     Ok(explained && stopped.stop.stopped)
 }
 
-// Whether a boot of each image that a crash may leave of this disk tells what is expected behind so many answers.
+// Whether a boot of each image that a crash may leave of this disk reports what is expected behind so many answers.
 fn explains_images<H: Threads + Wait + Sync>(
     rt: &H,
     alloc: Global,
@@ -103,7 +103,7 @@ fn explains_images<H: Threads + Wait + Sync>(
     Ok(true)
 }
 
-// What a boot of these bytes tells.
+// What a boot of these bytes reports.
 fn boot_of<H: Threads + Wait + Sync>(
     rt: &H,
     alloc: Global,

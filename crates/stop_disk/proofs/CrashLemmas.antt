@@ -1,4 +1,4 @@
--- What a crash leaves is an image of the disk, told by places.
+-- What a crash leaves is an image of the disk, stated by places.
 use Rattle.std.proofs.Common.{◌≡◌, ◌⊎◌, ◌<◌, ◌≤◌, ◌+◌, ◌-◌, ℕ, Bool, true, false, ◌&&◌, ◌||◌, ⊎_elim, nat_le, nat_lt, List, [], ◌∷◌, ◌++◌, length, slice_index, if◌then◌else◌, inl, inr, arith, refl, subst, sym, ap, ◌∙◌, length-take}
 use Rattle.std.proofs.lemmas.Bool.Decides.{nat_tests}
 use Rattle.std.proofs.lemmas.List.{ext_get_or, get_or-take, take_all}

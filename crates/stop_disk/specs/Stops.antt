@@ -11,8 +11,8 @@ abbrev pub fate_of : Stop → Fate
 fate_of s = if nat_lt 0 s.left then Passes else if s.stopped then IsBehind else Stops
 
 -- the stop behind a call: a call nearer, or one refusal more
-abbrev pub after_call : Stop → Stop
-after_call s =
+abbrev pub stop_behind : Stop → Stop
+stop_behind s =
     if nat_lt 0 s.left then record s { left = s.left - 1 }
     else record { left = 0; stopped = true; refused = min (2 ^ 64 - 1) (s.refused + 1) }
 
@@ -23,7 +23,7 @@ all_failures failures f = min (2 ^ 64 - 1) (failures f.disk + f.stop.refused)
 -- A call that is passed on fails only where the disk within has failed. One that isn't fails, and leaves the disk within as it is
 -- once the disk has stopped.
 pub record StopsOrPasses {D : Type 0} (failures : D → ℕ) (old new : StopDisk D) (fails : Type 0) : Type 0 where
-  pub stop : new.stop ≡ after_call old.stop
+  pub stop : new.stop ≡ stop_behind old.stop
   pub passes : 0 < old.stop.left → fails → HasFailed (failures old.disk) (failures new.disk)
   pub refused : old.stop.left ≡ 0 → fails
   pub behind : old.stop.left ≡ 0 → old.stop.stopped ≡ true → new.disk ≡ old.disk

@@ -1,4 +1,4 @@
-//! A disk in memory that can tell what a crash leaves of it.
+//! A disk in memory that can report what a crash leaves of it.
 ghost use Rattle.std.specs.Prelude.{◌≡◌, ◌+◌, ◌≤◌, ◌↔◌, [], length, slice_range, IfOk, IsOk, IsErr, OnOk, OnErr};
 ghost use Rattle.rel_disk.specs.Calls.{wrote, cut_to, synced, content};
 ghost use Rattle.rel_disk.specs.Damage.{Torn, Cut, Follows, Within};

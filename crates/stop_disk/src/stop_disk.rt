@@ -2,7 +2,7 @@
 ghost use Rattle.std.specs.Prelude.{◌≡◌, ◌⊎◌, ◌+◌, ◌≤◌, ◌/◌, false, length, take, slice_range, IsErr, IfOk, OnOk};
 ghost use Rattle.rel_disk.specs.Damage.{overwritten, Torn, Cut, Follows, Within, Only};
 ghost use Rattle.rel_disk.specs.Moments.{Elapses, HasFailed};
-ghost use Rattle.stop_disk.specs.Stops.{all_failures, after_call, fate_of, StopsOrPasses};
+ghost use Rattle.stop_disk.specs.Stops.{all_failures, stop_behind, fate_of, StopsOrPasses};
 
 use rel_disk::{DeviceFault, Disk};
 
@@ -39,7 +39,7 @@ impl Stop {
     // Counts a call, and says what becomes of it.
     fn turn(&mut self) -> Fate
         ensures turn { result ≡ fate_of self.old }
-        ensures after { self.new ≡ after_call self.old }
+        ensures after { self.new ≡ stop_behind self.old }
     {
         if self.left > 0 {
             self.left -= 1;
@@ -90,7 +90,7 @@ impl<D: Disk> Disk for StopDisk<D> {
 
     fn len(&mut self) -> Result<u64, DeviceFault>
         ensures turn { StopsOrPasses D.failures self.old self.new (IsErr result) }
-        ensures whole { self.old.stop.left ≡ 0 → self.new.disk ≡ self.old.disk }
+        ensures nothing { self.old.stop.left ≡ 0 → self.new.disk ≡ self.old.disk }
 
         // As of every disk.
         ensures value { IfOk result (λ n. n ≡ length (D.seen self.old.disk)) }
@@ -111,7 +111,7 @@ impl<D: Disk> Disk for StopDisk<D> {
     fn read(&mut self, at: u64, buf: &mut [u8]) -> Result<(), DeviceFault>
         requires { at + length buf.old ≤ length (D.seen self.old.disk) }
         ensures turn { StopsOrPasses D.failures self.old self.new (IsErr result) }
-        ensures whole { self.old.stop.left ≡ 0 → self.new.disk ≡ self.old.disk }
+        ensures nothing { self.old.stop.left ≡ 0 → self.new.disk ≡ self.old.disk }
 
         // As of every disk.
         ensures bytes { OnOk result
@@ -163,7 +163,7 @@ impl<D: Disk> Disk for StopDisk<D> {
     fn cut(&mut self, len: u64) -> Result<(), DeviceFault>
         requires { len ≤ length (D.seen self.old.disk) }
         ensures turn { StopsOrPasses D.failures self.old self.new (IsErr result) }
-        ensures whole { self.old.stop.left ≡ 0 → self.new.disk ≡ self.old.disk }
+        ensures nothing { self.old.stop.left ≡ 0 → self.new.disk ≡ self.old.disk }
 
         // As of every disk.
         ensures cut { OnOk result (D.seen self.new.disk ≡ take len (D.seen self.old.disk)) }
@@ -183,7 +183,7 @@ impl<D: Disk> Disk for StopDisk<D> {
 
     fn sync(&mut self) -> Result<(), DeviceFault>
         ensures turn { StopsOrPasses D.failures self.old self.new (IsErr result) }
-        ensures whole { self.old.stop.left ≡ 0 → self.new.disk ≡ self.old.disk }
+        ensures nothing { self.old.stop.left ≡ 0 → self.new.disk ≡ self.old.disk }
 
         // As of every disk.
         ensures durable { OnOk result (Only (D.seen self.old.disk) (D.may_leave self.new.disk)) }

@@ -74,7 +74,7 @@ lifted {A} {B} tables app o change change' old new old' new' v r w same changed 
         record { sound = here.sound; after_end = here.after_end; ended = here.ended; processes = here.processes; began = here.began; is = changed (members_at (restart_members tables p.child) (pids_of here.processes)) here.is }
     by false (Some p) (Err e) here = (here.0, same here.1)
 
--- where exactly one supervisor of the module is started, its lack isn't told
+-- where exactly one supervisor of the module is started, its lack isn't reported
 pub with_one : (name id : List ℕ) (tables : Tables) (apps : List App) (v : View) (r : Result Bool RestartError) (apps' : List App) (w : View) → has_one_supervisor name apps ≡ true
     → Restarts tables (super_app name apps) (child_place name id apps) (λ (ms : List Member). apps_with (in_place ms) name id apps) apps v r apps' w → RestartsChild name id tables apps v r apps' w
 with_one name id tables apps v (Ok b) apps' w one is = (one, is)
@@ -90,7 +90,7 @@ with_one name id tables apps v (Err NoSuper) apps' w one is = absurd (by is.stay
     by false (Some p) here = here.0.0
 
 -- why a child has no members is why it doesn't begin again
-pub fault_told : (e : MembersError) (f : Option StartFault) → FaultIs e f → RestartFaultIs (restart_cause e) f
-fault_told (members.NoTable m) f is = (m.now, is)
-fault_told members.Unsupported f is = is
-fault_told members.NoMemory f is = tt
+pub fault_reported : (e : MembersError) (f : Option StartFault) → FaultIs e f → RestartFaultIs (restart_cause e) f
+fault_reported (members.NoTable m) f is = (m.now, is)
+fault_reported members.Unsupported f is = is
+fault_reported members.NoMemory f is = tt

@@ -30,7 +30,7 @@ members_cause (members.NoTable m) = NoTable m
 members_cause members.Unsupported = Unsupported
 members_cause members.NoMemory = NoMemory
 
--- an error is this fault, or none where there is none; or that no memory was left
+-- an error is this fault, or that no memory was left
 abbrev pub StartFaultIs : StartError → Option StartFault → Type 0
 StartFaultIs (NoTable m) f = f ≡ Some (no_table m.now)
 StartFaultIs Unsupported f = f ≡ Some unsupported
@@ -51,13 +51,13 @@ pub record AppStarted (name : List ℕ) (top : Option (List ℕ)) (tables : Tabl
   pub began : BeganInOrder name (app_starts tables top) v processes w
   pub tree : apps' ≡ apps ++ record { name = name; members = members_at (app_members tables top) (pids_of processes) } ∷ []
 
--- why it isn't started
+-- why it isn't started; memory is asked for only where it isn't yet
 abbrev pub IsWhy : StartError → List ℕ → Option (List ℕ) → Tables → List App → View → Type 0
 IsWhy AlreadyStarted name top tables apps v = IsSome (app_named name apps)
 IsWhy (NoTable m) name top tables apps v = (app_named name apps ≡ None) × (app_fault tables top ≡ Some (no_table m.now))
 IsWhy Unsupported name top tables apps v = (app_named name apps ≡ None) × (app_fault tables top ≡ Some unsupported)
 IsWhy NoSlot name top tables apps v = (app_named name apps ≡ None) × (app_fault tables top ≡ None) × (free_count v < length (app_starts tables top))
-IsWhy NoMemory name top tables apps v = Unit {0}
+IsWhy NoMemory name top tables apps v = app_named name apps ≡ None
 
 -- The application is started, or nothing is.
 abbrev pub StartsApp : {X : Type 0} → List ℕ → Option (List ℕ) → Tables → List App → View → Result X StartError → List App → View → Type 0

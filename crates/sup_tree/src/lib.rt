@@ -9,8 +9,9 @@
 //! supervisor.
 //!
 //! Children change as well. [`Tree::change_children`] gives the supervisors of a module the children of another table
-//! (specs/Changes). [`Tree::terminate_child`] ends one child of the one supervisor of a module, and [`Tree::delete_child`] takes one
-//! away (specs/Children); [`Tree::restart_child`] begins one again (specs/Restarts). The last two leave a child that is up as it is.
+//! (specs/Changes). [`Tree::terminate_child`] ends one child of the one supervisor of a module, and [`Tree::delete_child`] takes
+//! one away (specs/Children); [`Tree::restart_child`] begins one again (specs/Restarts). The last two leave a child that is up as
+//! it is.
 //!
 //! Only tested: that an application starts where memory is there. Trusted: the toolchain alone.
 #![tactic(auto)]

@@ -37,12 +37,10 @@ impl Tree {
 fn place_of(apps: &[StartedApp], name: &str) -> Option<usize>
     ensures { IsPlaceOf name.now apps.now result }
 {
-    let mut place = 0;
-    for app in apps {
+    for (place, app) in apps.iter().enumerate() {
         if app.name.as_str() == name {
             return Some(place);
         }
-        place += 1;
     }
     None
 }

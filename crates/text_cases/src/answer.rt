@@ -2,7 +2,7 @@
 use std::alloc::{AllocError, Global};
 use std::fmt;
 
-/// An answer that grows. What finds no memory is told at the end, so that what appends to it has no failure of its own to
+/// An answer that grows. What finds no memory is reported at the end, so that what appends to it has no failure of its own to
 /// hand on.
 #[derive(Drop)]
 pub struct Answer {

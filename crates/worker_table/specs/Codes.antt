@@ -1,4 +1,4 @@
--- By what proofs tell tables apart: each part of a table as a tree of numbers, and no two alike.
+-- By what proofs distinguish tables: each part of a table as a tree of numbers, and no two alike.
 use Rattle.std.proofs.Common.{◌≡◌, ℕ, List}
 use Rattle.std.specs.Coded.{Coded, coded×, coded_ℕ, coded_ℤ, coded_list}
 use base.Stored.{Gv, gnil, gnum, gcons}

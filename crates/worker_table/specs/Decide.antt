@@ -1,4 +1,4 @@
--- What a worker's table decides: the first row that fits; docs/RULES.md tells it in words.
+-- What a worker's table decides: the first row that fits; docs/RULES.md has it in words.
 use Rattle.std.specs.Prelude.{ℕ, ◌+◌, ◌%◌, ◌^◌, ◌==◌, Bool, false, ◌&&◌, List, Option, unwrap_or}
 use Rattle.std.specs.List.{find}
 use Rattle.std.specs.Option.{option_map}

@@ -1,4 +1,4 @@
--- The terms of workers' tables; docs/RULES.md tells the format.
+-- The terms of workers' tables; docs/RULES.md gives the format.
 use Rattle.std.specs.Prelude.{ℕ, pos, ◌<◌, ◌^◌, [], ◌∷◌, map, codes}
 use Rattle.std.specs.List.{AllByRecursion}
 use Rattle.erl_term.specs.Value.{Value}

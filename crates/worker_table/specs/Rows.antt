@@ -1,4 +1,4 @@
--- The rows of a worker's table, from its term; docs/RULES.md tells the format.
+-- The rows of a worker's table, from its term; docs/RULES.md gives the format.
 use Rattle.std.specs.Prelude.{ℕ, List, [], ◌∷◌, Option, Some, None, codes, if◌then◌else◌}
 use Rattle.std.specs.Option.{option_map, option_and_then}
 use Rattle.std.specs.Str.{bytes_eq}

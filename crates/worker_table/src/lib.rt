@@ -4,7 +4,7 @@
 //! finds its row in two sorted indexes (specs/Indexed; `row_index`): [`Worker::step_counted`] compares 26 keys at most where
 //! there are 4,096 rows or fewer (`cost`), and never more than 128 (`bound`). [`Worker::read`] takes a table from what follows
 //! the first word of its term, exactly where that has the shape of one (specs/Headed, specs/Rows); whether its versions are
-//! versions [`Worker::has_versions`] tells. Contracts see a `Worker` as its table alone (specs/Table). [`Worker::copy`] gives
+//! versions [`Worker::has_versions`] reports. Contracts see a `Worker` as its table alone (specs/Table). [`Worker::copy`] gives
 //! an equal one.
 //!
 //! `parts` has what the terms of all tables begin with. [`is_same`] says whether two terms are equal; the function of `laws` says

@@ -34,8 +34,5 @@ fn are_same(left: &[Term], right: &[Term]) -> bool
         }
         others = rest;
     }
-    match others.split_first() {
-        None => true,
-        Some(_) => false,
-    }
+    others.split_first().is_none()
 }

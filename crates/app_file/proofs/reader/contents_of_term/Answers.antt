@@ -15,10 +15,10 @@ passed : (v : Value) (result : Result Contents FileFault) (f : FileFault) (a : S
 passed v (Ok x) f a is e = absurd is.1
 passed v (Err g) f a is e = is.1 ∙ e
 
-tells : (result : Result Contents FileFault) (f : FileFault) (v : Value) (at : ℕ) → IsErr result × IsErrAnd result (λ g. g ≡ f) → (f ≢ NoMemory → IsTermFault v at f)
+reports : (result : Result Contents FileFault) (f : FileFault) (v : Value) (at : ℕ) → IsErr result × IsErrAnd result (λ g. g ≡ f) → (f ≢ NoMemory → IsTermFault v at f)
     → IfErr result (λ g. g ≢ NoMemory → IsTermFault v at g)
-tells (Ok x) f v at is fault = tt
-tells (Err g) f v at is fault = let P : FileFault → Type 0 = λ h. h ≢ NoMemory → IsTermFault v at h in subst P (sym is.1) fault
+reports (Ok x) f v at is fault = tt
+reports (Err g) f v at is fault = let P : FileFault → Type 0 = λ h. h ≢ NoMemory → IsTermFault v at h in subst P (sym is.1) fault
 
 pub returns-in_err-check_contents-clause-only : goal.returns-in_err-check_contents-clause-only
 returns-in_err-check_contents-clause-only c = λ a is.
@@ -33,5 +33,5 @@ returns-in_err-check_contents-clause-fault c =
     let v = value_of c.args.term.now in
     let f = c.in_err-check_contents.field-0.0 in
     let some : Some (contents_of c.in-Some.contents) ≡ contents_in v = rw c.in-Some.is at c.in_ok-contents.ensures in
-    tells c.from_residual-in_err-check_contents.result f v c.args.at c.from_residual-in_err-check_contents.ensures
+    reports c.from_residual-in_err-check_contents.result f v c.args.at c.from_residual-in_err-check_contents.ensures
     (c.in_err-check_contents.ensures.fault v c.args.at some)

@@ -4,7 +4,7 @@ use Rattle.appup_file.specs.declared.fault.AppupFault.TheVariants.{NoMemory}
 use Rattle.appup_file.specs.Fault.{appup_fault_of}
 use Rattle.appup_file.specs.File.{TermSaysAppup, IsAppupFault}
 use Rattle.rel_files.proofs.OneTermFile.{of_its_term}
-use Rattle.appup_file.proofs.FileLemmas.{tells_terms, passed_on, only_memory, says, fault}
+use Rattle.appup_file.proofs.FileLemmas.{reports_terms, passed_on, only_memory, says, fault}
 use Rattle.appup_file.proofs.reader.read_appup.Goals as goal
 
 pub returns-in_err-file-clause-only : goal.returns-in_err-file-clause-only
@@ -15,7 +15,7 @@ returns-in_err-file-clause-only c = λ a says.
 pub returns-in_err-file-clause-fault : goal.returns-in_err-file-clause-fault
 returns-in_err-file-clause-fault c =
     passed_on (λ f. f ≢ NoMemory → IsAppupFault c.args.bytes.now f) c.from_residual.result (appup_fault_of c.in_err-file.field-0.0) c.from_residual.ensures
-    (tells_terms c.args.bytes.now c.in_err-file.field-0.0 c.in_err-file.ensures.fault)
+    (reports_terms c.args.bytes.now c.in_err-file.field-0.0 c.in_err-file.ensures.fault)
 
 pub returns-clause-says : goal.returns-clause-says
 returns-clause-says c =

@@ -1,5 +1,5 @@
 use Rattle.std.proofs.Common.{string_bytes, subst, rules}
-use Rattle.erl_term.specs.Answers.{TellsFault}
+use Rattle.erl_term.specs.Answers.{ReportsFault}
 use Rattle.counted_io.specs.Prefixes.{AppendsPrefix}
 use Rattle.erl_consult.specs.Listing.{Lists, IsReported}
 use Rattle.erl_consult.specs.declared.error.ConsultError.TheVariants.{Fault}
@@ -9,7 +9,7 @@ use Rattle.erl_consult.proofs.streams.consult.Goals as goal
 pub returns-in_err-text-clause-refused : goal.returns-in_err-text-clause-refused
 returns-in_err-text-clause-refused g c =
     let fault = c.in_err-text.field-0.0 in
-    let is : TellsFault 64 c.in_ok-bytes.bytes.items fault = subst (λ bytes. TellsFault 64 bytes fault) c.deref.ensures.value c.in_err-text.ensures.fault in
+    let is : ReportsFault 64 c.in_ok-bytes.bytes.items fault = subst (λ bytes. ReportsFault 64 bytes fault) c.deref.ensures.value c.in_err-text.ensures.fault in
     let refused : IsReported (g.R.Read.remaining c.args.reader.now.reader) (Fault fault) = refused_so _ c.in_ok-bytes.bytes.items fault c.in_ok-bytes.ensures.read is in
     search rules
 

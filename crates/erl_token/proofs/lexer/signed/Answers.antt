@@ -1,6 +1,6 @@
 use Rattle.std.proofs.Common.{◌≡◌, ◌+◌, ◌-◌, length, drop, subst, nat_le, sym, ap, ◌∙◌, arith}
 use Rattle.std.proofs.lemmas.List.{drop-drop}
-use Rattle.erl_number.specs.Escapes.{front}
+use Rattle.erl_number.specs.Escapes.{leading}
 use Rattle.erl_token.specs.Lexing.{numbered, signed, sign_of}
 use Rattle.erl_number.specs.Numbers.{numeral}
 use Rattle.erl_number.specs.Views.{text_bytes}
@@ -10,7 +10,7 @@ use Rattle.erl_token.proofs.lexer.signed.Goals as goal
 pub returns : goal.returns
 returns c =
     let bytes = text_bytes c.args.text in
-    let blanks = length (front (λ y. nat_le y 32) (drop (c.args.at + 1) (text_bytes c.args.text))) in
+    let blanks = length (leading (λ y. nat_le y 32) (drop (c.args.at + 1) (text_bytes c.args.text))) in
     let from = c.run_end-from.result in
     let end : from ≡ (c.args.at + 1) + blanks = c.run_end-from.ensures.end in
     let size : from - c.args.at ≡ blanks + 1 = omega arith in

@@ -8,8 +8,8 @@ use Rattle.held_processes.proofs.ChangeLemmas.{held_value}
 use Rattle.held_processes.proofs.SlotLemmas.{alone_longer, gives_back, looked_value}
 use Rattle.held_processes.proofs.steps.is_up.Goals as goal
 
-pub returns-in-Some-clause-told : goal.returns-in-Some-clause-told
-returns-in-Some-clause-told g c =
+pub returns-in-Some-clause-reported : goal.returns-in-Some-clause-reported
+returns-in-Some-clause-reported g c =
     let f = subst (λ (h : Option HeldForm). IsFollowed g.past c.args.pid.slot g.past.course c.args.seat.now.view h) c.in-Some.is c.requires.1.1 in
     let held : IsHeld c.args.pid.slot g.past.course _ c.in-Some.process = f.follows.at in
     c.is_up_in.ensures ∙ (ap (λ (x : Value). is_some (up_at x.now)) c.value.ensures ∙ (ap (λ (h : HeldForm). is_some (up_at h.held.value.now)) c.process.view_is ∙ ap (λ (x : Value). is_some (up_at x.now)) (held_value c.args.pid.slot g.past.course _ c.in-Some.process held)))
@@ -22,8 +22,8 @@ returns-in-None-clause-followed g c =
     (gives_back g.past c.args.pid.slot c.args.seat.now.view c.hold-held.result c.hold-held.new.seat.view c.release.new.seat.view free at
     (subst (λ p. Released p [] c.hold-held.new.seat.view c.release.new.seat.view) at.held.slot c.release.ensures.released))
 
-pub returns-in-None-clause-told : goal.returns-in-None-clause-told
-returns-in-None-clause-told g c =
+pub returns-in-None-clause-reported : goal.returns-in-None-clause-reported
+returns-in-None-clause-reported g c =
     let at = c.hold-held.ensures.held in
     let free = subst (λ (h : Option HeldForm). IsFollowed g.past c.args.pid.slot g.past.course c.args.seat.now.view h) c.in-None.is c.requires.1.1 in
     let looked = looked_value g.past c.args.pid.slot c.args.seat.now.view c.hold-held.result c.hold-held.new.seat.view c.release.new.seat.view free at

@@ -15,10 +15,10 @@ only_memory : (result : Result ModFile FileFault) (f : FileFault) (t : Table) �
 only_memory (Ok x) f t is e = absurd is.1
 only_memory (Err g) f t is e = is.1 ∙ e
 
-tells : (result : Result ModFile FileFault) (f : FileFault) (bytes : List ℕ) → IsErr result × IsErrAnd result (λ g. g ≡ f) → (f ≢ NoMemory → IsModFault bytes f)
+reports : (result : Result ModFile FileFault) (f : FileFault) (bytes : List ℕ) → IsErr result × IsErrAnd result (λ g. g ≡ f) → (f ≢ NoMemory → IsModFault bytes f)
     → IfErr result (λ g. g ≢ NoMemory → IsModFault bytes g)
-tells (Ok x) f bytes is fault = tt
-tells (Err g) f bytes is fault = let P : FileFault → Type 0 = λ h. h ≢ NoMemory → IsModFault bytes h in subst P (sym is.1) fault
+reports (Ok x) f bytes is fault = tt
+reports (Err g) f bytes is fault = let P : FileFault → Type 0 = λ h. h ≢ NoMemory → IsModFault bytes h in subst P (sym is.1) fault
 
 pub returns-in_err-file-clause-only : goal.returns-in_err-file-clause-only
 returns-in_err-file-clause-only c = λ t says.
@@ -32,7 +32,7 @@ returns-in_err-table-clause-only c = λ t says.
 
 pub returns-in_err-table-clause-fault : goal.returns-in_err-table-clause-fault
 returns-in_err-table-clause-fault c =
-    tells c.from_residual-in_err-table.result c.in_err-table.field-0.0 c.args.bytes.now c.from_residual-in_err-table.ensures
+    reports c.from_residual-in_err-table.result c.in_err-table.field-0.0 c.args.bytes.now c.from_residual-in_err-table.ensures
     (λ other. inr (c.in_ok-file.file.at, value_of c.in_ok-file.file.term, c.in_ok-file.ensures.says, c.in_err-table.ensures.fault other))
 
 pub returns-clause-only : goal.returns-clause-only

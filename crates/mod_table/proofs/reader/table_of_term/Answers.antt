@@ -13,10 +13,10 @@ passed : (result : Result Table FileFault) (f : FileFault) (t : Table) → IsErr
 passed (Ok x) f t is e = absurd is.1
 passed (Err g) f t is e = is.1 ∙ e
 
-tells : (result : Result Table FileFault) (f : FileFault) (v : Value) (at : ℕ) → IsErr result × IsErrAnd result (λ g. g ≡ f) → (f ≢ NoMemory → IsTermFault v at f)
+reports : (result : Result Table FileFault) (f : FileFault) (v : Value) (at : ℕ) → IsErr result × IsErrAnd result (λ g. g ≡ f) → (f ≢ NoMemory → IsTermFault v at f)
     → IfErr result (λ g. g ≢ NoMemory → IsTermFault v at g)
-tells (Ok x) f v at is fault = tt
-tells (Err g) f v at is fault = let P : FileFault → Type 0 = λ h. h ≢ NoMemory → IsTermFault v at h in subst P (sym is.1) fault
+reports (Ok x) f v at is fault = tt
+reports (Err g) f v at is fault = let P : FileFault → Type 0 = λ h. h ≢ NoMemory → IsTermFault v at h in subst P (sym is.1) fault
 
 pub returns-in_err-check_table-clause-only : goal.returns-in_err-check_table-clause-only
 returns-in_err-check_table-clause-only c = λ t is.
@@ -31,4 +31,4 @@ returns-in_err-check_table-clause-fault c =
     let v = value_of c.args.term.now in
     let f = c.in_err-check_table.field-0.0 in
     let read : Some c.in-Some.table ≡ table_in v = rw c.in-Some.is at c.in_ok-table.ensures in
-    tells c.from_residual-in_err-check_table.result f v c.args.at c.from_residual-in_err-check_table.ensures (c.in_err-check_table.ensures.fault v c.args.at read)
+    reports c.from_residual-in_err-check_table.result f v c.args.at c.from_residual-in_err-check_table.ensures (c.in_err-check_table.ensures.fault v c.args.at read)

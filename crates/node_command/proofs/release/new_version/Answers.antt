@@ -33,7 +33,7 @@ returns-in-Some-clause-refused c =
       none_listed _ fresh,
       record {
         error = files.LibDiffers c.in_ok-name.name;
-        told = c.from.ensures;
+        reported = c.from.ensures;
         refused = differs_so b.libraries es (library_of c.in-Some.library.now) found ∙ ap (λ n. Some (lib_differs n)) (sym name);
       },
     ))

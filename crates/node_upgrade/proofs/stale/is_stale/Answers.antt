@@ -4,8 +4,8 @@ use Rattle.node_upgrade.proofs.stale.is_stale.Goals as goal
 
 pub returns-in-Some-vsn : goal.returns-in-Some-vsn
 returns-in-Some-vsn c =
-    let told = versions_are c.args.loaded.now c.args.target.now c.args.name.now _ _ c.in-Some.ensures c.in-Some-vsn.ensures in
-    c.ne.ensures ∙ told
+    let reported = versions_are c.args.loaded.now c.args.target.now c.args.name.now _ _ c.in-Some.ensures c.in-Some-vsn.ensures in
+    c.ne.ensures ∙ reported
 
 pub returns-in-None-vsn : goal.returns-in-None-vsn
 returns-in-None-vsn c = versions_are c.args.loaded.now c.args.target.now c.args.name.now (Some c.in-Some.vsn.now) None c.in-Some.ensures c.in-None-vsn.ensures

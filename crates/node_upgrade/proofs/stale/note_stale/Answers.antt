@@ -2,14 +2,14 @@ use Rattle.std.proofs.Common.{◌≡◌, ℕ, ◌+◌, List, drop, sym, ap, subs
 use Rattle.std.proofs.lemmas.Map.Text.{btree_map_updates_str}
 use Rattle.loaded_modules.specs.Loaded.{listed_in}
 use Rattle.node_upgrade.specs.Stale.{is_stale, names_in}
-use Rattle.node_upgrade.proofs.StaleLemmas.{first_names, names_told, noted_with, turn_kept, turn_noted}
+use Rattle.node_upgrade.proofs.StaleLemmas.{first_names, names_reported, noted_with, turn_kept, turn_noted}
 use Rattle.node_upgrade.proofs.stale.note_stale.Goals as goal
 use Rattle.node_upgrade.proofs.stale.note_stale.Goals.{then-is_stale+in_ok-insert, else-is_stale}
 
 pub loop-name-init : goal.loop-name-init
 loop-name-init c = λ q.
     ap (λ ns. noted_with (is_stale (listed_in c.args.loaded.now) (listed_in c.args.target.now)) c.args.stale.now ns q)
-    (ap first_names c.as_slice-name-items.ensures.value ∙ names_told c.in_ok-versions.versions.items (listed_in c.args.modules.now) c.in_ok-versions.ensures)
+    (ap first_names c.as_slice-name-items.ensures.value ∙ names_reported c.in_ok-versions.versions.items (listed_in c.args.modules.now) c.in_ok-versions.ensures)
 
 pub loop-name-preserved : goal.loop-name-preserved
 loop-name-preserved c =

@@ -2,7 +2,7 @@ use Rattle.std.proofs.Common.{◌∙◌, ap, [], None}
 use Rattle.rel_list.specs.Event.{event_of}
 use Rattle.rel_records.specs.Record.{FileTerms, term_of}
 use Rattle.rel_records.specs.Writing.{record_of}
-use Rattle.rel_records.proofs.EventRecords.{told_by_record}
+use Rattle.rel_records.proofs.EventRecords.{reported_by_record}
 use Rattle.record_writer.proofs.WritingLemmas.{change_spelled, where_ok}
 use Rattle.rel_files.specs.Terms.{list_of}
 use Rattle.record_writer.proofs.writing.change_body.Goals as goal
@@ -17,5 +17,5 @@ returns-clause-spells c =
     (c.in_ok-term.ensures any_files ∙ ap (λ es. term_of any_files (record_of (event_of c.args.event.now) es)) c.releases-releases.ensures.entries)
     c.requires.listed c.requires.allowed c.requires.versions c.body_of.ensures.read_back
 
-pub returns-clause-tells : goal.returns-clause-tells
-returns-clause-tells c = where_ok c.body_of.result (told_by_record (event_of c.args.event.now) c.args.list.now c.releases-releases.ensures.distinct c.requires.listed)
+pub returns-clause-reports : goal.returns-clause-reports
+returns-clause-reports c = where_ok c.body_of.result (reported_by_record (event_of c.args.event.now) c.args.list.now c.releases-releases.ensures.distinct c.requires.listed)

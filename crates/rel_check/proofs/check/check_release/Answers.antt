@@ -6,7 +6,7 @@ use Rattle.rel_check.specs.InMemory.{part_of, module_of, named_of}
 use Rattle.rel_check.specs.Modules.{parts, modules_in}
 use Rattle.rel_check.specs.Fault.Fault.{module_twice, id_twice, no_table, too_many}
 use Rattle.rel_check.specs.Summary.{summary_of, limits_kept}
-use Rattle.rel_check.proofs.Faults.{told}
+use Rattle.rel_check.proofs.Faults.{reported}
 use Rattle.rel_check.proofs.check.check_release.Goals as goal
 
 pub returns-in-Some-missing : goal.returns-in-Some-missing
@@ -19,7 +19,7 @@ returns-in-Some-missing c =
     let first : option_map named_of c.in_ok-named.field-0 ≡ None = ap (option_map named_of) c.in_default.is in
     let second : option_map named_of c.in_ok-named-2.field-0 ≡ None = ap (option_map named_of) c.in_default-2.is in
     let s = summary_of c.in_ok-walk.walk in
-    let is = told all ps ms _ _ s are modules c.in_ok-named.ensures c.in_ok-named-2.ensures c.in_ok-walk.ensures in
+    let is = reported all ps ms _ _ s are modules c.in_ok-named.ensures c.in_ok-named-2.ensures c.in_ok-walk.ensures in
     let third : s.missing ≡ Some c.in-Some-missing.name.now = ap (option_map (λ n. n.now)) c.in-Some-missing.is in
     λ ne. is
     ∙ (λ j. option_or (option_map module_twice (first j)) (option_or (option_map id_twice (second j)) (option_or (option_map no_table (third j)) (if limits_kept ps ms s then None else Some too_many))))
@@ -34,7 +34,7 @@ returns-then-keeps_limits c =
     let first : option_map named_of c.in_ok-named.field-0 ≡ None = ap (option_map named_of) c.in_default.is in
     let second : option_map named_of c.in_ok-named-2.field-0 ≡ None = ap (option_map named_of) c.in_default-2.is in
     let s = summary_of c.in_ok-walk.walk in
-    let is = told all ps ms _ _ s are modules c.in_ok-named.ensures c.in_ok-named-2.ensures c.in_ok-walk.ensures in
+    let is = reported all ps ms _ _ s are modules c.in_ok-named.ensures c.in_ok-named-2.ensures c.in_ok-walk.ensures in
     let third : s.missing ≡ None = ap (option_map (λ n. n.now)) c.in_default-missing.is in
     let fourth : limits_kept ps ms s ≡ true = sym c.keeps_limits.ensures ∙ c.if-keeps_limits.true in
     is
@@ -50,7 +50,7 @@ returns c =
     let first : option_map named_of c.in_ok-named.field-0 ≡ None = ap (option_map named_of) c.in_default.is in
     let second : option_map named_of c.in_ok-named-2.field-0 ≡ None = ap (option_map named_of) c.in_default-2.is in
     let s = summary_of c.in_ok-walk.walk in
-    let is = told all ps ms _ _ s are modules c.in_ok-named.ensures c.in_ok-named-2.ensures c.in_ok-walk.ensures in
+    let is = reported all ps ms _ _ s are modules c.in_ok-named.ensures c.in_ok-named-2.ensures c.in_ok-walk.ensures in
     let third : s.missing ≡ None = ap (option_map (λ n. n.now)) c.in_default-missing.is in
     let fourth : limits_kept ps ms s ≡ false = sym c.keeps_limits.ensures ∙ c.if-keeps_limits.false in
     λ ne. is

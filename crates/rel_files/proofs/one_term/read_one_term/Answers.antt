@@ -5,7 +5,7 @@ use Rattle.rel_files.specs.declared.fault.FileFault.{FileFault}
 use Rattle.rel_files.specs.declared.fault.FileFault.TheVariants.{NoMemory}
 use Rattle.rel_files.specs.declared.one_term.FileTerm.{FileTerm}
 use Rattle.rel_files.specs.Fault.{file_fault_of}
-use Rattle.rel_files.proofs.Files.{several, alone, tells_unreadable, no_terms, none_alone, many_terms, one_term}
+use Rattle.rel_files.proofs.Files.{several, alone, reports_unreadable, no_terms, none_alone, many_terms, one_term}
 use Rattle.rel_files.proofs.Limits.{last_keeps_limits}
 use Rattle.rel_files.proofs.one_term.read_one_term.Goals as goal
 
@@ -37,7 +37,7 @@ returns-clause-within c = last_keeps_limits 64 c.args.bytes.now c.pop.new.self.i
 
 pub returns-in_err-terms-clause-fault : goal.returns-in_err-terms-clause-fault
 returns-in_err-terms-clause-fault c =
-    tells_unreadable c.from_residual.result c.args.bytes.now c.in_err-terms.field-0.0 c.from_residual.ensures c.in_err-terms.ensures.fault
+    reports_unreadable c.from_residual.result c.args.bytes.now c.in_err-terms.field-0.0 c.from_residual.ensures c.in_err-terms.ensures.fault
 
 -- nothing could be taken off the terms
 none : (c : goal.After-drop-terms) → length c.in_ok-terms.terms.items ≡ 0

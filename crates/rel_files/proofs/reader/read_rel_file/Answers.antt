@@ -14,10 +14,10 @@ only_memory : (result : Result RelFile FileFault) (f : FileFault) (r : Release) 
 only_memory (Ok x) f r is e = absurd is.1
 only_memory (Err g) f r is e = is.1 ∙ e
 
-tells : (result : Result RelFile FileFault) (f : FileFault) (bytes : List ℕ) → IsErr result × IsErrAnd result (λ g. g ≡ f) → (f ≢ NoMemory → IsRelFault bytes f)
+reports : (result : Result RelFile FileFault) (f : FileFault) (bytes : List ℕ) → IsErr result × IsErrAnd result (λ g. g ≡ f) → (f ≢ NoMemory → IsRelFault bytes f)
     → IfErr result (λ g. g ≢ NoMemory → IsRelFault bytes g)
-tells (Ok x) f bytes is fault = tt
-tells (Err g) f bytes is fault = let P : FileFault → Type 0 = λ h. h ≢ NoMemory → IsRelFault bytes h in subst P (sym is.1) fault
+reports (Ok x) f bytes is fault = tt
+reports (Err g) f bytes is fault = let P : FileFault → Type 0 = λ h. h ≢ NoMemory → IsRelFault bytes h in subst P (sym is.1) fault
 
 pub returns-in_err-file-clause-only : goal.returns-in_err-file-clause-only
 returns-in_err-file-clause-only c = λ r says.
@@ -26,7 +26,7 @@ returns-in_err-file-clause-only c = λ r says.
 pub returns-in_err-file-clause-fault : goal.returns-in_err-file-clause-fault
 returns-in_err-file-clause-fault c =
     let f = c.in_err-file.field-0.0 in
-    tells c.from_residual.result f c.args.bytes.now c.from_residual.ensures (λ other. inl (c.in_err-file.ensures.fault other))
+    reports c.from_residual.result f c.args.bytes.now c.from_residual.ensures (λ other. inl (c.in_err-file.ensures.fault other))
 
 pub returns-in_err-release-clause-only : goal.returns-in_err-release-clause-only
 returns-in_err-release-clause-only c = λ r says.
@@ -37,7 +37,7 @@ returns-in_err-release-clause-only c = λ r says.
 pub returns-in_err-release-clause-fault : goal.returns-in_err-release-clause-fault
 returns-in_err-release-clause-fault c =
     let f = c.in_err-release.field-0.0 in
-    tells c.from_residual-in_err-release.result f c.args.bytes.now c.from_residual-in_err-release.ensures
+    reports c.from_residual-in_err-release.result f c.args.bytes.now c.from_residual-in_err-release.ensures
     (λ other. inr (c.in_ok-file.file.at, value_of c.in_ok-file.file.term, c.in_ok-file.ensures.says, c.in_err-release.ensures.fault other))
 
 pub returns-clause-says : goal.returns-clause-says

@@ -7,7 +7,7 @@ use Rattle.rel_store.specs.State.{Fits, end_in, records_in}
 use Rattle.node_command.specs.Taking.{change_size, no_terms}
 use Rattle.node_store.specs.Image.{boot_size}
 use Rattle.node_store.specs.State.{list_in}
-use Rattle.rel_handler.proofs.Boots.{one_shot_told}
+use Rattle.rel_handler.proofs.Boots.{one_shot_reported}
 use Rattle.rel_handler.proofs.booting.boot_record.Goals as goal
 
 pub change_body-requires-clause-versions : goal.change_body-requires-clause-versions
@@ -18,9 +18,9 @@ pub returns-then-not-fits-clause-refused : goal.returns-then-not-fits-clause-ref
 unfolding change_size
 returns-then-not-fits-clause-refused g c =
     let h = c.args.node.now in
-    let one = sym (one_shot_told release_of c.one_shot.result (one_shot (list_in h)) c.one_shot.ensures) ∙ (c.is_none.ensures ∙ ap not c.if-is_none.false) in
-    let told : c.len.result ≡ length (string_bytes c.in_ok-body.body) = (let n = c.len.ensures in omega (arith, n)) in
-    let long : c.len.result ≡ boot_size (list_in h) = told ∙ ap length (c.in_ok-body.ensures.body no_terms) in (
+    let one = sym (one_shot_reported release_of c.one_shot.result (one_shot (list_in h)) c.one_shot.ensures) ∙ (c.is_none.ensures ∙ ap not c.if-is_none.false) in
+    let reported : c.len.result ≡ length (string_bytes c.in_ok-body.body) = (let n = c.len.ensures in omega (arith, n)) in
+    let long : c.len.result ≡ boot_size (list_in h) = reported ∙ ap length (c.in_ok-body.ensures.body no_terms) in (
       λ space. true≢false (sym (c.fits.ensures.1 (subst (λ n. Fits (end_in h.store) n) (sym long) (space one))) ∙ c.if-not-fits.true),
       sym (length-map c.records.result.now _) ∙ ap (λ bodies. length bodies) c.records.ensures,
     )
@@ -30,13 +30,13 @@ pub returns-clause-body : goal.returns-clause-body
 unfolding change_size
 returns-clause-body g c =
     let es = list_in c.args.node.now in
-    let one = sym (one_shot_told release_of c.one_shot.result (one_shot es) c.one_shot.ensures) ∙ (c.is_none.ensures ∙ ap not c.if-is_none.false) in
-    (one, record { spells = c.in_ok-body.ensures.spells; tells = c.in_ok-body.ensures.tells }, ap length (c.in_ok-body.ensures.body no_terms))
+    let one = sym (one_shot_reported release_of c.one_shot.result (one_shot es) c.one_shot.ensures) ∙ (c.is_none.ensures ∙ ap not c.if-is_none.false) in
+    (one, record { spells = c.in_ok-body.ensures.spells; reports = c.in_ok-body.ensures.reports }, ap length (c.in_ok-body.ensures.body no_terms))
 
 pub returns-clause-room : goal.returns-clause-room
 unfolding change_size
 returns-clause-room g c = λ one.
     let h = c.args.node.now in
-    let told : c.len.result ≡ length (string_bytes c.in_ok-body.body) = (let n = c.len.ensures in omega (arith, n)) in
-    let long : c.len.result ≡ boot_size (list_in h) = told ∙ ap length (c.in_ok-body.ensures.body no_terms) in
+    let reported : c.len.result ≡ length (string_bytes c.in_ok-body.body) = (let n = c.len.ensures in omega (arith, n)) in
+    let long : c.len.result ≡ boot_size (list_in h) = reported ∙ ap length (c.in_ok-body.ensures.body no_terms) in
     subst (λ n. Fits (end_in h.store) n) long (c.fits.ensures.0 c.if-not-fits.false)

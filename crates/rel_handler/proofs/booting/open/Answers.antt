@@ -5,7 +5,7 @@ use Rattle.rel_records.proofs.RecordLaws.{as_recorded}
 use Rattle.rel_store.specs.Contents.{HasOnlyRead}
 use Rattle.rel_store.specs.State.{records_in}
 use Rattle.rel_handler.specs.Moments.{SettlesAt}
-use Rattle.rel_handler.specs.Refusals.{told_boot}
+use Rattle.rel_handler.specs.Refusals.{reported_boot}
 use Rattle.rel_handler.proofs.Boots.{IsBadOrLack, IsLack, makes_so, only_memory, only_reads, read_so, settles_so}
 use Rattle.node_store.proofs.Images.{recorded_image}
 use Rattle.rel_handler.proofs.booting.open.Goals as goal
@@ -48,10 +48,10 @@ returns-in-Err-read_list-clause-quiet g c =
 
 pub returns-in-Err-clause-synced : goal.returns-in-Err-clause-synced
 returns-in-Err-clause-synced g c =
-    ⊎_elim (λ device. inl (c.boot_error.ensures ∙ ap told_boot device, c.in-Err.ensures.any_moment))
+    ⊎_elim (λ device. inl (c.boot_error.ensures ∙ ap reported_boot device, c.in-Err.ensures.any_moment))
     (λ synced. inr (_, settles_so g.D.Disk.seen g.D.Disk.may_leave g.D.Disk.moment g.D.Disk.left_since c.args.disk _ (g.met.D.Disk.only_now _) synced c.in-Err.ensures.any_moment)) c.in-Err.ensures.synced
 
 pub returns-in-Err-clause-quiet : goal.returns-in-Err-clause-quiet
 returns-in-Err-clause-quiet g c =
-    ⊎_elim (λ device. inl (c.boot_error.ensures ∙ ap told_boot device))
+    ⊎_elim (λ device. inl (c.boot_error.ensures ∙ ap reported_boot device))
     (λ synced. inr (only_reads g.D.Disk.seen g.D.Disk.may_leave g.D.Disk.moment g.D.Disk.left_since g.met.D.Disk.counts_now c.args.disk _ synced.same c.in-Err.ensures.any_moment)) c.in-Err.ensures.synced

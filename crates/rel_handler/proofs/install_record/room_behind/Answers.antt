@@ -8,6 +8,6 @@ use Rattle.rel_handler.proofs.install_record.room_behind.Goals as goal
 pub returns : goal.returns
 unfolding change_size
 returns c =
-    let told : c.len.result ≡ length (string_bytes c.in_ok-body.body) = (let n = c.len.ensures in omega (arith, n)) in
-    let long : c.len.result ≡ change_size boot (list_restarted c.args.vsn.now c.args.list.now) = told ∙ ap length (c.in_ok-body.ensures no_terms) in
+    let reported : c.len.result ≡ length (string_bytes c.in_ok-body.body) = (let n = c.len.ensures in omega (arith, n)) in
+    let long : c.len.result ≡ change_size boot (list_restarted c.args.vsn.now c.args.list.now) = reported ∙ ap length (c.in_ok-body.ensures no_terms) in
     subst (λ b. 5 + c.len.result ≡ room_behind b c.args.vsn.now c.args.list.now) (sym c.if-not-restarts.false) (ap (λ n. 5 + n) long)

@@ -14,7 +14,7 @@ use Rattle.node_store.specs.Refusals.{CommandRefused}
 use Rattle.node_command.specs.Files.{bundle_brought, unpacked_size}
 use Rattle.node_store.specs.State.{list_in}
 use Rattle.node_command.specs.Taking.{commanded}
-use Rattle.node_store.proofs.Commits.{have_libraries, unchanged, unpacked_told}
+use Rattle.node_store.proofs.Commits.{have_libraries, unchanged, unpacked_reported}
 use Rattle.node_command.proofs.ReleaseLemmas.{carried_rel, carried_relup, carried_says, own_libraries, shared_bundle, takes_it, written_size}
 use Rattle.rel_handler.proofs.unpacking.take_in.Goals as goal
 
@@ -59,9 +59,9 @@ commit-requires-clause-allowed g c =
     let takes = takes_it b (list_in h) (c.requires.sound.free c.requires.alive) c.requires.small c.requires.fresh c.requires.agree c.requires.room in
     (c.requires.alive, (takes.0, subst (λ p. commanded (unpacked p) (list_in h) ≡ Ok takes.0) (sym same) takes.1))
 
--- the record tells the event
-pub commit-requires-clause-told : goal.commit-requires-clause-told
-commit-requires-clause-told g c =
+-- the record reports the event
+pub commit-requires-clause-reported : goal.commit-requires-clause-reported
+commit-requires-clause-reported g c =
     let h = c.args.node.now in
     let b = brought_of c.args.brought in
     let p = bundle_brought b in
@@ -72,7 +72,7 @@ commit-requires-clause-told g c =
     let takes = takes_it b (list_in h) (c.requires.sound.free c.requires.alive) c.requires.small c.requires.fresh c.requires.agree c.requires.room in
     let spelled = rw (sym c.as_str.ensures.value) at c.in_ok-body.ensures.spells p.release p.relup (carried_says n.rel n.relup b c.new_bundle-rel.ensures.terms c.requires.terms) in
     subst (λ q. IsRecordFor c.as_str.result.now (unpacked q) (list_in h)) (sym same)
-    (unpacked_told p (list_in h) takes.0 c.as_str.result.now
+    (unpacked_reported p (list_in h) takes.0 c.as_str.result.now
     (subst (λ ls. Spells c.as_str.result.now (adds p.release (new_libraries (list_in h) ls) p.relup)) (ap (map shared_of) c.as_slice.ensures.value ∙ own) spelled)
     have c.requires.whole.complete takes.1)
 

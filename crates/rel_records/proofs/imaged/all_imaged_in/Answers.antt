@@ -3,7 +3,7 @@ use Rattle.rel_files.proofs.Rows.{viewed}
 use Rattle.library.proofs.TermRows.{reads_more, reads_none, reads_all}
 use Rattle.rel_records.specs.Parts.{imaged_read}
 use Rattle.rel_records.specs.Reading.{SaysImaged}
-use Rattle.rel_records.proofs.ReadingLemmas.{told_bad}
+use Rattle.rel_records.proofs.ReadingLemmas.{reported_bad}
 use Rattle.rel_records.proofs.imaged.all_imaged_in.Goals as goal
 
 pub loop-term-preserved : goal.loop-term-preserved
@@ -14,7 +14,7 @@ loop-term-preserved c =
 -- a term says no release of an image
 pub returns-in_err-imaged-clause-bad : goal.returns-in_err-imaged-clause-bad
 returns-in_err-imaged-clause-bad c = λ bad.
-    let none = c.in_err-imaged.ensures.bad (ap (λ f. Err f) (told_bad c.from_residual-in_err-imaged.result c.in_err-imaged.field-0.0 c.from_residual-in_err-imaged.ensures bad)) in
+    let none = c.in_err-imaged.ensures.bad (ap (λ f. Err f) (reported_bad c.from_residual-in_err-imaged.result c.in_err-imaged.field-0.0 c.from_residual-in_err-imaged.ensures bad)) in
     reads_none SaysImaged c.args.terms.now c.loop-term.term-index c.term-item.result (map imaged_read c.loop-term.releases.items) c.loop-term-test.true c.term-item.is none c.loop-term.invariant
 
 pub returns-clause-says : goal.returns-clause-says

@@ -5,13 +5,13 @@ use Rattle.rel_list.specs.Event.Event.{unpacked}
 use Rattle.rel_list.specs.Keyed.{bundle_of}
 use Rattle.rel_records.specs.Limits.{is_small, most_releases}
 use Rattle.rel_records.proofs.BundleLemmas.{accepted, not_accepted, nothing_brought}
-use Rattle.rel_records.proofs.ReadingLemmas.{told_bad}
+use Rattle.rel_records.proofs.ReadingLemmas.{reported_bad}
 use Rattle.rel_records.proofs.releases.unpack.Goals as goal
 
 -- the record brings nothing
 pub returns-in_err-bundle-clause-bad : goal.returns-in_err-bundle-clause-bad
 returns-in_err-bundle-clause-bad c = λ bad.
-    nothing_brought _ unpacked c.args.list.now _ (c.in_err-bundle.ensures.bad (ap (λ f. Err f) (told_bad c.from_residual.result c.in_err-bundle.field-0.0 c.from_residual.ensures bad)))
+    nothing_brought _ unpacked c.args.list.now _ (c.in_err-bundle.ensures.bad (ap (λ f. Err f) (reported_bad c.from_residual.result c.in_err-bundle.field-0.0 c.from_residual.ensures bad)))
 
 -- the list refuses what it brings
 pub returns-in_err-accept-clause-bad : goal.returns-in_err-accept-clause-bad

@@ -5,11 +5,11 @@ use Rattle.node_processes.specs.Answers.{processes_line, modules_line, peek_line
 use Rattle.node_processes.specs.Calls.Calls.{once, often}
 use Rattle.node_answer.specs.Lines.{check_line}
 use Rattle.rel_session.specs.Transition.{permanence, removal}
-use Rattle.rel_session.specs.Transition.Action.{changes_node, tells_start, calls}
+use Rattle.rel_session.specs.Transition.Action.{changes_node, reports_start, calls}
 use Rattle.rel_session.specs.declared.place.Place.TheVariants as memory
 use Rattle.rel_session.proofs.DeviceLemmas.{IsDevice}
 use Rattle.rel_session.proofs.Replies.{changes_dead, idle_needs}
-use Rattle.rel_session.proofs.ReplyTexts.{answers_command, answers_action, asks_node, tells_node}
+use Rattle.rel_session.proofs.ReplyTexts.{answers_command, answers_action, asks_node, reports_node}
 use Rattle.rel_session.proofs.answer.done_by.Goals as goal
 
 pub returns-then-is_dead-clause-answered : goal.returns-then-is_dead-clause-answered
@@ -25,8 +25,8 @@ returns-in-SetUnpacked-clause-answered g c =
 pub returns-in-Check-clause-answered : goal.returns-in-Check-clause-answered
 returns-in-Check-clause-answered g c =
     let vsn = c.as_str-in-Check.result.now in
-    tells_node g.D.Disk (memory.Made c.args.node.now) (memory.Made c.check_install.new.node) (g.F.Files.gives c.args.files.now) (command_of c.args.command.now) (check vsn) c.check_install.result
-    (ap command_of c.in-Check.is ∙ ap (λ s. check s) (sym c.as_str-in-Check.ensures.value)) (λ list ps. check_line vsn list) (λ p. refl) c.check_install.ensures.told
+    reports_node g.D.Disk (memory.Made c.args.node.now) (memory.Made c.check_install.new.node) (g.F.Files.gives c.args.files.now) (command_of c.args.command.now) (check vsn) c.check_install.result
+    (ap command_of c.in-Check.is ∙ ap (λ s. check s) (sym c.as_str-in-Check.ensures.value)) (λ list ps. check_line vsn list) (λ p. refl) c.check_install.ensures.reported
 
 pub returns-in-Permanent-clause-answered : goal.returns-in-Permanent-clause-answered
 returns-in-Permanent-clause-answered g c =
@@ -41,7 +41,7 @@ returns-in-Remove-clause-answered g c =
 pub returns-in-Start-clause-answered : goal.returns-in-Start-clause-answered
 returns-in-Start-clause-answered g c =
     answers_action g.D.Disk (memory.Made c.args.node.now) (memory.Made c.start.new.node) (g.F.Files.gives c.args.files.now) (command_of c.args.command.now) start c.start.result
-    (ap command_of c.in-Start.is) (tells_start) (λ p. refl) c.start.ensures.told
+    (ap command_of c.in-Start.is) (reports_start) (λ p. refl) c.start.ensures.reported
 
 pub returns-in-Procs-clause-answered : goal.returns-in-Procs-clause-answered
 returns-in-Procs-clause-answered g c =
@@ -58,7 +58,7 @@ returns-in-Peek-clause-answered g c =
     let app = c.as_str-in-Peek.result.now in
     let id = c.as_str-in-Peek-2.result.now in
     asks_node g.D.Disk (memory.Made c.args.node.now) (memory.Made c.peek.new.node) (g.F.Files.gives c.args.files.now) (command_of c.args.command.now) (peek app id) c.peek.result
-    (ap command_of c.in-Peek.is ∙ (λ i. peek (sym c.as_str-in-Peek.ensures.value i) (sym c.as_str-in-Peek-2.ensures.value i))) (peek_line app id) (λ p. refl) c.peek.ensures.told
+    (ap command_of c.in-Peek.is ∙ (λ i. peek (sym c.as_str-in-Peek.ensures.value i) (sym c.as_str-in-Peek-2.ensures.value i))) (peek_line app id) (λ p. refl) c.peek.ensures.reported
 
 pub returns-in-Call-clause-answered : goal.returns-in-Call-clause-answered
 returns-in-Call-clause-answered g c =

@@ -7,7 +7,7 @@ use Rattle.rel_session.specs.declared.place.Place.TheVariants as memory
 use Rattle.node_command.specs.declared.error.HandlerError.TheVariants as handler_error
 use Rattle.rel_session.proofs.DeviceLemmas.{IsDevice}
 use Rattle.rel_session.proofs.CommitReplies.{changes, changes_none}
-use Rattle.rel_session.proofs.Replies.{told_so, changes_no_memory}
+use Rattle.rel_session.proofs.Replies.{reported_so, changes_no_memory}
 use Rattle.rel_session.proofs.change.remove.Goals as goal
 
 pub returns-in_err-remove_release-clause-removed : goal.returns-in_err-remove_release-clause-removed
@@ -17,7 +17,7 @@ returns-in_err-remove_release-clause-removed g c =
     let new = record c.args.node.now { handler = c.remove_release.new.self } in
     let e = c.in_err-remove_release.field-0.0 in
     let Does : Place → Reply → Type 0 = λ p a. Acts p (changes_node (removal c.args.vsn.now)) a in
-    subst (λ r. Answers g.D.Disk Does r (memory.Made n) (memory.Made new)) (sym (told_so c.from_residual-in_err-remove_release.result e c.from_residual-in_err-remove_release.ensures.1))
+    subst (λ r. Answers g.D.Disk Does r (memory.Made n) (memory.Made new)) (sym (reported_so c.from_residual-in_err-remove_release.result e c.from_residual-in_err-remove_release.ensures.1))
     (changes_none g.D.Disk laws Does n c.requires.works (removal c.args.vsn.now) (λ events extent ps a is. is) refl new refl c.in_err-remove_release.ensures.commits e c.in_err-remove_release.ensures.refused)
 
 -- memory was refused for the answer
@@ -26,7 +26,7 @@ returns-in_err-line-clause-removed g c =
     let laws : IsDevice g.D.Disk = record { reads_an_image = g.met.D.Disk.reads_an_image; counts_now = g.met.D.Disk.counts_now; only_now = g.met.D.Disk.only_now } in
     let n = c.args.node.now in
     let Does : Place → Reply → Type 0 = λ p a. Acts p (changes_node (removal c.args.vsn.now)) a in
-    subst (λ r. Answers g.D.Disk Does r (memory.Made n) (memory.Made n)) (sym (told_so c.from_residual.result handler_error.NoMemory c.from_residual.ensures.1))
+    subst (λ r. Answers g.D.Disk Does r (memory.Made n) (memory.Made n)) (sym (reported_so c.from_residual.result handler_error.NoMemory c.from_residual.ensures.1))
     (changes_no_memory g.D.Disk laws Does (memory.Made n))
 
 pub returns-clause-removed : goal.returns-clause-removed

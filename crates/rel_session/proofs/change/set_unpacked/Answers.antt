@@ -7,7 +7,7 @@ use Rattle.node_answer.specs.Lines.{ok_line}
 use Rattle.rel_session.specs.Transition.{Transition}
 use Rattle.rel_session.specs.declared.place.Place.TheVariants as memory
 use Rattle.rel_session.proofs.DeviceLemmas.{IsDevice}
-use Rattle.rel_session.proofs.Replies.{told_so}
+use Rattle.rel_session.proofs.Replies.{reported_so}
 use Rattle.rel_session.proofs.UnpackingReplies.{unpacks, unpacks_none}
 use Rattle.rel_session.proofs.change.set_unpacked.Goals as goal
 
@@ -20,7 +20,7 @@ returns-in_err-vsn-clause-unpacked g c =
     let why = c.in_err-vsn.field-0.0 in
     let source = g.F.Files.gives c.args.files.now in
     let Does : Place → Reply → Type 0 = λ p a. Transition source p (set_unpacked c.args.path.now) a in
-    subst (λ r. Answers g.D.Disk Does r (memory.Made n) (memory.Made new)) (sym (told_so c.from_residual.result why c.from_residual.ensures.1))
+    subst (λ r. Answers g.D.Disk Does r (memory.Made n) (memory.Made new)) (sym (reported_so c.from_residual.result why c.from_residual.ensures.1))
     (unpacks_none g.D.Disk laws source c.args.path.now n c.requires.works new refl why c.in_err-vsn.ensures.refused)
 
 -- memory was refused for the answer

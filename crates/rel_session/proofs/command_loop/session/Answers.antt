@@ -7,7 +7,7 @@ use Rattle.session_input.specs.Commands.{command_of}
 use Rattle.session_input.specs.Input.{commands_left}
 use Rattle.rel_session.specs.Run.{commands_in}
 use Rattle.rel_session.specs.Run.Ending.{ended, cut_off, unread, early}
-use Rattle.rel_session.proofs.LoopLemmas.{fresh_left, begins, goes_on, ends, ends_cut, ends_unread, ends_early, quits, stops_within, stops_before, sessions, cut_told, no_error, read_told, write_told, limit_told, one_error, Write≢Read, Write≢Limit, NoMemory≢Read, NoMemory≢Write, NoMemory≢Limit}
+use Rattle.rel_session.proofs.LoopLemmas.{fresh_left, begins, goes_on, ends, ends_cut, ends_unread, ends_early, quits, stops_within, stops_before, sessions, cut_reported, no_error, read_reported, write_reported, limit_reported, one_error, Write≢Read, Write≢Limit, NoMemory≢Read, NoMemory≢Write, NoMemory≢Limit}
 use Rattle.rel_session.proofs.DeviceLemmas.{IsDevice}
 use Rattle.rel_session.proofs.command_loop.session.Goals as goal
 
@@ -63,7 +63,7 @@ returns-in-Err g c =
           (g.W.Write.contents c.args.output.now.writer) (g.W.Write.contents c.loop-command.output.writer) refl
           (ends_cut g.D.Disk laws (g.F.Files.gives c.args.files.now) (option_map commands_in (g.R.Read.remaining c.args.input.now.reader.reader)) (commands_left g.R.Read.remaining c.loop-command.input) (commands_left g.R.Read.remaining c.next_command.new.self) c.args.disk c.loop-command.node
           (g.W.Write.contents c.args.output.now.writer) (g.W.Write.contents c.loop-command.output.writer) c.loop-command.invariant.0 c.into_disk-in-Err.result c.into_disk-in-Err.ensures
-          (cut_told (λ (known : CommandInMemory) d. command_of known ≡ d) c.in-Err.error (commands_left g.R.Read.remaining c.loop-command.input)
+          (cut_reported (λ (known : CommandInMemory) d. command_of known ≡ d) c.in-Err.error (commands_left g.R.Read.remaining c.loop-command.input)
           (commands_left g.R.Read.remaining c.next_command.new.self) is c.in-Err.ensures.command));
       broken =
           sessions g.D.Disk laws (g.F.Files.gives c.args.files.now) (g.R.Read.remaining c.args.input.now.reader.reader) (option_map commands_in (g.R.Read.remaining c.args.input.now.reader.reader)) early c.args.disk c.into_disk-in-Err.result
@@ -76,9 +76,9 @@ returns-in-Err g c =
           (g.W.Write.contents c.args.output.now.writer) (g.W.Write.contents c.loop-command.output.writer) refl
           (ends_unread g.D.Disk laws (g.F.Files.gives c.args.files.now) (option_map commands_in (g.R.Read.remaining c.args.input.now.reader.reader)) (commands_left g.R.Read.remaining c.loop-command.input) (commands_left g.R.Read.remaining c.next_command.new.self) c.args.disk c.loop-command.node
           (g.W.Write.contents c.args.output.now.writer) (g.W.Write.contents c.loop-command.output.writer) c.loop-command.invariant.0 c.into_disk-in-Err.result c.into_disk-in-Err.ensures);
-      read = λ is. read_told c.in-Err.error c.args.input.now.reader.failures c.loop-command.input c.next_command.new.self c.loop-command.invariant.2 c.in-Err.ensures.cause is;
-      write = λ is. absurd (write_told c.in-Err.error c.loop-command.input c.next_command.new.self c.in-Err.ensures.cause is);
-      limit = λ is. limit_told c.in-Err.error c.loop-command.input c.next_command.new.self c.in-Err.ensures.cause is;
+      read = λ is. read_reported c.in-Err.error c.args.input.now.reader.failures c.loop-command.input c.next_command.new.self c.loop-command.invariant.2 c.in-Err.ensures.cause is;
+      write = λ is. absurd (write_reported c.in-Err.error c.loop-command.input c.next_command.new.self c.in-Err.ensures.cause is);
+      limit = λ is. limit_reported c.in-Err.error c.loop-command.input c.next_command.new.self c.in-Err.ensures.cause is;
       bounded = c.in-Err.ensures.bounded;
     }
 

@@ -14,4 +14,4 @@ returns-clause-called g c =
     let asked = once c.args.app.now c.args.id.now c.args.input in
     let Does : Place → Reply → Type 0 = λ p a. Acts p (calls asked) a in
     answers_of_node g.D.Disk laws Does (λ list ps. calls_line asked ps) (left_by asked) (λ events extent ps. refl) c.args.node.now (record c.args.node.now { processes = c.call.new.self }) c.requires.works refl c.call.ensures.called
-    c.call.result c.answer_of.result c.answer_of.ensures.same c.call.ensures.told
+    c.call.result c.answer_of.result c.answer_of.ensures.same c.call.ensures.reported

@@ -12,4 +12,4 @@ returns-clause-listed g c =
     let laws : IsDevice g.D.Disk = record { reads_an_image = g.met.D.Disk.reads_an_image; counts_now = g.met.D.Disk.counts_now; only_now = g.met.D.Disk.only_now } in
     let Does : Place → Reply → Type 0 = λ p a. Acts p (answers (asked processes_line p)) a in
     answers_of_node g.D.Disk laws Does (λ list ps. processes_line ps) (λ ps. ps) (λ events extent ps. refl) c.args.node.now (record c.args.node.now { processes = c.list.new.self }) c.requires.works refl c.list.ensures.same
-    c.list.result c.answer_of.result c.answer_of.ensures.same c.list.ensures.told
+    c.list.result c.answer_of.result c.answer_of.ensures.same c.list.ensures.reported

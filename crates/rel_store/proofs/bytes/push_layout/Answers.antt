@@ -11,6 +11,6 @@ chained v0 a b s z p q v1 v2 v3 v4 v5 v6 e1 e2 e3 e4 e5 e6 =
 pub returns : goal.returns
 returns c =
     chained _ _ _ _ _ _ _ _ _ _ _ _ _ c.in_ok-extend_from_slice.ensures.items c.in_ok-extend_from_slice-2.ensures.items
-    (c.in_ok-extend_from_slice-3.ensures.items ∙ ap (λ slot. c.extend_from_slice-2.new.self.items ++ slot) c.start_slot.ensures) c.in_ok-extend_from_slice-4.ensures.items
+    (c.in_ok-extend_from_slice-3.ensures.items ∙ ap (λ slot. c.extend_from_slice-2.new.self.items ++ slot) c.spell_slot.ensures) c.in_ok-extend_from_slice-4.ensures.items
     (c.in_ok-extend_from_slice-5.ensures.items ∙ ap (λ place. c.extend_from_slice-4.new.self.items ++ place) c.to_be_bytes.ensures)
     c.in_ok-extend_from_slice-6.ensures.items

@@ -1,11 +1,11 @@
 use Rattle.std.proofs.Common.{◌≡◌, ◌⊎◌, inl, inr, ℕ, ◌+◌, ◌-◌, ◌<◌, ◌≤◌, List, length, get_or, take, drop, refl, sym, ◌∙◌, ap, arith}
 use Rattle.std.specs.Prelude.{slice_range}
 use Rattle.std.proofs.lemmas.List.{get_or-take, get_or-drop}
-use Rattle.rel_store.specs.Records.{told_length}
+use Rattle.rel_store.specs.Records.{reported_length}
 use Rattle.rel_store.specs.declared.error.StoreError.TheVariants.{Device}
 use Rattle.rel_store.proofs.Exits.{no_value, no_ok}
 use Rattle.rel_store.proofs.OnlyReads.{read_first}
-use Rattle.rel_store.proofs.Scan.{told_in_five, byte_in_five, whole_there, broken_there, passed_on}
+use Rattle.rel_store.proofs.Scan.{reported_in_five, byte_in_five, whole_there, broken_there, passed_on}
 use Rattle.rel_store.proofs.contents.record_at.Goals.{then-size-gt-MAX_BODY-via-then-size-gt-MAX_BODY, then-size-gt-MAX_BODY-via-else-size-gt-MAX_BODY+then-size-len}
 use Rattle.rel_store.proofs.contents.record_at.Goals as goal
 
@@ -26,22 +26,22 @@ pub returns-then-size-gt-MAX_BODY-clause-refused : goal.returns-then-size-gt-MAX
 returns-then-size-gt-MAX_BODY-clause-refused g c =
     let bytes = g.D.Disk.seen c.args.disk.now in
     let head = five bytes c.read-2.new.buf c.args.gate c.in_ok-read-2.ensures.bytes in
-    let told = told_in_five bytes c.args.gate c.body_length-size.result c.read-2.new.buf head c.body_length-size.ensures in
+    let reported = reported_in_five bytes c.args.gate c.body_length-size.result c.read-2.new.buf head c.body_length-size.ensures in
     let why : (16777216 < c.body_length-size.result) ⊎ (length bytes - c.args.gate ≤ 5 + c.body_length-size.result) =
     elim c.then-size-gt-MAX_BODY.branch [
       | then-size-gt-MAX_BODY-via-then-size-gt-MAX_BODY w ↦ inl w.if-size-gt-MAX_BODY.true
       | then-size-gt-MAX_BODY-via-else-size-gt-MAX_BODY+then-size-len w ↦ inr (omega (arith, w.if-size-len.true, c.requires.len))
     ] in
-    (refl, byte_in_five bytes c.args.gate c.read-2.new.buf 1 head c.if-head-ne-OPEN.false, broken_there bytes c.args.gate c.body_length-size.result told why)
+    (refl, byte_in_five bytes c.args.gate c.read-2.new.buf 1 head c.if-head-ne-OPEN.false, broken_there bytes c.args.gate c.body_length-size.result reported why)
 
 pub returns-clause-open : goal.returns-clause-open
 returns-clause-open g c =
     let bytes = g.D.Disk.seen c.args.disk.now in
     let head = five bytes c.read-2.new.buf c.args.gate c.in_ok-read-2.ensures.bytes in
-    let told = told_in_five bytes c.args.gate c.body_length-size.result c.read-2.new.buf head c.body_length-size.ensures in (
+    let reported = reported_in_five bytes c.args.gate c.body_length-size.result c.read-2.new.buf head c.body_length-size.ensures in (
       byte_in_five bytes c.args.gate c.read-2.new.buf 1 head c.if-head-ne-OPEN.false,
-      whole_there bytes c.args.gate c.body_length-size.result told c.if-size-gt-MAX_BODY.false (omega (arith, c.if-size-len.false, c.requires.len)),
-      told,
+      whole_there bytes c.args.gate c.body_length-size.result reported c.if-size-gt-MAX_BODY.false (omega (arith, c.if-size-len.false, c.requires.len)),
+      reported,
     )
 
 pub returns-in_err-read-clause-reads : goal.returns-in_err-read-clause-reads
@@ -81,7 +81,7 @@ returns-in_err-read-clause-refused g c = passed_on _ _ Device c.from_residual.en
 pub returns-then-byte-eq-OPEN-clause-refused : goal.returns-then-byte-eq-OPEN-clause-refused
 returns-then-byte-eq-OPEN-clause-refused g c =
     let bytes = g.D.Disk.seen c.args.disk.now in
-    let behind = told_length (drop (c.args.gate + 1) bytes) in (
+    let behind = reported_length (drop (c.args.gate + 1) bytes) in (
       refl,
       sym (first_read bytes c.args.gate 1 c.read.new.buf (omega arith) c.in_ok-read.ensures.bytes) ∙ c.if-byte-eq-OPEN.true,
       broken_there bytes c.args.gate behind refl (inr (too_near bytes c.args.gate c.args.len behind c.requires.len c.if-len-gate.true)),

@@ -24,6 +24,6 @@ returns-in-Ok-clause-within g c = c.in-Ok.ensures.within
 
 pub returns-clause-answer : goal.returns-clause-answer
 returns-clause-answer g c = λ ne.
-    let told = c.refusal_for.ensures ne in
+    let reported = c.refusal_for.ensures ne in
     fails_at rel_form (g.F.Files.gives c.args.files.now) c.args.path.now c.in_ok-bytes.bytes.items c.refusal_for.result (faulty (fault_of c.in-Err.fault))
-    c.in_ok-bytes.ensures (rw c.as_slice.ensures.value at (c.in-Err.ensures.fault told.0)) told.1
+    c.in_ok-bytes.ensures (rw c.as_slice.ensures.value at (c.in-Err.ensures.fault reported.0)) reported.1

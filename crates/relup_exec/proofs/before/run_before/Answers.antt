@@ -47,5 +47,5 @@ returns-in-Ok-run_early-clause-armed g c =
     let instrs = script_of (take c.point_in-place.result c.args.script.now) in
     let ran = subst (λ (apps : List App). Ran s (start_at v apps) c.run_early.new.seat.view [] instrs × HasDone (past_behind s (start_at v apps) [] instrs) (progress_of c.run_early.new.progress) c.run_early.new.progress.tree c.run_early.new.seat.view)
     c.in-Ok-new.ensures.tree c.in-Ok-run_early.ensures.ran in
-    armed_well (site_of c.args.site.now) (start_at c.args.seat.now.view c.args.tree.now) (script_of c.args.script.now) c.point_in-place.result (vec_capacity c.in-Ok.told) c.in-Ok.told.items (script_of (take c.point_in-place.result c.args.script.now)) (progress_of c.run_early.new.progress) c.run_early.new.progress.tree c.run_early.new.seat.view
+    armed_well (site_of c.args.site.now) (start_at c.args.seat.now.view c.args.tree.now) (script_of c.args.script.now) c.point_in-place.result (vec_capacity c.in-Ok.reported) c.in-Ok.reported.items (script_of (take c.point_in-place.result c.args.script.now)) (progress_of c.run_early.new.progress) c.run_early.new.progress.tree c.run_early.new.seat.view
     c.point_in-place.ensures c.in-Ok.ensures.items (omega (arith, length-map c.args.script.now instruction_of, c.in-Ok.ensures.capacity)) (front_is c.args.script.now c.point_in-place.result c.point_in-place.ensures) ran.0 ran.1

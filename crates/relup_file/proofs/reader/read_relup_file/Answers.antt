@@ -4,7 +4,7 @@ use Rattle.rel_files.proofs.OneTermFile.{has_term}
 use Rattle.relup_file.specs.declared.fault.RelupFault.TheVariants.{NoMemory}
 use Rattle.relup_file.specs.Fault.{relup_fault_of_file}
 use Rattle.relup_file.specs.File.{IsRelupFault}
-use Rattle.relup_file.proofs.FileLemmas.{tells_terms, passed_on, no_value, only_memory, term_fault, says_term}
+use Rattle.relup_file.proofs.FileLemmas.{reports_terms, passed_on, no_value, only_memory, term_fault, says_term}
 use Rattle.relup_file.proofs.reader.read_relup_file.Goals as goal
 
 pub returns-in_err-file-clause-says : goal.returns-in_err-file-clause-says
@@ -18,7 +18,7 @@ returns-in_err-file-clause-only c = λ r says.
 pub returns-in_err-file-clause-fault : goal.returns-in_err-file-clause-fault
 returns-in_err-file-clause-fault c =
     passed_on (λ f. f ≢ NoMemory → IsRelupFault c.args.bytes.now f) c.from_residual.result (relup_fault_of_file c.in_err-file.field-0.0) c.from_residual.ensures
-    (tells_terms c.args.bytes.now c.in_err-file.field-0.0 c.in_err-file.ensures.fault)
+    (reports_terms c.args.bytes.now c.in_err-file.field-0.0 c.in_err-file.ensures.fault)
 
 pub returns-in_err-file-clause-fits : goal.returns-in_err-file-clause-fits
 returns-in_err-file-clause-fits c = no_value _ c.from_residual.result (relup_fault_of_file c.in_err-file.field-0.0) c.from_residual.ensures

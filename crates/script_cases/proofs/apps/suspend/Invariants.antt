@@ -1,5 +1,5 @@
 use Rattle.held_processes.specs.Course.{on_module}
-use Rattle.held_processes.specs.Operations.{users_of}
+use Rattle.held_processes.specs.Operations.{modules_by_slot}
 use Rattle.held_processes.specs.Course.Operation.{suspend}
 use Rattle.script_cases.proofs.apps.suspend.Given as goal
 
@@ -7,4 +7,4 @@ abbrev pub ghost-suspend : goal.ghost-suspend
 ghost-suspend g a = g.followed
 
 abbrev pub ghost-stop : goal.ghost-stop
-ghost-stop g a = (record { first = g.followed.first; courses = on_module (users_of a.tree.now) a.restart.now.module.now suspend g.followed.courses }, a.tree.now)
+ghost-stop g a = (record { first = g.followed.first; courses = on_module (modules_by_slot a.tree.now) a.restart.now.module.now suspend g.followed.courses }, a.tree.now)

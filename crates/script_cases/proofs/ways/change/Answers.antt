@@ -1,7 +1,7 @@
 use Rattle.erl_term.specs.Value.{value_of}
 use Rattle.worker_table.specs.InMemory.{old_of}
 use Rattle.held_processes.specs.Course.Operation.{change}
-use Rattle.held_processes.specs.Operations.{part_way, users_of}
+use Rattle.held_processes.specs.Operations.{part_way, modules_by_slot}
 use Rattle.script_cases.proofs.ways.change.Goals as goal
 
 pub end-requires : goal.end-requires
@@ -11,6 +11,6 @@ pub roll_back-requires-clause-follow : goal.roll_back-requires-clause-follow
 roll_back-requires-clause-follow g c =
     let upgrade = c.args.upgrade.now in (
       g.followed.first,
-      part_way c.in-Err.field-0.slot (users_of upgrade.users.tree.now) upgrade.users.module.now (change (old_of upgrade.old.now) (value_of upgrade.extra.now)) g.followed.courses,
+      part_way c.in-Err.field-0.slot (modules_by_slot upgrade.users.tree.now) upgrade.users.module.now (change (old_of upgrade.old.now) (value_of upgrade.extra.now)) g.followed.courses,
       (c.in-Err.ensures g.followed.first g.followed.courses c.args.seat.now.view c.requires.1).0,
     )

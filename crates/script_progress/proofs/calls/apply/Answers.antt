@@ -8,7 +8,7 @@ use Rattle.script_progress.specs.Calls.{AppCall, ChildCall}
 use Rattle.script_progress.specs.Children.{CallsChild}
 use Rattle.script_progress.specs.InMemory.{site_of}
 use Rattle.script_progress.specs.Steps.{CarriesOutLate, progress_of}
-use Rattle.script_progress.specs.Stops.{AsksMemory, app_takes_memory, child_takes_memory}
+use Rattle.script_progress.specs.Stops.{AsksMemory, app_takes_memory}
 use Rattle.script_progress.proofs.CallLemmas.{app_called, child_called, other_raises, raised}
 use Rattle.script_progress.proofs.calls.apply.Goals as goal
 
@@ -21,7 +21,7 @@ returns-in-application-clause-carried g c =
     c.requires.1.1.1 c.call_app.ensures.longer
     (ap (λ (n : List ℕ). bytes_eq n (codes "application")) (sym c.as_str.ensures.value ∙ c.in-application.is))
     (subst (λ (k : AppCall). CallsApp s g.past k c.call_app.result (progress_of w.progress) w.progress.tree w.seat.view) c.app_call.ensures c.call_app.ensures.called)
-    (subst (λ (k : AppCall). AsksMemory (app_takes_memory k) c.call_app.result) c.app_call.ensures c.call_app.ensures.memory))
+    (subst (λ (k : AppCall). AsksMemory (app_takes_memory s k g.past.run) c.call_app.result) c.app_call.ensures c.call_app.ensures.memory))
 
 pub returns-in-supervisor-clause-carried : goal.returns-in-supervisor-clause-carried
 returns-in-supervisor-clause-carried g c =
@@ -29,7 +29,6 @@ returns-in-supervisor-clause-carried g c =
     child_called (site_of c.args.site.now) g.past (call_of c.args.call.now) c.call_child.result (progress_of w.progress) w.progress.tree c.args.seat.now.view w.seat.view
     (ap (λ (n : List ℕ). bytes_eq n (codes "supervisor")) (sym c.as_str.ensures.value ∙ c.in-supervisor.is))
     (subst (λ (k : ChildCall). CallsChild g.past k c.call_child.result (progress_of w.progress) w.progress.tree c.args.seat.now.view w.seat.view) c.child_call.ensures c.call_child.ensures.called)
-    (subst (λ (k : ChildCall). AsksMemory (child_takes_memory k) c.call_child.result) c.child_call.ensures c.call_child.ensures.memory)
 
 pub returns-in_default-clause-carried : goal.returns-in_default-clause-carried
 returns-in_default-clause-carried g c =

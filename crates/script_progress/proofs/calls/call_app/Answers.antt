@@ -1,13 +1,13 @@
-use Rattle.std.proofs.Common.{◌∙◌, Option, Some, Err, refl, ap, subst, sym}
+use Rattle.std.proofs.Common.{◌∙◌, Option, Some, ap, subst, sym}
 use Rattle.std.specs.Option.{option_map}
 use Rattle.library.specs.InMemory.{library_of, shared_of}
 use Rattle.library.specs.Library.{Library}
 use Rattle.script_progress.specs.declared.calls.AppCall.{AppCall}
+use Rattle.script_progress.specs.declared.cause.Failure.{Failure}
 use Rattle.script_progress.specs.Apps.{CallsApp, StartsFrom, app_call_of}
-use Rattle.script_progress.specs.InMemory.{site_of}
+use Rattle.script_progress.specs.InMemory.{cause_of, site_of}
 use Rattle.script_progress.specs.Steps.{progress_of}
-use Rattle.script_progress.specs.Stops.{AsksMemory, app_takes_memory}
-use Rattle.script_progress.proofs.CallLemmas.{asks_memory}
+use Rattle.script_progress.specs.Stops.{AsksMemory, app_takes_memory, is_memory, may_start}
 use Rattle.script_progress.proofs.calls.call_app.Goals as goal
 
 pub returns-in-Some-clause-called : goal.returns-in-Some-clause-called
@@ -20,7 +20,10 @@ returns-in-Some-clause-called g c =
 
 pub returns-in-Some-clause-memory : goal.returns-in-Some-clause-memory
 returns-in-Some-clause-memory g c =
-    subst (λ (k : AppCall). AsksMemory (app_takes_memory (app_call_of k)) c.start_from.result) (sym c.in-Starts.is) (asks_memory c.start_from.result)
+    let there = sym c.target_library.ensures ∙ ap (option_map (λ l. shared_of l.now)) c.in-Some.is in
+    subst (λ (k : AppCall). AsksMemory (app_takes_memory (site_of c.args.site.now) (app_call_of k) g.past.run) c.start_from.result) (sym c.in-Starts.is)
+    (subst (λ (o : Option Library). AsksMemory (may_start o g.past.run) c.start_from.result) (sym there)
+    (subst (λ l. AsksMemory (may_start (Some (library_of l)) g.past.run) c.start_from.result) c.as_ref.ensures c.start_from.ensures.memory))
 
 pub returns-in-None-clause-memory : goal.returns-in-None-clause-memory
-returns-in-None-clause-memory g c = subst (λ (k : AppCall). AsksMemory {X = Unit {0}} (app_takes_memory (app_call_of k)) (Err c.failure_at_start.result)) (sym c.in-Starts.is) (λ _. refl)
+returns-in-None-clause-memory g c = λ m. absurd (cc (sym m ∙ ap (λ (f : Failure). is_memory (cause_of f.cause)) c.failure_at_start.ensures))

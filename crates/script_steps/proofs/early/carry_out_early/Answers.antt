@@ -1,7 +1,7 @@
-use Rattle.std.proofs.Common.{refl, ap, subst}
+use Rattle.std.proofs.Common.{ap}
 use Rattle.relup_instruction.specs.Instruction.{call_of, instruction_of}
 use Rattle.script_progress.specs.InMemory.{site_of}
-use Rattle.script_progress.specs.Steps.{IsEarly, progress_of}
+use Rattle.script_progress.specs.Steps.{progress_of}
 use Rattle.script_steps.proofs.FailLemmas.{raises_early}
 use Rattle.script_steps.proofs.early.carry_out_early.Goals as goal
 

@@ -1,7 +1,7 @@
 use Rattle.std.proofs.Common.{◌∙◌, refl, sym, subst}
 use Rattle.held_processes.specs.Course.{Courses}
 use Rattle.held_processes.specs.Following.{AllFollow}
-use Rattle.held_processes.specs.Operations.{users_of}
+use Rattle.held_processes.specs.Operations.{modules_by_slot}
 use Rattle.held_processes.proofs.SlotLemmas.{longer_both, longer_still}
 use Rattle.script_steps.specs.Plain.{plain_operation}
 use Rattle.script_steps.proofs.PlainLemmas.{done_more}
@@ -15,6 +15,6 @@ loop-i-preserved g c = (
   c.do_next.ensures.table ∙ c.loop-i.invariant.0,
   longer_both c.args.seat.now.view c.loop-i.seat.view c.do_next.new.seat.view c.loop-i.invariant.1 c.do_next.ensures.longer,
   subst (λ (cs : Courses). AllFollow g.followed.first cs c.do_next.new.held c.do_next.new.seat.view)
-      (sym (done_more (plain_operation c.args.plain) c.args.names.now c.loop-i.i c.index-names-i.result c.as_str-module.result.now (users_of c.args.tree.now) g.followed.courses c.loop-i-test.true c.index-names-i.is c.as_str-module.ensures.value))
+      (sym (done_more (plain_operation c.args.plain) c.args.names.now c.loop-i.i c.index-names-i.result c.as_str-module.result.now (modules_by_slot c.args.tree.now) g.followed.courses c.loop-i-test.true c.index-names-i.is c.as_str-module.ensures.value))
       c.do_next.ensures.done,
 )

@@ -7,4 +7,4 @@ use Rattle.script_steps.proofs.remove.remove.Goals as goal
 pub returns-clause-carried : goal.returns-clause-carried
 returns-clause-carried g c =
     removed_well (site_of c.args.site.now) g.past (purging_of c.args.purging.now) c.as_str.result.now (progress_of c.args.progress.now) _ c.args.progress.now.tree c.args.seat.now.view c.is_in_use.new.seat.view c.is_in_use.result
-    c.requires.1.1 c.is_in_use.ensures.longer c.is_in_use.ensures.follow c.as_str.ensures.value c.is_in_use.ensures.told c.if-is_in_use.false c.remove.ensures
+    c.requires.1.1 c.is_in_use.ensures.longer c.is_in_use.ensures.follow c.as_str.ensures.value c.is_in_use.ensures.reported c.if-is_in_use.false c.remove.ensures

@@ -1,7 +1,7 @@
 use Rattle.std.proofs.Common.{◌∙◌, refl, sym, subst}
 use Rattle.held_processes.specs.Course.{Courses}
 use Rattle.held_processes.specs.Following.{AllFollow}
-use Rattle.held_processes.specs.Operations.{users_of}
+use Rattle.held_processes.specs.Operations.{modules_by_slot}
 use Rattle.held_processes.proofs.SlotLemmas.{longer_both, longer_still}
 use Rattle.script_steps.proofs.StepLemmas.{suspended_more, suspended_within}
 use Rattle.script_steps.proofs.suspend.hold_all.Goals as goal
@@ -10,7 +10,7 @@ pub returns-in-Err-clause-done : goal.returns-in-Err-clause-done
 returns-in-Err-clause-done g c = (
   refl,
   subst (λ (cs : Courses). AllFollow g.followed.first cs c.hold_next.new.held c.hold_next.new.seat.view)
-      (sym (suspended_within c.args.suspensions.now c.loop-i.i c.index-suspensions-i.result c.in-Err.undone.slot (users_of c.args.tree.now) g.followed.courses c.loop-i-test.true c.index-suspensions-i.is))
+      (sym (suspended_within c.args.suspensions.now c.loop-i.i c.index-suspensions-i.result c.in-Err.undone.slot (modules_by_slot c.args.tree.now) g.followed.courses c.loop-i-test.true c.index-suspensions-i.is))
       c.in-Err.ensures.done,
 )
 
@@ -25,6 +25,6 @@ loop-i-preserved g c = (
   c.hold_next.ensures.table ∙ c.loop-i.invariant.0,
   longer_both c.args.seat.now.view c.loop-i.seat.view c.hold_next.new.seat.view c.loop-i.invariant.1 c.hold_next.ensures.longer,
   subst (λ (cs : Courses). AllFollow g.followed.first cs c.hold_next.new.held c.hold_next.new.seat.view)
-      (sym (suspended_more c.args.suspensions.now c.loop-i.i c.index-suspensions-i.result (users_of c.args.tree.now) g.followed.courses c.loop-i-test.true c.index-suspensions-i.is))
+      (sym (suspended_more c.args.suspensions.now c.loop-i.i c.index-suspensions-i.result (modules_by_slot c.args.tree.now) g.followed.courses c.loop-i-test.true c.index-suspensions-i.is))
       c.in_default.ensures.done,
 )

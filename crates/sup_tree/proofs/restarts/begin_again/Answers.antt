@@ -1,4 +1,4 @@
-use Rattle.std.proofs.Common.{◌∙◌, List, length, ap, subst, sym, arith}
+use Rattle.std.proofs.Common.{◌∙◌, List, length, ap, subst, arith}
 use Rattle.std.specs.Prelude.{Ok, Err}
 use Rattle.std.specs.List.{remove_range}
 use Rattle.loaded_modules.specs.Loaded.{modules_in, tables_of}
@@ -8,7 +8,7 @@ use Rattle.started_members.specs.Preparations.{AllBegan, to_begin}
 use Rattle.started_members.specs.Places.{in_place, replaced}
 use Rattle.started_members.specs.Begins.{restart_members}
 use Rattle.started_members.proofs.BeginLemmas.{all_stand, as_many, in_order}
-use Rattle.started_members.proofs.PlaceLemmas.{IsLeft, fewer_left, left_around, put_there}
+use Rattle.started_members.proofs.PlaceLemmas.{fewer_left, put_there}
 use Rattle.sup_tree.specs.Restarts.{BeginsAgain, app_at}
 use Rattle.sup_tree.specs.Tree.{app_of}
 use Rattle.sup_tree.proofs.RestartLemmas.{child_ended, child_prepared, not_begun}
@@ -55,7 +55,7 @@ returns-clause-begun g c p at =
     let ready = child_prepared tables app.name c.as_str.result.now p app.members c.args.start c.args.end c.index.result.now (Ok c.in_ok-prepared.prepared) at c.index.ensures c.as_str.ensures c.in_ok-prepared.ensures in
     let begun = in_order app.name (restart_members tables p.child) v stand w (subst (λ ps. AllBegan ps v stand w) ready.1 c.begin_all.ensures.began) in
     let taken = c.take_out.ensures.others ∙ ap (λ (ns : List Member). remove_range ns c.args.start c.args.end) c.reserve.ensures.items in
-    let put = put_there p c.args.start c.take_out.new.members.items stand c.put_in.new.members.items (subst (λ ns. IsLeft p c.args.start ns) (sym taken) (left_around p app.members c.args.start c.args.end at)) c.put_in.ensures in
+    let put = put_there p app.members c.take_out.new.members.items stand c.put_in.new.members.items c.args.start c.args.end at taken c.put_in.ensures in
     record {
       sound = ready.0;
       after_end = v;

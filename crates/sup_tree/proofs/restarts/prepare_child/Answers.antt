@@ -7,7 +7,7 @@ use Rattle.mod_table.specs.Table.{ChildSpec}
 use Rattle.started_members.specs.Begins.{specification}
 use Rattle.started_members.specs.Preparations.{preparation_of}
 use Rattle.sup_tree.specs.Restarts.{Prepares, restart_cause}
-use Rattle.sup_tree.proofs.RestartLemmas.{fault_told}
+use Rattle.sup_tree.proofs.RestartLemmas.{fault_reported}
 use Rattle.sup_tree.proofs.restarts.prepare_child.Goals as goal
 
 pub returns-in_err-new : goal.returns-in_err-new
@@ -18,7 +18,7 @@ returns-in_err-new c =
     let own : (record { id = c.as_str.result.now; start = c.as_str-2.result.now; restart = m.restart; kind = m.kind }) ≡ specification m =
     λ j. record { id = c.as_str.ensures j; start = c.as_str-2.ensures j; restart = m.restart; kind = m.kind } in
     passed_on (Prepares tables c.args.app.now m) c.from_residual.result (restart_cause e) c.from_residual.ensures
-    (fault_told e _ (subst (λ (s : ChildSpec). FaultIs e (lone_fault tables m.depth s)) own c.in_err-new.ensures))
+    (fault_reported e _ (subst (λ (s : ChildSpec). FaultIs e (lone_fault tables m.depth s)) own c.in_err-new.ensures))
 
 pub returns : goal.returns
 returns c =

@@ -2,7 +2,7 @@ use Rattle.std.proofs.Common.{◌≡◌, ◌<◌, ◌≤◌, ◌&&◌, ◌∙◌
 use Rattle.std.proofs.lemmas.List.{get_or_read_under}
 use Rattle.proc_table.specs.Agrees.{slots}
 use Rattle.held_processes.specs.Following.{HeldForm, HeldSlots}
-use Rattle.held_processes.specs.Operations.{is_up_user, users_of, values_seen}
+use Rattle.held_processes.specs.Operations.{is_up_user, modules_by_slot, values_seen}
 use Rattle.held_processes.proofs.AnyLemmas.{any_found, any_none}
 use Rattle.held_processes.proofs.FollowLemmas.{at_slot}
 use Rattle.held_processes.proofs.LookLemmas.{looked_at, looked_none, not_user}
@@ -36,11 +36,11 @@ is_up-requires g c κs lives =
       ),
     )
 
-pub returns-then-is_up-clause-told : goal.returns-then-is_up-clause-told
-returns-then-is_up-clause-told g c =
+pub returns-then-is_up-clause-reported : goal.returns-then-is_up-clause-reported
+returns-then-is_up-clause-reported g c =
     let inside = subst (λ n. c.loop-slot.slot < n) c.loop-slot.invariant.1 c.loop-slot-test.true in
-    sym (any_found (is_up_user (values_seen c.is_up.new.seat.view) (users_of c.args.users.now.tree.now) c.args.users.now.module.now g.followed.courses) slots c.loop-slot.slot inside
-    (ap₂ (λ (a b : Bool). a && b) (sym c.if-include.ensures) (sym c.if-is_up.ensures.told)))
+    sym (any_found (is_up_user (values_seen c.is_up.new.seat.view) (modules_by_slot c.args.users.now.tree.now) c.args.users.now.module.now g.followed.courses) slots c.loop-slot.slot inside
+    (ap₂ (λ (a b : Bool). a && b) (sym c.if-include.ensures) (sym c.if-is_up.ensures.reported)))
 
 pub returns-then-is_up-clause-follow : goal.returns-then-is_up-clause-follow
 returns-then-is_up-clause-follow g c =
@@ -51,7 +51,7 @@ returns-then-is_up-clause-follow g c =
 
 pub loop-slot-preserved : goal.loop-slot-preserved
 loop-slot-preserved g c =
-    let users = users_of c.args.users.now.tree.now in
+    let users = modules_by_slot c.args.users.now.tree.now in
     let name = c.args.users.now.module.now in
     let cs = g.followed.courses in
     let slot = c.loop-slot.slot in
@@ -65,7 +65,7 @@ loop-slot-preserved g c =
         looked_at g.followed.first cs c.args.self.now c.loop-slot.seat.view w.is_up.new.seat.view slot w.index.result.now all
             (there c.args.self.now c.self.inside.places.items slot w.index.result.now c.self.view_is inside all.long w.index.ensures) w.if-is_up.ensures.followed,
         looked_none users name cs c.loop-slot.seat.view w.is_up.new.seat.view slot w.if-is_up.ensures.followed.elsewhere.others none
-            (ap₂ (λ (a b : Bool). a && b) (sym w.if-include.ensures) (sym w.if-is_up.ensures.told)),
+            (ap₂ (λ (a b : Bool). a && b) (sym w.if-include.ensures) (sym w.if-is_up.ensures.reported)),
         longer_both c.args.seat.now.view c.loop-slot.seat.view w.is_up.new.seat.view c.loop-slot.invariant.4 w.if-is_up.ensures.longer,
       )
       | else-include w ↦ rw w.seat-is (
@@ -77,10 +77,10 @@ loop-slot-preserved g c =
       )
     ]
 
-pub returns-clause-told : goal.returns-clause-told
-returns-clause-told g c =
+pub returns-clause-reported : goal.returns-clause-reported
+returns-clause-reported g c =
     let far : slots ≤ c.loop-slot.slot = omega (arith, c.loop-slot-test.false, c.loop-slot.invariant.1) in
-    sym (any_none (is_up_user (values_seen c.loop-slot.seat.view) (users_of c.args.users.now.tree.now) c.args.users.now.module.now g.followed.courses) slots
+    sym (any_none (is_up_user (values_seen c.loop-slot.seat.view) (modules_by_slot c.args.users.now.tree.now) c.args.users.now.module.now g.followed.courses) slots
     (λ p inside. c.loop-slot.invariant.3 p (omega (arith, inside, far))))
 
 pub returns-then-is_up-clause-longer : goal.returns-then-is_up-clause-longer

@@ -1,7 +1,7 @@
 use Rattle.std.proofs.Common.{◌≡◌, ℕ, ◌<◌, false}
 use Rattle.proc_table.specs.Agrees.{slots}
 use Rattle.held_processes.specs.Following.{AllFollow, AreLonger}
-use Rattle.held_processes.specs.Operations.{is_up_user, users_of, values_seen}
+use Rattle.held_processes.specs.Operations.{is_up_user, modules_by_slot, values_seen}
 use Rattle.held_processes.proofs.FollowLemmas.{past_of}
 use Rattle.held_processes.proofs.processes.HeldProcesses.any_up.Given as goal
 
@@ -14,5 +14,5 @@ invariant-loop-slot g l =
     (l.seat.table ≡ l.table)
     × (l.slot-end ≡ slots)
     × AllFollow g.followed.first g.followed.courses l.self l.seat.view
-    × ((p : ℕ) → p < l.slot → is_up_user (values_seen l.seat.view) (users_of l.users.tree.now) l.users.module.now g.followed.courses p ≡ false)
+    × ((p : ℕ) → p < l.slot → is_up_user (values_seen l.seat.view) (modules_by_slot l.users.tree.now) l.users.module.now g.followed.courses p ≡ false)
     × AreLonger l.initial.seat.view l.seat.view

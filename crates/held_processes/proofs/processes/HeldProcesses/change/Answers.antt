@@ -6,7 +6,7 @@ use Rattle.proc_table.specs.Agrees.{slots}
 use Rattle.held_processes.specs.Course.{on_module}
 use Rattle.held_processes.specs.Course.Operation.{change}
 use Rattle.held_processes.specs.Following.{AllFollow, HeldSlots}
-use Rattle.held_processes.specs.Operations.{lacks_row_at, up_to, users_of, values_seen}
+use Rattle.held_processes.specs.Operations.{lacks_row_at, up_to, modules_by_slot, values_seen}
 use Rattle.held_processes.specs.Slots.{Steps}
 use Rattle.held_processes.proofs.AnyLemmas.{any_none, one_more}
 use Rattle.held_processes.proofs.ChangeLemmas.{changes_at, changes_not, found_is, lacks_none}
@@ -16,7 +16,7 @@ use Rattle.held_processes.proofs.processes.HeldProcesses.change.Goals.{else-incl
 
 pub loop-slot-init : goal.loop-slot-init
 loop-slot-init c =
-    let users = users_of c.args.users.now.tree.now in
+    let users = modules_by_slot c.args.users.now.tree.now in
     let op = change (old_of c.args.old.now) (value_of c.args.extra.now) in (
       c.len-slot-end.ensures,
       λ first cs v all. (none_reached first (on_module users c.args.users.now.module.now op cs) cs c.self.inside.places.items v (subst (λ (hs : HeldSlots). AllFollow first cs hs v) (sym c.self.view_is) all), λ p below. absurd (omega (arith, below))),
@@ -24,7 +24,7 @@ loop-slot-init c =
 
 pub loop-slot-preserved : goal.loop-slot-preserved
 loop-slot-preserved c =
-    let users = users_of c.args.users.now.tree.now in
+    let users = modules_by_slot c.args.users.now.tree.now in
     let name = c.args.users.now.module.now in
     let old = old_of c.args.old.now in
     let extra = value_of c.args.extra.now in
@@ -60,7 +60,7 @@ loop-slot-preserved c =
 
 pub returns-then-not-change : goal.returns-then-not-change
 returns-then-not-change c = λ first cs v all.
-    let users = users_of c.args.users.now.tree.now in
+    let users = modules_by_slot c.args.users.now.tree.now in
     let name = c.args.users.now.module.now in
     let old = old_of c.args.old.now in
     let extra = value_of c.args.extra.now in
@@ -90,6 +90,6 @@ returns c = λ first cs v all.
     let extra = value_of c.args.extra.now in
     let far : slots ≤ c.loop-slot.slot = omega (arith, c.loop-slot-test.false, c.loop-slot.invariant.0, c.loop-slot.self-inside.places.ok.0, now.long) in (
       all_reached first _ cs _ v c.loop-slot.slot far now,
-      any_none (lacks_row_at old extra (values_seen v) (users_of c.args.users.now.tree.now) c.args.users.now.module.now cs) slots
+      any_none (lacks_row_at old extra (values_seen v) (modules_by_slot c.args.users.now.tree.now) c.args.users.now.module.now cs) slots
           (λ p inside. (c.loop-slot.invariant.1 first cs v all).1 p (omega (arith, inside, far))),
     )

@@ -5,12 +5,12 @@ use Rattle.proc_table.specs.declared.view.View.{View}
 use Rattle.held_processes.specs.Course.{Courses}
 use Rattle.held_processes.specs.Course.Operation.{change}
 use Rattle.held_processes.specs.Following.{AllFollow}
-use Rattle.held_processes.specs.Operations.{lacks_row_at, part_way, users_of, values_seen}
+use Rattle.held_processes.specs.Operations.{lacks_row_at, part_way, modules_by_slot, values_seen}
 use Rattle.held_processes.proofs.processes.HeldProcesses.change.Given as goal
 
 abbrev pub invariant-loop-slot : goal.invariant-loop-slot
 invariant-loop-slot l =
-    let users = users_of l.users.tree.now in
+    let users = modules_by_slot l.users.tree.now in
     let name = l.users.module.now in
     let old = old_of l.old in
     let extra = value_of l.extra in

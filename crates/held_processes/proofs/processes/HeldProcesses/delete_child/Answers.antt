@@ -1,7 +1,7 @@
 use Rattle.std.proofs.Common.{◌∙◌, sym, refl}
 use Rattle.started_members.specs.declared.looks.Stay.TheVariants.{Up}
 use Rattle.sup_tree.specs.Children.{child_place}
-use Rattle.held_processes.proofs.ChildLemmas.{deletes_in, held_on, told_not}
+use Rattle.held_processes.proofs.ChildLemmas.{deletes_in, held_on, reported_not}
 use Rattle.held_processes.proofs.LongerLemmas.{delete_longer}
 use Rattle.held_processes.proofs.SlotLemmas.{longer_both}
 use Rattle.held_processes.proofs.processes.HeldProcesses.delete_child.Goals as goal
@@ -22,7 +22,7 @@ returns g c =
     record {
       table = c.delete_child.ensures.table ∙ c.end_held.ensures.table;
       deleted = deletes_in g.followed c.args.self.now c.end_held.new.self c.args.seat.now.view c.end_held.new.seat.view apps name id c.end_held.result c.delete_child.result c.delete_child.new.self
-          c.delete_child.new.seat.view (told_not c.end_held.result c.in_default.not-Stays) (sym c.has_one_supervisor.ensures ∙ c.if-not-has_one_supervisor.false) c.requires.1.1
+          c.delete_child.new.seat.view (reported_not c.end_held.result c.in_default.not-Stays) (sym c.has_one_supervisor.ensures ∙ c.if-not-has_one_supervisor.false) c.requires.1.1
           (c.end_held.ensures.ended (child_place name id apps) c.child_members-members.ensures) c.end_held.ensures.longer c.delete_child.ensures.deleted;
       longer = longer_both c.args.seat.now.view c.end_held.new.seat.view c.delete_child.new.seat.view c.end_held.ensures.longer
           (delete_longer name id apps c.end_held.new.seat.view c.delete_child.result c.delete_child.new.self c.delete_child.new.seat.view c.delete_child.ensures.deleted);

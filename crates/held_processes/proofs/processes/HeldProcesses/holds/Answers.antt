@@ -2,14 +2,14 @@ use Rattle.std.proofs.Common.{◌<◌, ◌≤◌, ◌&&◌, ◌∙◌, Bool, ap,
 use Rattle.std.proofs.lemmas.List.{get_or_read_under}
 use Rattle.proc_table.specs.Agrees.{slots}
 use Rattle.held_processes.specs.Following.{HeldSlots}
-use Rattle.held_processes.specs.Operations.{is_held_user, users_of}
+use Rattle.held_processes.specs.Operations.{is_held_user, modules_by_slot}
 use Rattle.held_processes.proofs.AnyLemmas.{any_found, any_none, not_both}
 use Rattle.held_processes.proofs.ChangeLemmas.{taken_is_held}
 use Rattle.held_processes.proofs.processes.HeldProcesses.holds.Goals as goal
 
 pub returns-then-include : goal.returns-then-include
 returns-then-include c = λ first cs v all.
-    let users = users_of c.args.users.now.tree.now in
+    let users = modules_by_slot c.args.users.now.tree.now in
     let name = c.args.users.now.module.now in
     let slot = c.loop-slot.slot in
     let inside : slot < slots = omega (arith, c.loop-slot-test.true, c.len-slot-end.ensures, c.self.inside.places.ok.0, ap (λ (hs : HeldSlots). length hs) c.self.view_is, all.long) in
@@ -20,7 +20,7 @@ returns-then-include c = λ first cs v all.
 
 pub returns : goal.returns
 returns c = λ first cs v all.
-    let users = users_of c.args.users.now.tree.now in
+    let users = modules_by_slot c.args.users.now.tree.now in
     let name = c.args.users.now.module.now in
     let far : slots ≤ c.loop-slot.slot = omega (arith, c.loop-slot-test.false, c.len-slot-end.ensures, c.self.inside.places.ok.0, ap (λ (hs : HeldSlots). length hs) c.self.view_is, all.long) in
     sym (any_none (is_held_user users name cs) slots

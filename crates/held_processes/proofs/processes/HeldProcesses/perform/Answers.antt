@@ -4,7 +4,7 @@ use Rattle.proc_table.specs.Agrees.{slots}
 use Rattle.held_processes.specs.Course.{on_module}
 use Rattle.held_processes.specs.Following.{AllFollow, HeldSlots}
 use Rattle.held_processes.specs.InMemory.{operation_of}
-use Rattle.held_processes.specs.Operations.{up_to, users_of}
+use Rattle.held_processes.specs.Operations.{up_to, modules_by_slot}
 use Rattle.held_processes.specs.Slots.{Steps}
 use Rattle.held_processes.proofs.FollowLemmas.{past_of, at_slot, step_over, step_none, pass_over, none_reached, all_reached, on_user, on_other, up_to_here}
 use Rattle.held_processes.proofs.SlotLemmas.{longer_both, longer_still}
@@ -28,8 +28,8 @@ perform-requires g c κs lives =
       lives,
       (
         c.loop-slot.invariant.0,
-        at_slot g.followed.first g.followed.courses (up_to c.loop-slot.slot (on_module (users_of c.args.users.now.tree.now) c.args.users.now.module.now (operation_of c.args.step) g.followed.courses) g.followed.courses) c.loop-slot.self-inside.places.items c.loop-slot.seat.view c.loop-slot.slot c.index_mut.result.now all inside
-            (up_to_here c.loop-slot.slot (on_module (users_of c.args.users.now.tree.now) c.args.users.now.module.now (operation_of c.args.step) g.followed.courses) g.followed.courses) (get_or_read_under _ c.loop-slot.slot slots _ None c.index_mut.ensures.value inside (sym all.long)),
+        at_slot g.followed.first g.followed.courses (up_to c.loop-slot.slot (on_module (modules_by_slot c.args.users.now.tree.now) c.args.users.now.module.now (operation_of c.args.step) g.followed.courses) g.followed.courses) c.loop-slot.self-inside.places.items c.loop-slot.seat.view c.loop-slot.slot c.index_mut.result.now all inside
+            (up_to_here c.loop-slot.slot (on_module (modules_by_slot c.args.users.now.tree.now) c.args.users.now.module.now (operation_of c.args.step) g.followed.courses) g.followed.courses) (get_or_read_under _ c.loop-slot.slot slots _ None c.index_mut.ensures.value inside (sym all.long)),
       ),
     )
 
@@ -40,7 +40,7 @@ returns-in-Err-clause-done g c =
 
 pub loop-slot-preserved : goal.loop-slot-preserved
 loop-slot-preserved g c =
-    let users = users_of c.args.users.now.tree.now in
+    let users = modules_by_slot c.args.users.now.tree.now in
     let name = c.args.users.now.module.now in
     let op = operation_of c.args.step in
     let cs = g.followed.courses in

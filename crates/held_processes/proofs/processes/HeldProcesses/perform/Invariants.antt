@@ -2,7 +2,7 @@ use Rattle.std.proofs.Common.{◌≡◌}
 use Rattle.proc_table.specs.Agrees.{slots}
 use Rattle.held_processes.specs.Following.{AllFollow, AreLonger}
 use Rattle.held_processes.specs.InMemory.{operation_of}
-use Rattle.held_processes.specs.Operations.{part_way, users_of}
+use Rattle.held_processes.specs.Operations.{part_way, modules_by_slot}
 use Rattle.held_processes.proofs.FollowLemmas.{past_of}
 use Rattle.held_processes.proofs.processes.HeldProcesses.perform.Given as goal
 
@@ -13,5 +13,5 @@ abbrev pub invariant-loop-slot : goal.invariant-loop-slot
 invariant-loop-slot g l =
     (l.seat.table ≡ l.table)
     × (l.slot-end ≡ slots)
-    × AllFollow g.followed.first (part_way l.slot (users_of l.users.tree.now) l.users.module.now (operation_of l.step) g.followed.courses) l.self-inside.places.items l.seat.view
+    × AllFollow g.followed.first (part_way l.slot (modules_by_slot l.users.tree.now) l.users.module.now (operation_of l.step) g.followed.courses) l.self-inside.places.items l.seat.view
     × AreLonger l.initial.seat.view l.seat.view

@@ -4,7 +4,7 @@ use Rattle.started_members.specs.declared.looks.Stay.TheVariants.{UpOrTemporary}
 use Rattle.sup_tree.specs.Children.{child_place}
 use Rattle.held_processes.specs.Applications.{scene_at}
 use Rattle.held_processes.specs.Restarts.{RestartsIn}
-use Rattle.held_processes.proofs.ChildLemmas.{held_on, told_not}
+use Rattle.held_processes.proofs.ChildLemmas.{held_on, reported_not}
 use Rattle.held_processes.proofs.LongerLemmas.{restart_longer}
 use Rattle.held_processes.proofs.RestartLemmas.{restarts_in}
 use Rattle.held_processes.proofs.SlotLemmas.{longer_both}
@@ -27,7 +27,7 @@ returns-in-Ok g c =
     record {
       table = c.restart_child.ensures.table ∙ end.ensures.table;
       restarted = restarts_in g.followed c.args.self.now end.new.self c.args.seat.now.view end.new.seat.view c.restart_child.new.seat.view apps c.restart_child.new.self name id
-          (tables_of (modules_in c.args.loaded.now)) end.result (told_not end.result c.in_default.not-Stays) (sym c.has_one_supervisor.ensures ∙ c.if-not-has_one_supervisor.false) c.requires.1.1
+          (tables_of (modules_in c.args.loaded.now)) end.result (reported_not end.result c.in_default.not-Stays) (sym c.has_one_supervisor.ensures ∙ c.if-not-has_one_supervisor.false) c.requires.1.1
           c.knows.ensures.known.legal end.ensures.longer (Ok c.in-Ok.stays) (end.ensures.ended (child_place name id apps) c.child_members-members.ensures) c.in-Ok.ensures.restarted;
       longer = longer_both c.args.seat.now.view end.new.seat.view c.restart_child.new.seat.view end.ensures.longer
           (restart_longer name id (tables_of (modules_in c.args.loaded.now)) apps end.new.seat.view (Ok c.in-Ok.stays) c.restart_child.new.self c.restart_child.new.seat.view c.in-Ok.ensures.restarted);
@@ -44,7 +44,7 @@ returns-in-Err g c =
     record {
       table = c.restart_child.ensures.table ∙ end.ensures.table;
       restarted = subst (λ (b : Bool). RestartsIn g.followed.first name id tables (scene_at g.followed apps) (Err (record { error = c.in-Err.error; given_up = b })) w.self end.new.self c.args.seat.now.view w.seat.view) (sym c.was_given_up.ensures)
-          (restarts_in g.followed c.args.self.now end.new.self c.args.seat.now.view end.new.seat.view w.seat.view apps w.self name id tables end.result (told_not end.result c.in_default.not-Stays)
+          (restarts_in g.followed c.args.self.now end.new.self c.args.seat.now.view end.new.seat.view w.seat.view apps w.self name id tables end.result (reported_not end.result c.in_default.not-Stays)
           (sym c.has_one_supervisor.ensures ∙ c.if-not-has_one_supervisor.false) c.requires.1.1 c.knows.ensures.known.legal end.ensures.longer (Err c.in-Err.error) (end.ensures.ended (child_place name id apps) c.child_members-members.ensures)
           c.in-Err.ensures.restarted);
       longer = longer_both c.args.seat.now.view end.new.seat.view w.seat.view end.ensures.longer

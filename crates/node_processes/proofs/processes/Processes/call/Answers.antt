@@ -9,18 +9,18 @@ returns-in-Some-clause-called g c =
     sym (is_called c.args.app.now c.args.id.now c.args.input c.args.self.now.seat.view _ c.args.self.now.tree (listed_in c.args.self.now.loaded) c.in-Some.pid c.call_alone-tried.result
     (sym c.find.ensures ∙ c.in-Some.is) c.call_alone-tried.ensures.answer).leaves
 
-pub returns-in-Some-clause-told : goal.returns-in-Some-clause-told
-returns-in-Some-clause-told g c =
+pub returns-in-Some-clause-reported : goal.returns-in-Some-clause-reported
+returns-in-Some-clause-reported g c =
     let called = is_called c.args.app.now c.args.id.now c.args.input c.args.self.now.seat.view _ c.args.self.now.tree (listed_in c.args.self.now.loaded) c.in-Some.pid c.call_alone-tried.result
     (sym c.find.ensures ∙ c.in-Some.is) c.call_alone-tried.ensures.answer in
-    subst (λ (line : List ℕ). IfOk c.line_of_call.result (λ text. string_bytes text ≡ line)) (sym called.told) c.line_of_call.ensures
+    subst (λ (line : List ℕ). IfOk c.line_of_call.result (λ text. string_bytes text ≡ line)) (sym called.reported) c.line_of_call.ensures
 
 pub returns-in-None-clause-called : goal.returns-in-None-clause-called
 returns-in-None-clause-called g c =
     sym (call_of_none c.args.app.now c.args.id.now c.args.input c.args.self.now.seat.view c.args.self.now.tree (listed_in c.args.self.now.loaded) (sym c.find.ensures ∙ c.in-None.is)).1
 
-pub returns-in-None-clause-told : goal.returns-in-None-clause-told
-returns-in-None-clause-told g c =
+pub returns-in-None-clause-reported : goal.returns-in-None-clause-reported
+returns-in-None-clause-reported g c =
     let none = call_of_none c.args.app.now c.args.id.now c.args.input c.args.self.now.seat.view c.args.self.now.tree (listed_in c.args.self.now.loaded) (sym c.find.ensures ∙ c.in-None.is) in
     subst (λ (line : List ℕ). IfOk c.from_str.result (λ text. string_bytes text ≡ line)) (sym none.0) c.from_str.ensures.ok
 

@@ -10,11 +10,11 @@ returns-in_ok-counts-in-Some-clause-flooded g c =
     (sym c.find.ensures ∙ c.in-Some.is) c.in_ok-counts-in-Some.ensures.flooded in
     always_ok c.line_of_counts.result _ (sym flood.leaves)
 
-pub returns-in_ok-counts-in-Some-clause-told : goal.returns-in_ok-counts-in-Some-clause-told
-returns-in_ok-counts-in-Some-clause-told g c =
+pub returns-in_ok-counts-in-Some-clause-reported : goal.returns-in_ok-counts-in-Some-clause-reported
+returns-in_ok-counts-in-Some-clause-reported g c =
     let flood = is_flood_of c.args.app.now c.args.id.now c.args.input c.args.times c.args.self.now.seat.view _ c.args.self.now.tree (listed_in c.args.self.now.loaded) c.in-Some.pid c.in_ok-counts-in-Some.counts
     (sym c.find.ensures ∙ c.in-Some.is) c.in_ok-counts-in-Some.ensures.flooded in
-    subst (λ (line : List ℕ). IfOk c.line_of_counts.result (λ text. string_bytes text ≡ line)) (sym flood.told) c.line_of_counts.ensures
+    subst (λ (line : List ℕ). IfOk c.line_of_counts.result (λ text. string_bytes text ≡ line)) (sym flood.reported) c.line_of_counts.ensures
 
 pub returns-in_ok-counts-in-Some-clause-refused : goal.returns-in_ok-counts-in-Some-clause-refused
 returns-in_ok-counts-in-Some-clause-refused g c =

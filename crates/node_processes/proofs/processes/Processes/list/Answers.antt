@@ -24,7 +24,7 @@ loop-slot-preserved g c =
       count_more c.args.self.now.seat.view w c.loop-slot.slot _ _ inside same (pushed.counted ∙ ap (λ k. c.loop-slot.count + (if stands (value_of w k) then 1 else 0)) at) i.3,
     )
 
-pub returns-clause-told : goal.returns-clause-told
-returns-clause-told g c =
+pub returns-clause-reported : goal.returns-clause-reported
+returns-clause-reported g c =
     all_slots c.args.self.now.seat.view c.loop-slot.slot c.loop-slot.count _ _ (omega (arith, c.loop-slot-test.false, c.count-slot-end.ensures, c.loop-slot.auto.slot-end))
     c.loop-slot.invariant.2 c.loop-slot.invariant.3 c.in_ok-push_count.ensures

@@ -47,11 +47,11 @@ pub append-requires-clause-allowed : goal.append-requires-clause-allowed
 append-requires-clause-allowed g c =
     (c.requires.works, list_allows (event_of c.args.event) (list_in c.args.self.now) c.requires.listed (sym c.in_default.ensures))
 
-pub append-requires-clause-told : goal.append-requires-clause-told
-append-requires-clause-told g c =
+pub append-requires-clause-reported : goal.append-requires-clause-reported
+append-requires-clause-reported g c =
     record {
       spells = subst (λ bytes. Spells bytes (record_of (event_of c.args.event) (list_in c.args.self.now))) (sym c.as_str.ensures.value) c.in_ok-body.ensures.spells;
-      tells = c.in_ok-body.ensures.tells;
+      reports = c.in_ok-body.ensures.reports;
     }
 
 pub returns-clause-commits : goal.returns-clause-commits

@@ -6,7 +6,7 @@ use Rattle.node_store.specs.Commits.{IsCompacted}
 use Rattle.node_store.specs.State.{disk_in}
 use Rattle.node_store.specs.declared.node_store.NodeStore.{NodeStore}
 use Rattle.rel_store.specs.State as store
-use Rattle.node_store.proofs.CompactionLemmas.{compacts_so, device_told, done_so, failed_told}
+use Rattle.node_store.proofs.CompactionLemmas.{compacts_so, device_reported, done_so, failed_reported}
 use Rattle.node_store.proofs.node_store.NodeStore.compact_to.Goals as goal
 
 pub returns-clause-compacts : goal.returns-clause-compacts
@@ -25,11 +25,11 @@ returns-clause-done g c =
     (done_so g.D.Disk h q.ready c.args.image.now q.may q.image q.makes c.compact.new.self c.compact.result e.full e.refused e.sound e.settled e.compacted e.start e.base e.end e.format)
 
 pub returns-clause-device : goal.returns-clause-device
-returns-clause-device g c = subst (λ a. IfErr a (λ e. e ≡ Device)) (sym c.unless_failed.ensures) (device_told c.compact.result)
+returns-clause-device g c = subst (λ a. IfErr a (λ e. e ≡ Device)) (sym c.unless_failed.ensures) (device_reported c.compact.result)
 
 pub returns-clause-failed : goal.returns-clause-failed
 returns-clause-failed g c =
     let h = c.args.self.now in
     let q = c.requires in
     subst (λ a. IfErr a (λ _. HasFailed (g.D.Disk.failures (disk_in h)) (g.D.Disk.failures (store.disk_in c.compact.new.self)))) (sym c.unless_failed.ensures)
-    (failed_told g.D.Disk h q.ready c.args.image.now q.may q.image q.makes c.compact.new.self c.compact.result c.compact.ensures.refused)
+    (failed_reported g.D.Disk h q.ready c.args.image.now q.may q.image q.makes c.compact.new.self c.compact.result c.compact.ensures.refused)

@@ -31,8 +31,8 @@ returns-then-is_err-2-clause-commits g c =
     let h = c.args.self.now in
     let e = event_of c.args.event in
     let stepped = opened c.accept.result _ c.if-is_err.ensures.value c.accept.ensures.accepted in
-    let works = reserved_works g.D.Disk h c.requires.sound c.requires.allowed.0 h.store (store_same h.store) e c.accept.new.self c.args.body.now c.requires.told c.requires.format stepped (c.requires.behind c.accept.new.self stepped) in
-    commits g.D.Disk h c.requires.sound c.requires.allowed.0 h.store (store_same h.store) e c.accept.new.self c.args.body.now c.requires.told c.requires.format stepped (c.requires.behind c.accept.new.self stepped) g.met.D.Disk.reads_an_image
+    let works = reserved_works g.D.Disk h c.requires.sound c.requires.allowed.0 h.store (store_same h.store) e c.accept.new.self c.args.body.now c.requires.reported c.requires.format stepped (c.requires.behind c.accept.new.self stepped) in
+    commits g.D.Disk h c.requires.sound c.requires.allowed.0 h.store (store_same h.store) e c.accept.new.self c.args.body.now c.requires.reported c.requires.format stepped (c.requires.behind c.accept.new.self stepped) g.met.D.Disk.reads_an_image
     c.append.new.self _ (rw c.as_bytes.ensures.value at c.append.ensures.any_moment works) (rw c.as_bytes.ensures.value at c.append.ensures.others works) refl c.append.ensures.counted
 
 pub returns-then-is_err-2-clause-refused : goal.returns-then-is_err-2-clause-refused
@@ -40,7 +40,7 @@ returns-then-is_err-2-clause-refused g c =
     let h = c.args.self.now in
     let size = length c.args.body.now in
     let stepped = opened c.accept.result _ c.if-is_err.ensures.value c.accept.ensures.accepted in
-    let works = reserved_works g.D.Disk h c.requires.sound c.requires.allowed.0 h.store (store_same h.store) (event_of c.args.event) c.accept.new.self c.args.body.now c.requires.told c.requires.format stepped (c.requires.behind c.accept.new.self stepped) in
+    let works = reserved_works g.D.Disk h c.requires.sound c.requires.allowed.0 h.store (store_same h.store) (event_of c.args.event) c.accept.new.self c.args.body.now c.requires.reported c.requires.format stepped (c.requires.behind c.accept.new.self stepped) in
     let failed = failed_so g.D.Disk.failures h.store c.append.new.self size c.append.result c.if-is_err-2.ensures.value (rw c.as_bytes.ensures.value at c.append.ensures.refused) c.requires.space c.requires.room works in
     ((c.requires.allowed.0, c.requires.allowed.1, c.requires.space), failed, refl)
 
@@ -50,8 +50,8 @@ returns-clause-commits g c =
     let h = c.args.self.now in
     let e = event_of c.args.event in
     let stepped = opened c.accept.result _ c.if-is_err.ensures.value c.accept.ensures.accepted in
-    let works = reserved_works g.D.Disk h c.requires.sound c.requires.allowed.0 h.store (store_same h.store) e c.accept.new.self c.args.body.now c.requires.told c.requires.format stepped (c.requires.behind c.accept.new.self stepped) in
-    commits g.D.Disk h c.requires.sound c.requires.allowed.0 h.store (store_same h.store) e c.accept.new.self c.args.body.now c.requires.told c.requires.format stepped (c.requires.behind c.accept.new.self stepped) g.met.D.Disk.reads_an_image
+    let works = reserved_works g.D.Disk h c.requires.sound c.requires.allowed.0 h.store (store_same h.store) e c.accept.new.self c.args.body.now c.requires.reported c.requires.format stepped (c.requires.behind c.accept.new.self stepped) in
+    commits g.D.Disk h c.requires.sound c.requires.allowed.0 h.store (store_same h.store) e c.accept.new.self c.args.body.now c.requires.reported c.requires.format stepped (c.requires.behind c.accept.new.self stepped) g.met.D.Disk.reads_an_image
     c.append.new.self _ (rw c.as_bytes.ensures.value at c.append.ensures.any_moment works) (rw c.as_bytes.ensures.value at c.append.ensures.others works) refl c.append.ensures.counted
 
 pub returns-clause-ready : goal.returns-clause-ready
@@ -61,7 +61,7 @@ returns-clause-ready g c =
     let stepped = opened c.accept.result _ c.if-is_err.ensures.value c.accept.ensures.accepted in
     let added : store.records_in c.append.new.self ≡ store.records_in h.store ++ c.as_bytes.result.now ∷ [] = opened c.append.result _ c.if-is_err-2.ensures.value c.append.ensures.added in
     let end : store.end_in c.append.new.self ≡ store.end_in h.store + (5 + length c.as_bytes.result.now) = opened c.append.result _ c.if-is_err-2.ensures.value c.append.ensures.end in
-    ready_next g.D.Disk h c.requires.sound c.requires.allowed.0 h.store (store_same h.store) e c.accept.new.self c.args.body.now c.requires.told c.requires.format stepped (c.requires.behind c.accept.new.self stepped)
+    ready_next g.D.Disk h c.requires.sound c.requires.allowed.0 h.store (store_same h.store) e c.accept.new.self c.args.body.now c.requires.reported c.requires.format stepped (c.requires.behind c.accept.new.self stepped)
     c.append.new.self (opened c.append.result _ c.if-is_err-2.ensures.value c.append.ensures.settled) (rw c.as_bytes.ensures.value at added) c.append.ensures.base (rw c.as_bytes.ensures.value at end) c.append.ensures.format
 
 pub returns-clause-start : goal.returns-clause-start
@@ -74,6 +74,6 @@ returns-clause-appended g c =
     let stepped = opened c.accept.result _ c.if-is_err.ensures.value c.accept.ensures.accepted in
     let added : store.records_in c.append.new.self ≡ store.records_in h.store ++ c.as_bytes.result.now ∷ [] = opened c.append.result _ c.if-is_err-2.ensures.value c.append.ensures.added in
     let end : store.end_in c.append.new.self ≡ store.end_in h.store + (5 + length c.as_bytes.result.now) = opened c.append.result _ c.if-is_err-2.ensures.value c.append.ensures.end in
-    is_appended g.D.Disk h c.requires.sound c.requires.allowed.0 h.store (store_same h.store) e c.accept.new.self c.args.body.now c.requires.told c.requires.format stepped (c.requires.behind c.accept.new.self stepped)
+    is_appended g.D.Disk h c.requires.sound c.requires.allowed.0 h.store (store_same h.store) e c.accept.new.self c.args.body.now c.requires.reported c.requires.format stepped (c.requires.behind c.accept.new.self stepped)
     c.append.new.self (opened c.append.result _ c.if-is_err-2.ensures.value c.append.ensures.settled) (rw c.as_bytes.ensures.value at added) c.append.ensures.base (rw c.as_bytes.ensures.value at end) c.append.ensures.format
     (commanded_then e h.list c.accept.new.self c.requires.allowed.1 stepped) c.requires.space

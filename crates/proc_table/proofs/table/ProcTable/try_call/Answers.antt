@@ -5,12 +5,12 @@ pub invariant_of-pass-2 : goal.invariant_of-pass-2
 invariant_of-pass-2 c =
     let m = c.take-found.new.seat.me in
     let made = call_made c.args.pid.slot c.args.pid.round c.args.input c.pass.inside.seat.me.0 m _ _ c.args.pid.inside c.pass.invariant.1
-    (took_alone _ _ m c.pass.invariant.0 (on_zero _ _ _ c.if-found-ne0.false c.take-found.ensures.told)) c.run-outcome.ensures.outcome c.run-outcome.ensures.gave in
+    (took_alone _ _ m c.pass.invariant.0 (on_zero _ _ _ c.if-found-ne0.false c.take-found.ensures.reported)) c.run-outcome.ensures.outcome c.run-outcome.ensures.gave in
     (made.left.empty, made.left.pass)
 
 pub returns-clause-answer : goal.returns-clause-answer
 returns-clause-answer c =
     let m = c.take-found.new.seat.me in
     let made = call_made c.args.pid.slot c.args.pid.round c.args.input c.pass.inside.seat.me.0 m _ _ c.args.pid.inside c.pass.invariant.1
-    (took_alone _ _ m c.pass.invariant.0 (on_zero _ _ _ c.if-found-ne0.false c.take-found.ensures.told)) c.run-outcome.ensures.outcome c.run-outcome.ensures.gave in
+    (took_alone _ _ m c.pass.invariant.0 (on_zero _ _ _ c.if-found-ne0.false c.take-found.ensures.reported)) c.run-outcome.ensures.outcome c.run-outcome.ensures.gave in
     rw (← c.pass.view_is, c.of.ensures) made.answer

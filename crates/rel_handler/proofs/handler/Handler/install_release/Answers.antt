@@ -15,13 +15,13 @@ use Rattle.node_upgrade.specs.Running.{NodeState, state}
 use Rattle.node_upgrade.proofs.RunLemmas.{nothing_done}
 use Rattle.node_store.specs.declared.node_store.NodeStore.{NodeStore}
 use Rattle.node_store.specs.Commits.{IsRecordFor}
-use Rattle.node_store.specs.Image.{HasSpace, LeavesBootSpace, start_slot}
+use Rattle.node_store.specs.Image.{HasSpace, LeavesBootSpace, start_bytes}
 use Rattle.rel_handler.specs.Installing.{InstallRefused, install_event, install_size, installation_event}
 use Rattle.node_store.specs.Refusals.{HasNoRoom}
 use Rattle.node_store.specs.State.{disk_in, extent_in, list_in, store_extent}
 use Rattle.node_store.proofs.Commits.{all_same, extent_kept, have_versions, rested, same_with, unchanged}
 use Rattle.node_store.proofs.CompactionLemmas.{with_dead}
-use Rattle.rel_handler.proofs.InstallLemmas.{committed, dead_told, done_behind, event_brings_none, event_stays, event_told, installation_is_commanded, no_room_for, no_upgrade, not_run, not_run_commits, room_for_body, room_left, room_told, script_allows, size_told}
+use Rattle.rel_handler.proofs.InstallLemmas.{committed, dead_reported, done_behind, event_brings_none, event_stays, event_reported, installation_is_commanded, no_room_for, no_upgrade, not_run, not_run_commits, room_for_body, room_left, room_reported, script_allows, size_reported}
 use Rattle.rel_handler.proofs.handler.Handler.install_release.Goals as goal
 
 -- there is no script that may begin
@@ -79,7 +79,7 @@ returns-in_err-make_room-clause-refused g c =
     let u = upgrade_of c.in_ok-upgrade.upgrade in
     let why = c.in_err-make_room.field-0.0 in
     let size : length c.as_str-text.result.now ≡ change_size (installation_event c.restarts.result c.args.vsn.now) (list_in h) = ap length c.as_str-text.ensures.value ∙ c.in_ok-event.ensures.size in
-    let room = room_told c.args.vsn.now (list_in h) u.found c.in_ok-upgrade.ensures.found.found c.restarts.result c.restarts.ensures _ c.in_ok-event.field-0.room size c.in_ok-event.ensures.room in
+    let room = room_reported c.args.vsn.now (list_in h) u.found c.in_ok-upgrade.ensures.found.found c.restarts.result c.restarts.ensures _ c.in_ok-event.field-0.room size c.in_ok-event.ensures.room in
     refuses_with (InstallRefused g.D.Disk.failures c.args.vsn.now h mid n n) c.from_residual-in_err-make_room.result (Command why) c.from_residual-in_err-make_room.ensures
     (no_room_for g.D.Disk.failures c.args.vsn.now h c.if-self.false mid (same_with h c.make_room.new.store c.make_room.ensures.kept) u c.in_ok-upgrade.ensures.found n why
     (nothing_done n c.requires.free) (subst (λ size. HasNoRoom (extent_in h) size why) room c.in_err-make_room.ensures.refused)))
@@ -98,11 +98,11 @@ commit_installation-requires-clause-allowed g c =
           (installation_is_commanded c.restarts.result c.args.vsn.now es (upgrade_of c.in_ok-upgrade.upgrade).found c.in_ok-upgrade.ensures.found.found),
     )
 
-pub commit_installation-requires-clause-told : goal.commit_installation-requires-clause-told
-commit_installation-requires-clause-told g c =
+pub commit_installation-requires-clause-reported : goal.commit_installation-requires-clause-reported
+commit_installation-requires-clause-reported g c =
     let es = list_in c.self.inside.node in
     subst (λ e. IsRecordFor c.as_str-text.result.now e es) (sym c.in_ok-event.ensures.event)
-    (subst (λ b. IsRecordFor b (installation_event c.restarts.result c.args.vsn.now) es) (sym c.as_str-text.ensures.value) c.in_ok-event.ensures.told)
+    (subst (λ b. IsRecordFor b (installation_event c.restarts.result c.args.vsn.now) es) (sym c.as_str-text.ensures.value) c.in_ok-event.ensures.reported)
 
 pub commit_installation-requires-clause-behind : goal.commit_installation-requires-clause-behind
 commit_installation-requires-clause-behind g c =
@@ -134,8 +134,8 @@ returns-in_err-commit_installation-clause-commits g c =
     let mid : NodeStore _ = record { store = c.make_room.new.store; list = h.list; dead = h.dead } in
     let size : length c.as_str-text.result.now ≡ change_size (installation_event c.restarts.result c.args.vsn.now) (list_in h) = ap length c.as_str-text.ensures.value ∙ c.in_ok-event.ensures.size in
     committed g.D.Disk h mid c.commit_installation.new.self (same_with h c.make_room.new.store c.make_room.ensures.kept) _ _
-    (event_told c.args.vsn.now (list_in h) u.found c.in_ok-upgrade.ensures.found.found c.restarts.result c.restarts.ensures _ c.in_ok-event.ensures.event) _ _
-    (size_told c.args.vsn.now (list_in h) u.found c.in_ok-upgrade.ensures.found.found c.restarts.result c.restarts.ensures _ size) c.in_err-commit_installation.ensures.commits)
+    (event_reported c.args.vsn.now (list_in h) u.found c.in_ok-upgrade.ensures.found.found c.restarts.result c.restarts.ensures _ c.in_ok-event.ensures.event) _ _
+    (size_reported c.args.vsn.now (list_in h) u.found c.in_ok-upgrade.ensures.found.found c.restarts.result c.restarts.ensures _ size) c.in_err-commit_installation.ensures.commits)
 
 pub returns-in_err-commit_installation-clause-refused : goal.returns-in_err-commit_installation-clause-refused
 returns-in_err-commit_installation-clause-refused g c =
@@ -147,7 +147,7 @@ returns-in_err-commit_installation-clause-refused g c =
     let u = upgrade_of c.in_ok-upgrade.upgrade in
     let why = c.in_err-commit_installation.field-0.0 in
     let size : length c.as_str-text.result.now ≡ change_size (installation_event c.restarts.result c.args.vsn.now) (list_in h) = ap length c.as_str-text.ensures.value ∙ c.in_ok-event.ensures.size in
-    let room = room_told c.args.vsn.now (list_in h) u.found c.in_ok-upgrade.ensures.found.found c.restarts.result c.restarts.ensures _ c.in_ok-event.field-0.room size c.in_ok-event.ensures.room in
+    let room = room_reported c.args.vsn.now (list_in h) u.found c.in_ok-upgrade.ensures.found.found c.restarts.result c.restarts.ensures _ c.in_ok-event.field-0.room size c.in_ok-event.ensures.room in
     let failed = subst (λ d. HasFailed (g.D.Disk.failures d) (g.D.Disk.failures (disk_in w))) c.make_room.ensures.kept.disk c.in_err-commit_installation.ensures.failed in
     refuses_with (InstallRefused g.D.Disk.failures c.args.vsn.now h w old new) c.from_residual-in_err-commit_installation.result (Command why) c.from_residual-in_err-commit_installation.ensures
     (subst (λ e. InstallRefused g.D.Disk.failures c.args.vsn.now h w old new (Command e)) (sym c.in_err-commit_installation.ensures.device) (
@@ -166,8 +166,8 @@ returns-clause-commits g c =
     let mid : NodeStore _ = record { store = c.make_room.new.store; list = h.list; dead = h.dead } in
     let size : length c.as_str-text.result.now ≡ change_size (installation_event c.restarts.result c.args.vsn.now) (list_in h) = ap length c.as_str-text.ensures.value ∙ c.in_ok-event.ensures.size in
     committed g.D.Disk h mid c.commit_installation.new.self (same_with h c.make_room.new.store c.make_room.ensures.kept) _ _
-    (event_told c.args.vsn.now (list_in h) u.found c.in_ok-upgrade.ensures.found.found c.restarts.result c.restarts.ensures _ c.in_ok-event.ensures.event) _ _
-    (size_told c.args.vsn.now (list_in h) u.found c.in_ok-upgrade.ensures.found.found c.restarts.result c.restarts.ensures _ size) c.in_ok-commit_installation.ensures.commits)
+    (event_reported c.args.vsn.now (list_in h) u.found c.in_ok-upgrade.ensures.found.found c.restarts.result c.restarts.ensures _ c.in_ok-event.ensures.event) _ _
+    (size_reported c.args.vsn.now (list_in h) u.found c.in_ok-upgrade.ensures.found.found c.restarts.result c.restarts.ensures _ size) c.in_ok-commit_installation.ensures.commits)
 
 pub returns-clause-done : goal.returns-clause-done
 returns-clause-done g c =
@@ -177,8 +177,8 @@ returns-clause-done g c =
     let mid : NodeStore _ = record { store = c.make_room.new.store; list = h.list; dead = h.dead } in
     let size : length c.as_str-text.result.now ≡ change_size (installation_event c.restarts.result c.args.vsn.now) (list_in h) = ap length c.as_str-text.ensures.value ∙ c.in_ok-event.ensures.size in
     done_behind g.D.Disk h mid c.commit_installation.new.self (same_with h c.make_room.new.store c.make_room.ensures.kept) _ _
-    (event_told c.args.vsn.now (list_in h) u.found c.in_ok-upgrade.ensures.found.found c.restarts.result c.restarts.ensures _ c.in_ok-event.ensures.event) _ _
-    (size_told c.args.vsn.now (list_in h) u.found c.in_ok-upgrade.ensures.found.found c.restarts.result c.restarts.ensures _ size) c.in_ok-commit_installation.ensures.done)
+    (event_reported c.args.vsn.now (list_in h) u.found c.in_ok-upgrade.ensures.found.found c.restarts.result c.restarts.ensures _ c.in_ok-event.ensures.event) _ _
+    (size_reported c.args.vsn.now (list_in h) u.found c.in_ok-upgrade.ensures.found.found c.restarts.result c.restarts.ensures _ size) c.in_ok-commit_installation.ensures.done)
 
 pub returns-clause-room : goal.returns-clause-room
 returns-clause-room g c =
@@ -186,19 +186,19 @@ returns-clause-room g c =
     (let h = c.self.inside.node in
     let u = upgrade_of c.in_ok-upgrade.upgrade in
     let size : length c.as_str-text.result.now ≡ change_size (installation_event c.restarts.result c.args.vsn.now) (list_in h) = ap length c.as_str-text.ensures.value ∙ c.in_ok-event.ensures.size in
-    let room = room_told c.args.vsn.now (list_in h) u.found c.in_ok-upgrade.ensures.found.found c.restarts.result c.restarts.ensures _ c.in_ok-event.field-0.room size c.in_ok-event.ensures.room in
+    let room = room_reported c.args.vsn.now (list_in h) u.found c.in_ok-upgrade.ensures.found.found c.restarts.result c.restarts.ensures _ c.in_ok-event.field-0.room size c.in_ok-event.ensures.room in
     subst (λ n. HasSpace (extent_in h) n) room c.in_ok-make_room.ensures.space)
 
 pub returns-clause-dead : goal.returns-clause-dead
 returns-clause-dead g c =
     rw (← c.self.view_is)
     (c.in_ok-commit_installation.ensures.dead
-    ∙ dead_told c.args.vsn.now (list_in c.self.inside.node) (upgrade_of c.in_ok-upgrade.upgrade).found c.in_ok-upgrade.ensures.found.found c.restarts.result c.restarts.ensures _ c.in_ok-event.ensures.event)
+    ∙ dead_reported c.args.vsn.now (list_in c.self.inside.node) (upgrade_of c.in_ok-upgrade.upgrade).found c.in_ok-upgrade.ensures.found.found c.restarts.result c.restarts.ensures _ c.in_ok-event.ensures.event)
 
 pub returns-clause-start : goal.returns-clause-start
 returns-clause-start g c =
     rw (← c.self.view_is)
-    (c.in_ok-commit_installation.ensures.start ∙ ap (λ d. start_slot (g.D.Disk.seen d)) c.make_room.ensures.kept.disk)
+    (c.in_ok-commit_installation.ensures.start ∙ ap (λ d. start_bytes (g.D.Disk.seen d)) c.make_room.ensures.kept.disk)
 
 -- the script wasn't carried out to its end
 pub returns-in-Err-clause-commits : goal.returns-in-Err-clause-commits
@@ -220,7 +220,7 @@ returns-in-Err-clause-refused g c =
     let new : NodeState = state c.run.new.seat.view c.run.new.tree (listed_in c.run.new.loaded) in
     let u = upgrade_of c.in_ok-upgrade.upgrade in
     let size : length c.as_str-text.result.now ≡ change_size (installation_event c.restarts.result c.args.vsn.now) (list_in h) = ap length c.as_str-text.ensures.value ∙ c.in_ok-event.ensures.size in
-    let room = room_told c.args.vsn.now (list_in h) u.found c.in_ok-upgrade.ensures.found.found c.restarts.result c.restarts.ensures _ c.in_ok-event.field-0.room size c.in_ok-event.ensures.room in
+    let room = room_reported c.args.vsn.now (list_in h) u.found c.in_ok-upgrade.ensures.found.found c.restarts.result c.restarts.ensures _ c.in_ok-event.field-0.room size c.in_ok-event.ensures.room in
     subst (λ d. InstallRefused g.D.Disk.failures c.args.vsn.now h (with_dead mid d) old new c.in-Err.error) (sym c.must_boot-self-inside.ensures)
     (not_run g.D.Disk.failures c.args.vsn.now h c.if-self.false mid (same_with h c.make_room.new.store c.make_room.ensures.kept) u c.in_ok-upgrade.ensures.found old new c.in-Err.error
     (subst (λ n. HasSpace (extent_in h) n) room c.in_ok-make_room.ensures.space) c.in-Err.ensures.refused))

@@ -4,9 +4,9 @@ use Rattle.rel_list.specs.Releases.{has_one_shot}
 use Rattle.rel_store.specs.Layout.{slot_with}
 use Rattle.node_command.specs.Files.{bundle_brought, made_size}
 use Rattle.rel_handler.specs.Moments.{WritesNothing}
-use Rattle.rel_handler.specs.Refusals.{MakingRefused, told_create}
+use Rattle.rel_handler.specs.Refusals.{MakingRefused, reported_create}
 use Rattle.rel_handler.proofs.Boots.{unwritten, nothing_begun, sound_so, begins_at, begins, made_new, fits_in_a_slot, is_create_error, making_refused}
-use Rattle.node_store.specs.Image.{extent_behind, first_extent, HasSpace, IsStarted, start_slot}
+use Rattle.node_store.specs.Image.{extent_behind, first_extent, HasSpace, IsStarted, start_bytes}
 use Rattle.node_store.specs.State.{store_extent}
 use Rattle.node_store.proofs.Images.{each_image, no_boot_space, same_extent}
 use Rattle.rel_handler.proofs.NewNodes.{started_new}
@@ -28,7 +28,7 @@ returns-in-Ok-create-clause-sound g c =
     sound_so g.D.Disk.seen g.D.Disk.may_leave c.in-Ok-create.store c.in-Ok.new.list c.in-Ok-create.ensures.settled (made_new c.in-Ok-create.store.format (bundle_brought (brought_of c.args.brought)) c.as_bytes.result.now _ c.in-Ok.new.list (c.requires.small, c.requires.whole.complete) spelled c.in-Ok-create.ensures.records c.in-Ok.ensures.list) (ap has_one_shot c.in-Ok.ensures.list)
     (λ d now. subst (λ l. IsStarted l d) (sym c.in-Ok.ensures.list)
     (started_new (bundle_brought (brought_of c.args.brought)) c.as_bytes-2.result.now d c.requires.terms.says.release.versions (c.as_bytes-2.ensures.value ∙ c.in-Ok.ensures.start)
-    (ap (λ l. start_slot l) (c.in-Ok-create.ensures.settled.durable d now) ∙ c.in-Ok-create.ensures.start)))
+    (ap (λ l. start_bytes l) (c.in-Ok-create.ensures.settled.durable d now) ∙ c.in-Ok-create.ensures.start)))
 
 pub returns-in-Ok-create-clause-acknowledged : goal.returns-in-Ok-create-clause-acknowledged
 returns-in-Ok-create-clause-acknowledged g c = λ d now.
@@ -75,7 +75,7 @@ returns-clause-refused g c =
     let now = g.D.Disk.failures disk in
     let refused = making_refused bytes c.as_bytes.result.now before now unwritten c.in-Err.error c.in-Err.ensures.refused in
     subst (λ e. MakingRefused bytes (made_size (brought_of c.args.brought)) before now unwritten e) (sym c.create_error.ensures)
-    (subst (λ n. MakingRefused bytes n before now unwritten (told_create c.in-Err.error)) long refused)
+    (subst (λ n. MakingRefused bytes n before now unwritten (reported_create c.in-Err.error)) long refused)
 
 pub returns-clause-any_moment : goal.returns-clause-any_moment
 returns-clause-any_moment g c =

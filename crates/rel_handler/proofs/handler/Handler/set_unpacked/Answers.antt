@@ -1,6 +1,6 @@
 use Rattle.std.proofs.Common.{◌≡◌, inl, inr, true, None, refl, sym, ◌∙◌, subst, rules}
 use Rattle.rel_list.specs.Event.Event.{unpacked}
-use Rattle.node_command.specs.Files.{bundle_brought, unpacked_size, IsToldAs}
+use Rattle.node_command.specs.Files.{bundle_brought, unpacked_size, IsReportedAs}
 use Rattle.node_command.specs.Place.{has_room, refusal_with}
 use Rattle.rel_handler.specs.Unpacking.{UnpackingRefused}
 use Rattle.rel_unpack.specs.Unpacking.{brought_of}
@@ -54,7 +54,7 @@ returns-in_err-brought-2-clause-refused g c =
       read = c.in_ok-brought.ensures.brought;
       alive = c.if-self.false;
       fresh = c.in_ok-vsn.ensures.fresh;
-      barred = subst (λ o. IsToldAs o why) (sym (agrees_so b h.list c.in_ok-vsn.ensures.fresh c.in_ok-vsn.ensures.agree)) (subst (λ r. IsToldAs (refusal_with r b) why) c.has_room.ensures c.in_err-brought-2.ensures.refused);
+      barred = subst (λ o. IsReportedAs o why) (sym (agrees_so b h.list c.in_ok-vsn.ensures.fresh c.in_ok-vsn.ensures.agree)) (subst (λ r. IsReportedAs (refusal_with r b) why) c.has_room.ensures c.in_err-brought-2.ensures.refused);
       same = all_same h;
     })))))
 

@@ -9,8 +9,8 @@ unreachable-requires g c =
     let s = (rw (← c.self.view_is) at c.requires).started c.if-self.false (g.D.Disk.seen (disk_in h)) (g.met.D.Disk.reads_an_image (disk_in h)) in
     (rw c.in-Err-BadStart.field-0-is at c.in-Err-BadStart.ensures.refused).0 _ s.spells
 
-pub returns-in-Ok-clause-tells : goal.returns-in-Ok-clause-tells
-returns-in-Ok-clause-tells g c =
+pub returns-in-Ok-clause-reports : goal.returns-in-Ok-clause-reports
+returns-in-Ok-clause-reports g c =
     rw (← c.self.view_is)
     (let h = c.self.inside.node in
     let s = (rw (← c.self.view_is) at c.requires).started c.if-self.false (g.D.Disk.seen (disk_in h)) (g.met.D.Disk.reads_an_image (disk_in h)) in

@@ -3,9 +3,9 @@ use Rattle.node_command.specs.Taking.{change_size, no_terms}
 use Rattle.node_store.specs.Commits.{IsRecordFor}
 use Rattle.rel_handler.proofs.install_record.InstallRecord.of.Goals as goal
 
-pub returns-clause-told : goal.returns-clause-told
-returns-clause-told c =
-    subst (λ e. IsRecordFor (string_bytes c.in_ok-body.body) e c.args.list.now) c.in_ok-event.ensures (record { spells = c.in_ok-body.ensures.spells; tells = c.in_ok-body.ensures.tells })
+pub returns-clause-reported : goal.returns-clause-reported
+returns-clause-reported c =
+    subst (λ e. IsRecordFor (string_bytes c.in_ok-body.body) e c.args.list.now) c.in_ok-event.ensures (record { spells = c.in_ok-body.ensures.spells; reports = c.in_ok-body.ensures.reports })
 
 pub returns-clause-size : goal.returns-clause-size
 unfolding change_size

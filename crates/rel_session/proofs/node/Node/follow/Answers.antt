@@ -12,7 +12,7 @@ returns-in-File-clause-followed g c =
     let base = g.F.Files.gives c.args.base.now in
     let old = c.args.self in
     subst (λ x. FollowsCommand g.D.Disk base (command_of x) c.keep-kept.result old (record { place = old.place; files = c.keep-kept.new.files })) (sym c.in-File.is)
-    (gives g.D.Disk laws base old c.keep-kept.new.files (string_bytes c.in-File.path) (given_of c.in-File.file) c.keep-kept.result c.keep-kept.ensures.kept c.keep-kept.ensures.told)
+    (gives g.D.Disk laws base old c.keep-kept.new.files (string_bytes c.in-File.path) (given_of c.in-File.file) c.keep-kept.result c.keep-kept.ensures.kept c.keep-kept.ensures.reported)
 
 pub returns-in-Quit-clause-followed : goal.returns-in-Quit-clause-followed
 returns-in-Quit-clause-followed g c = (ap command_of c.in-Quit.is, refl)

@@ -15,6 +15,6 @@ returns-in-Ok-clause-booted g c =
 pub returns-in-Err-clause-booted : goal.returns-in-Err-clause-booted
 returns-in-Err-clause-booted g c =
     let laws : IsDevice g.D.Disk = record { reads_an_image = g.met.D.Disk.reads_an_image; counts_now = g.met.D.Disk.counts_now; only_now = g.met.D.Disk.only_now } in
-    line_never_stops g.D.Disk laws Boots (λ p a. StopsWithin p boots_node a) c.refused_line.result c.args.self (memory.Idle c.in-Err.disk)
+    line_never_stops g.D.Disk laws Boots (λ p a. StopsWithin p boots_node a) c.boot_refusal_line.result c.args.self (memory.Idle c.in-Err.disk)
     (boot_without_memory g.D.Disk laws c.args.self c.into_disk.result c.in-Err.disk c.into_disk.ensures c.in-Err.ensures.any_moment c.in-Err.ensures.stored c.in-Err.ensures.counted c.in-Err.error c.in-Err.ensures.refused
-    (λ other. ⊎_elim (λ failed. absurd (other failed)) (λ read. (read.same, read.any_moment)) c.in-Err.ensures.quiet) c.in-Err.ensures.only c.refused_line.result c.refused_line.ensures.told c.refused_line.ensures.memory)
+    (λ other. ⊎_elim (λ failed. absurd (other failed)) (λ read. (read.same, read.any_moment)) c.in-Err.ensures.quiet) c.in-Err.ensures.only c.boot_refusal_line.result c.boot_refusal_line.ensures.reported c.boot_refusal_line.ensures.memory)

@@ -1,13 +1,13 @@
 use Rattle.std.proofs.Common.{◌≡◌, true, false, rules, sym, subst, ◌∙◌, Ok, Err, IsOk, OnOk, string_bytes}
 use Rattle.node_store.specs.State.{is_dead}
-use Rattle.rel_session.specs.InMemory.{AnswersAction, IsSoundPlace, TellsInstallation}
+use Rattle.rel_session.specs.InMemory.{AnswersAction, IsSoundPlace, ReportsInstallation}
 use Rattle.rel_session.specs.Node.{Place, Reply}
 use Rattle.rel_session.specs.Transition.{Acts, StopsWithin}
 use Rattle.rel_session.specs.Transition.Action.{installs}
 use Rattle.rel_session.specs.declared.place.Place.TheVariants as memory
 use Rattle.node_command.specs.declared.error.HandlerError.TheVariants as handler_error
 use Rattle.rel_session.proofs.DeviceLemmas.{IsDevice}
-use Rattle.rel_session.proofs.InstallReplies.{answers_install, answers_restart, answers_untold, on_done, on_undone, tells_appended}
+use Rattle.rel_session.proofs.InstallReplies.{answers_install, answers_restart, answers_unreported, on_done, on_undone, reports_appended}
 use Rattle.rel_session.proofs.Replies.{never_stops, stops_from_there, changes_nowhere, changes_dead, idle_installs}
 use Rattle.rel_session.proofs.place.Place.install.Goals as goal
 use Rattle.rel_session.proofs.place.Place.install.Goals.{then-is_ok, else-is_ok}
@@ -30,7 +30,7 @@ returns-then-is_dead-clause-installed g c =
     stops_from_there g.D.Disk laws Does Stops (Err handler_error.Dead) c.args.self there there c.in-Made.is
     (never_stops g.D.Disk laws Does Stops (Err handler_error.Dead) there there (changes_dead g.D.Disk laws Does (idle_installs g.D.Disk laws c.args.vsn.now) c.in-Made.node (search rules)))
 
--- it was told, and the node works on
+-- it was reported, and the node works on
 pub returns-then-not-restarts-clause-installed : goal.returns-then-not-restarts-clause-installed
 returns-then-not-restarts-clause-installed g c =
     let laws : IsDevice g.D.Disk = record { reads_an_image = g.met.D.Disk.reads_an_image; counts_now = g.met.D.Disk.counts_now; only_now = g.met.D.Disk.only_now } in
@@ -47,7 +47,7 @@ returns-then-not-restarts-clause-installed g c =
     let sound = subst (IsSoundPlace g.D.Disk.seen g.D.Disk.may_leave) c.in-Made.is c.requires in
     stops_from_there g.D.Disk laws Does Stops (Ok c.in-Ok.line) c.args.self (memory.Made n) (memory.Made new) c.in-Made.is
     (never_stops g.D.Disk laws Does Stops (Ok c.in-Ok.line) (memory.Made n) (memory.Made new)
-    (answers_install g.D.Disk laws vsn n new (search rules) sound.1 c.install_release-done.ensures.commits done (Ok c.in-Ok.line) (subst (TellsInstallation done) c.in-Ok.is c.told.ensures) works
+    (answers_install g.D.Disk laws vsn n new (search rules) sound.1 c.install_release-done.ensures.commits done (Ok c.in-Ok.line) (subst (ReportsInstallation done) c.in-Ok.is c.installation_answer.ensures) works
     c.install_release-done.ensures.installed c.install_release-done.ensures.refused))
 
 -- the node was booted
@@ -64,11 +64,11 @@ returns-else-not-restarts-clause-installed g c =
       | else-is_ok w ↦ let lost : true ≡ false = sym c.if-not-restarts.false ∙ w.restarts-is ∙ w.if-is_ok.false in absurd cc
     ] in
     let sound = subst (IsSoundPlace g.D.Disk.seen g.D.Disk.may_leave) c.in-Made.is c.requires in
-    let whole = answers_restart g.D.Disk laws vsn n new (search rules) sound.1 c.install_release-done.ensures.commits done c.in-Ok.line (subst (TellsInstallation done) c.in-Ok.is c.told.ensures) both.0 both.1
-    c.install_release-done.ensures.installed final c.boot-place.result.1 c.answer_of.result (tells_appended (string_bytes c.in-Ok.line) c.boot-place.result.1 c.append_answer.result c.answer_of.result c.append_answer.ensures c.answer_of.ensures.same) c.boot-place.ensures.booted in
+    let whole = answers_restart g.D.Disk laws vsn n new (search rules) sound.1 c.install_release-done.ensures.commits done c.in-Ok.line (subst (ReportsInstallation done) c.in-Ok.is c.installation_answer.ensures) both.0 both.1
+    c.install_release-done.ensures.installed final c.boot-place.result.1 c.answer_of.result (reports_appended (string_bytes c.in-Ok.line) c.boot-place.result.1 c.append_answer.result c.answer_of.result c.append_answer.ensures c.answer_of.ensures.same) c.boot-place.ensures.booted in
     subst (λ q. AnswersAction g.D.Disk (installs vsn) c.answer_of.result q final) (sym c.in-Made.is) whole
 
--- memory was refused to what is told
+-- memory was refused to what is reported
 pub returns-in-Err-clause-installed : goal.returns-in-Err-clause-installed
 returns-in-Err-clause-installed g c =
     let laws : IsDevice g.D.Disk = record { reads_an_image = g.met.D.Disk.reads_an_image; counts_now = g.met.D.Disk.counts_now; only_now = g.met.D.Disk.only_now } in
@@ -77,6 +77,6 @@ returns-in-Err-clause-installed g c =
     let new = c.install_release-done.new.node in
     let done = c.install_release-done.result in
     let sound = subst (IsSoundPlace g.D.Disk.seen g.D.Disk.may_leave) c.in-Made.is c.requires in
-    let whole = answers_untold g.D.Disk laws vsn n new (search rules) sound.1 c.install_release-done.ensures.commits done c.in-Err.why (subst (TellsInstallation done) c.in-Err.is c.told.ensures)
+    let whole = answers_unreported g.D.Disk laws vsn n new (search rules) sound.1 c.install_release-done.ensures.commits done c.in-Err.why (subst (ReportsInstallation done) c.in-Err.is c.installation_answer.ensures)
     c.install_release-done.ensures.installed c.install_release-done.ensures.refused in
     subst (λ q. AnswersAction g.D.Disk (installs vsn) (Err c.in-Err.why) q (memory.Made new)) (sym c.in-Made.is) whole

@@ -177,10 +177,10 @@ pub returns-then-self-clause-counted : goal.returns-then-self-clause-counted
 returns-then-self-clause-counted g c = le_refl _
 
 pub returns-then-self-clause-full : goal.returns-then-self-clause-full
-returns-then-self-clause-full g c = (λ told. cc told, λ p. absurd (not_both c.if-self.true p.0))
+returns-then-self-clause-full g c = (λ reported. cc reported, λ p. absurd (not_both c.if-self.true p.0))
 
 pub returns-then-self-clause-reopened : goal.returns-then-self-clause-reopened
-returns-then-self-clause-reopened g c = (λ told. c.if-self.true, λ failed. refl)
+returns-then-self-clause-reopened g c = (λ reported. c.if-self.true, λ failed. refl)
 
 pub returns-then-self-clause-refused : goal.returns-then-self-clause-refused
 returns-then-self-clause-refused g c = (c.if-self.true, same_store _)
@@ -193,10 +193,10 @@ pub returns-then-not-fits-clause-counted : goal.returns-then-not-fits-clause-cou
 returns-then-not-fits-clause-counted g c = le_refl _
 
 pub returns-then-not-fits-clause-full : goal.returns-then-not-fits-clause-full
-returns-then-not-fits-clause-full g c = (λ told. (c.if-self.false, λ fits. not_both (c.if-not-fits.ensures.1 fits) refl), λ p. refl)
+returns-then-not-fits-clause-full g c = (λ reported. (c.if-self.false, λ fits. not_both (c.if-not-fits.ensures.1 fits) refl), λ p. refl)
 
 pub returns-then-not-fits-clause-reopened : goal.returns-then-not-fits-clause-reopened
-returns-then-not-fits-clause-reopened g c = (λ told. cc told, λ failed. absurd (not_both failed c.if-self.false))
+returns-then-not-fits-clause-reopened g c = (λ reported. cc reported, λ failed. absurd (not_both failed c.if-self.false))
 
 pub returns-then-not-fits-clause-refused : goal.returns-then-not-fits-clause-refused
 returns-then-not-fits-clause-refused g c = (λ fits. not_both (c.if-not-fits.ensures.1 fits) refl, c.if-self.false, same_store _)

@@ -92,7 +92,7 @@ pub returns-then-self-clause-counted : goal.returns-then-self-clause-counted
 returns-then-self-clause-counted g c = le_refl _
 
 pub returns-then-self-clause-reopened : goal.returns-then-self-clause-reopened
-returns-then-self-clause-reopened g c = (λ told. c.if-self.true, λ failed. refl)
+returns-then-self-clause-reopened g c = (λ reported. c.if-self.true, λ failed. refl)
 
 pub returns-then-self-clause-refused : goal.returns-then-self-clause-refused
 returns-then-self-clause-refused g c = (c.if-self.true, same_store _)

@@ -84,7 +84,7 @@ pub returns-then-self-clause-others : goal.returns-then-self-clause-others
 returns-then-self-clause-others g c = λ works. absurd (not_both c.if-self.true works)
 
 pub returns-then-self-clause-reopened : goal.returns-then-self-clause-reopened
-returns-then-self-clause-reopened g c = (λ told. c.if-self.true, λ failed. refl)
+returns-then-self-clause-reopened g c = (λ reported. c.if-self.true, λ failed. refl)
 
 pub returns-then-self-clause-refused : goal.returns-then-self-clause-refused
 returns-then-self-clause-refused g c = (c.if-self.true, same_store _)

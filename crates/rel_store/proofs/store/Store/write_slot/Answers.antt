@@ -37,16 +37,16 @@ write_and_commit-requires g c =
 
 -- the slot that doesn't count is written first, then the selector
 pub returns-in_err-write_and_commit-clause-any_moment : goal.returns-in_err-write_and_commit-clause-any_moment
-returns-in_err-write_and_commit-clause-any_moment g c = λ works. after_start g.D.Disk.moment g.D.Disk.left_since g.D.Disk.seen g.D.Disk.may_leave c.args.self.now (c.requires.sound.settled works) c.start_slot.result c.args.text.now c.requires.short c.start_slot.ensures c.slot_place.result c.slot_place.ensures c.write_and_commit.new.disk c.write_and_commit.ensures.any_moment
+returns-in_err-write_and_commit-clause-any_moment g c = λ works. after_start g.D.Disk.moment g.D.Disk.left_since g.D.Disk.seen g.D.Disk.may_leave c.args.self.now (c.requires.sound.settled works) c.spell_slot.result c.args.text.now c.requires.short c.spell_slot.ensures c.slot_place.result c.slot_place.ensures c.write_and_commit.new.disk c.write_and_commit.ensures.any_moment
 
 pub returns-clause-any_moment : goal.returns-clause-any_moment
-returns-clause-any_moment g c = λ works. after_start g.D.Disk.moment g.D.Disk.left_since g.D.Disk.seen g.D.Disk.may_leave c.args.self.now (c.requires.sound.settled works) c.start_slot.result c.args.text.now c.requires.short c.start_slot.ensures c.slot_place.result c.slot_place.ensures c.write_and_commit.new.disk c.write_and_commit.ensures.any_moment
+returns-clause-any_moment g c = λ works. after_start g.D.Disk.moment g.D.Disk.left_since g.D.Disk.seen g.D.Disk.may_leave c.args.self.now (c.requires.sound.settled works) c.spell_slot.result c.args.text.now c.requires.short c.spell_slot.ensures c.slot_place.result c.slot_place.ensures c.write_and_commit.new.disk c.write_and_commit.ensures.any_moment
 
 -- and the new text stands
 pub returns-clause-settled : goal.returns-clause-settled
 returns-clause-settled g c =
     let s = c.requires.sound.settled c.if-self.false in
-    let new = selected_slot g.D.Disk.moment g.D.Disk.left_since g.D.Disk.seen g.D.Disk.may_leave c.args.self.now s c.start_slot.result c.args.text.now c.requires.short c.start_slot.ensures c.slot_place.result c.slot_place.ensures c.write_and_commit.new.disk c.selector_of.result c.selector_of.ensures c.in_ok-write_and_commit.ensures.written in
+    let new = selected_slot g.D.Disk.moment g.D.Disk.left_since g.D.Disk.seen g.D.Disk.may_leave c.args.self.now s c.spell_slot.result c.args.text.now c.requires.short c.spell_slot.ensures c.slot_place.result c.slot_place.ensures c.write_and_commit.new.disk c.selector_of.result c.selector_of.ensures c.in_ok-write_and_commit.ensures.written in
     record {
       works = refl;
       records = new.here.records;
@@ -60,7 +60,7 @@ returns-clause-settled g c =
 
 pub returns-clause-written : goal.returns-clause-written
 returns-clause-written g c =
-    (selected_slot g.D.Disk.moment g.D.Disk.left_since g.D.Disk.seen g.D.Disk.may_leave c.args.self.now (c.requires.sound.settled c.if-self.false) c.start_slot.result c.args.text.now c.requires.short c.start_slot.ensures c.slot_place.result c.slot_place.ensures c.write_and_commit.new.disk c.selector_of.result c.selector_of.ensures c.in_ok-write_and_commit.ensures.written).here.start
+    (selected_slot g.D.Disk.moment g.D.Disk.left_since g.D.Disk.seen g.D.Disk.may_leave c.args.self.now (c.requires.sound.settled c.if-self.false) c.spell_slot.result c.args.text.now c.requires.short c.spell_slot.ensures c.slot_place.result c.slot_place.ensures c.write_and_commit.new.disk c.selector_of.result c.selector_of.ensures c.in_ok-write_and_commit.ensures.written).here.start
 
 pub returns-clause-sound : goal.returns-clause-sound
 returns-clause-sound g c = record { settled = λ works. returns-clause-settled g c }
@@ -70,14 +70,14 @@ returns-in_err-write_and_commit-clause-others g c = λ works.
     let s = c.requires.sound.settled works in
     let old = g.D.Disk.seen c.args.self.now.disk in
     let place = other 144 16 c.args.self.now.second_start c.slot_place.result old s.start c.slot_place.ensures in
-    steps_leave g.D.Disk.moment g.D.Disk.left_since g.D.Disk.seen g.D.Disk.may_leave _ c.args.self.now.disk s.durable _ _ _ (in_slot old c.slot_place.result _ c.args.text.now c.requires.short place c.start_slot.ensures) (is_selector old) c.write_and_commit.new.disk c.write_and_commit.ensures.any_moment
+    steps_leave g.D.Disk.moment g.D.Disk.left_since g.D.Disk.seen g.D.Disk.may_leave _ c.args.self.now.disk s.durable _ _ _ (in_slot old c.slot_place.result _ c.args.text.now c.requires.short place c.spell_slot.ensures) (is_selector old) c.write_and_commit.new.disk c.write_and_commit.ensures.any_moment
 
 pub returns-clause-others : goal.returns-clause-others
 returns-clause-others g c = λ works.
     let s = c.requires.sound.settled works in
     let old = g.D.Disk.seen c.args.self.now.disk in
     let place = other 144 16 c.args.self.now.second_start c.slot_place.result old s.start c.slot_place.ensures in
-    steps_leave g.D.Disk.moment g.D.Disk.left_since g.D.Disk.seen g.D.Disk.may_leave _ c.args.self.now.disk s.durable _ _ _ (in_slot old c.slot_place.result _ c.args.text.now c.requires.short place c.start_slot.ensures) (is_selector old) c.write_and_commit.new.disk c.write_and_commit.ensures.any_moment
+    steps_leave g.D.Disk.moment g.D.Disk.left_since g.D.Disk.seen g.D.Disk.may_leave _ c.args.self.now.disk s.durable _ _ _ (in_slot old c.slot_place.result _ c.args.text.now c.requires.short place c.spell_slot.ensures) (is_selector old) c.write_and_commit.new.disk c.write_and_commit.ensures.any_moment
 
 pub returns-clause-bytes : goal.returns-clause-bytes
 returns-clause-bytes g c =
@@ -86,7 +86,7 @@ returns-clause-bytes g c =
     let place = other 144 16 c.args.self.now.second_start c.slot_place.result old s.start c.slot_place.ensures in
     let selector = other 1 0 c.args.self.now.second_start c.selector_of.result old s.start c.selector_of.ensures in
     c.in_ok-write_and_commit.ensures.written
-    ∙ (λ i. overwritten 9 (c.selector_of.result ∷ []) (overwritten (place i) (c.start_slot.ensures i) old))
+    ∙ (λ i. overwritten 9 (c.selector_of.result ∷ []) (overwritten (place i) (c.spell_slot.ensures i) old))
     ∙ ap (λ b. overwritten 9 (b ∷ []) (overwritten (other_slot old) (slot_with c.args.text.now) old)) selector
 
 -- after an error
@@ -116,7 +116,7 @@ pub returns-then-self-clause-counted : goal.returns-then-self-clause-counted
 returns-then-self-clause-counted g c = le_refl _
 
 pub returns-then-self-clause-reopened : goal.returns-then-self-clause-reopened
-returns-then-self-clause-reopened g c = (λ told. c.if-self.true, λ failed. refl)
+returns-then-self-clause-reopened g c = (λ reported. c.if-self.true, λ failed. refl)
 
 pub returns-then-self-clause-refused : goal.returns-then-self-clause-refused
 returns-then-self-clause-refused g c = (c.if-self.true, same_store _)

@@ -41,11 +41,11 @@ loop-i-init g c =
       c.let_pass.ensures.table ∙ c.requires.1.0,
       omega arith,
       ap (still_early true) front ∙ behind_point armed.point.front [] true,
-      subst (λ (told : List Bool). length told < place + 1) (sym armed.told) (omega arith),
+      subst (λ (reported : List Bool). length reported < place + 1) (sym armed.reported) (omega arith),
       armed.room,
-      subst₂ (Ran s g.start c.let_pass.new.seat.view) (sym armed.told) (sym front) passed.0,
-      subst₂ (λ (told : List Bool) (is : List Instruction). HasDone (past_behind s g.start told is) a (armed_of c.args.self).apps c.let_pass.new.seat.view) (sym armed.told) (sym front) passed.1,
-      subst₂ (RanLate s g.start c.args.seat.now.view c.let_pass.new.seat.view) (sym armed.told) (sym front)
+      subst₂ (Ran s g.start c.let_pass.new.seat.view) (sym armed.reported) (sym front) passed.0,
+      subst₂ (λ (reported : List Bool) (is : List Instruction). HasDone (past_behind s g.start reported is) a (armed_of c.args.self).apps c.let_pass.new.seat.view) (sym armed.reported) (sym front) passed.1,
+      subst₂ (RanLate s g.start c.args.seat.now.view c.let_pass.new.seat.view) (sym armed.reported) (sym front)
           (late_at_first s g.start.first c.args.seat.now.view c.let_pass.new.seat.view armed.point.front (began_at s g.start) armed.point.early c.let_pass.ensures.longer),
     )
 
@@ -59,7 +59,7 @@ carry_out_late-done-requires g c =
     let long : length so_far ≡ c.loop-i.i = length-map (take c.loop-i.i script) instruction_of ∙ length-take-le c.loop-i.i script (omega (arith, c.loop-i-test.true)) in
     let late : IsLate i = late_at armed.point.front armed.point.rest so_far (script_of (drop (c.loop-i.i + 1) script)) i armed.point.late (sym armed.point.is ∙ parts)
     (omega (arith, long, c.loop-i.invariant.1, armed.point.place_is)) in
-    let done = subst (λ (told : List Bool). HasDone (past_behind (site_of c.args.site.now) g.start told so_far) (progress_of c.loop-i.progress) c.loop-i.progress.tree c.loop-i.seat.view)
+    let done = subst (λ (reported : List Bool). HasDone (past_behind (site_of c.args.site.now) g.start reported so_far) (progress_of c.loop-i.progress) c.loop-i.progress.tree c.loop-i.seat.view)
     (sym c.as_slice.ensures.value) c.loop-i.invariant.6 in
     λ κs live. (live, (c.loop-i.invariant.0, (late, done)))
 
@@ -71,19 +71,19 @@ loop-i-preserved g c =
     let i = instruction_of c.index-script-i.result in
     let grown = more instruction_of script c.loop-i.i c.index-script-i.result c.loop-i-test.true c.index-script-i.is in
     let w = c.carry_out_late-done.new in
-    let carried = subst (λ (told : List Bool). IsCarriedOut s (past_behind s g.start told so_far) false c.in-Ok.stays i (progress_of w.progress) w.progress.tree c.loop-i.seat.view w.seat.view) c.as_slice.ensures.value c.in-Ok.ensures.carried in
+    let carried = subst (λ (reported : List Bool). IsCarriedOut s (past_behind s g.start reported so_far) false c.in-Ok.stays i (progress_of w.progress) w.progress.tree c.loop-i.seat.view w.seat.view) c.as_slice.ensures.value c.in-Ok.ensures.carried in
     let pushed = sym {A = List Bool} c.push_reserved.ensures.items in
-    let done = run_more_late s g.start c.loop-i.told.items so_far c.in-Ok.stays i (progress_of w.progress) w.progress.tree c.loop-i.seat.view w.seat.view c.loop-i.invariant.2 c.loop-i.invariant.5 carried in (
+    let done = run_more_late s g.start c.loop-i.reported.items so_far c.in-Ok.stays i (progress_of w.progress) w.progress.tree c.loop-i.seat.view w.seat.view c.loop-i.invariant.2 c.loop-i.invariant.5 carried in (
       c.carry_out_late-done.ensures.table ∙ c.loop-i.invariant.0,
       omega (arith, c.loop-i.invariant.1),
       ap (still_early true) grown ∙ (still_push true so_far i ∙ ap (λ e. e && not (is_point i)) c.loop-i.invariant.2),
-      subst (λ (bs : List Bool). length bs < c.loop-i.i + 1) pushed (omega (arith, length-append c.loop-i.told.items (c.in-Ok.stays ∷ []), c.loop-i.invariant.3)),
+      subst (λ (bs : List Bool). length bs < c.loop-i.i + 1) pushed (omega (arith, length-append c.loop-i.reported.items (c.in-Ok.stays ∷ []), c.loop-i.invariant.3)),
       subst (λ (n : ℕ). length (script_of script) ≤ n) (sym c.push_reserved.ensures.capacity) c.loop-i.invariant.4,
       subst₂ (Ran s g.start w.seat.view) pushed (sym grown) done.0,
       subst₂ (λ (bs : List Bool) (is : List Instruction). HasDone (past_behind s g.start bs is) (progress_of w.progress) w.progress.tree w.seat.view)
           pushed (sym grown) done.1,
       subst₂ (RanLate s g.start c.args.seat.now.view w.seat.view) pushed (sym grown)
-          (late_push s g.start.first c.args.seat.now.view c.loop-i.seat.view w.seat.view true c.loop-i.told.items so_far c.in-Ok.stays i (began_at s g.start) c.loop-i.invariant.2 c.loop-i.invariant.7 carried.0),
+          (late_push s g.start.first c.args.seat.now.view c.loop-i.seat.view w.seat.view true c.loop-i.reported.items so_far c.in-Ok.stays i (began_at s g.start) c.loop-i.invariant.2 c.loop-i.invariant.7 carried.0),
     )
 
 pub push_reserved-requires : goal.push_reserved-requires
@@ -105,37 +105,37 @@ returns-in-Err-clause-broken g c =
         instruction = i;
         at = record { rest = script_of (drop (c.loop-i.i + 1) script); is = parts; counted = ap (λ n. n + 1) (sym long) };
         late = c.loop-i.invariant.2;
-        told = c.loop-i.told.items;
+        reported = c.loop-i.reported.items;
         then_view = c.in-Err.ensures.carried.then_view;
-        ran = ran_later s g.start.first g.start.first c.loop-i.seat.view c.in-Err.ensures.carried.then_view true c.loop-i.told.items so_far (began_at s g.start) c.in-Err.ensures.carried.since c.loop-i.invariant.5;
-        fails = subst (λ (told : List Bool). IsFault g.start.first s c.in-Err.ensures.carried.then_view (run_behind s g.start told so_far) i (cause_of c.in-Err.failure.cause)) c.as_slice.ensures.value c.in-Err.ensures.carried.fails;
+        ran = ran_later s g.start.first g.start.first c.loop-i.seat.view c.in-Err.ensures.carried.then_view true c.loop-i.reported.items so_far (began_at s g.start) c.in-Err.ensures.carried.since c.loop-i.invariant.5;
+        fails = subst (λ (reported : List Bool). IsFault g.start.first s c.in-Err.ensures.carried.then_view (run_behind s g.start reported so_far) i (cause_of c.in-Err.failure.cause)) c.as_slice.ensures.value c.in-Err.ensures.carried.fails;
         modules = c.in-Err.failure.modules;
         slot = c.in-Err.failure.slot;
-        stops = subst (λ (told : List Bool). StopsAt g.start.first s c.in-Err.ensures.carried.then_view (run_behind s g.start told so_far) i (cause_of c.in-Err.failure.cause) c.in-Err.failure.modules c.in-Err.failure.slot)
+        stops = subst (λ (reported : List Bool). StopsAt g.start.first s c.in-Err.ensures.carried.then_view (run_behind s g.start reported so_far) i (cause_of c.in-Err.failure.cause) c.in-Err.failure.modules c.in-Err.failure.slot)
             c.as_slice.ensures.value c.in-Err.ensures.carried.stops;
         left = subst (λ (bs : List Bool). AreLeft g.start.first (on_all finish (courses_within s false i c.in-Err.failure.modules c.in-Err.failure.slot (run_behind s g.start bs so_far))) c.close.new.seat.view)
             c.as_slice-in-Err.ensures.value c.close.ensures.left;
         longer = longer_both c.in-Err.ensures.carried.then_view c.carry_out_late-done.new.seat.view c.close.new.seat.view c.in-Err.ensures.carried.longer c.close.ensures.longer;
       };
-      late = late_later s g.start.first c.args.seat.now.view c.loop-i.seat.view c.in-Err.ensures.carried.then_view true c.loop-i.told.items so_far (began_at s g.start) c.in-Err.ensures.carried.since c.loop-i.invariant.7;
+      late = late_later s g.start.first c.args.seat.now.view c.loop-i.seat.view c.in-Err.ensures.carried.then_view true c.loop-i.reported.items so_far (began_at s g.start) c.in-Err.ensures.carried.since c.loop-i.invariant.7;
     }
 
 pub returns-clause-finished : goal.returns-clause-finished
 returns-clause-finished g c =
     let s = site_of c.args.site.now in
     let script = c.args.script.now in
-    let told = c.loop-i.told.items in
+    let reported = c.loop-i.reported.items in
     let whole : script_of (take c.loop-i.i script) ≡ script_of script = ap script_of (take_all c.loop-i.i script c.loop-i-test.false) in
-    let done = subst (λ (is : List Instruction). HasDone (past_behind s g.start told is) (progress_of c.loop-i.progress) c.loop-i.progress.tree c.loop-i.seat.view) whole c.loop-i.invariant.6 in
+    let done = subst (λ (is : List Instruction). HasDone (past_behind s g.start reported is) (progress_of c.loop-i.progress) c.loop-i.progress.tree c.loop-i.seat.view) whole c.loop-i.invariant.6 in
     record {
       finished = record {
-        told = told;
-        ran = ran_later s g.start.first g.start.first c.loop-i.seat.view c.end.new.seat.view true told (script_of script) (began_at s g.start) c.end.ensures.longer
-            (subst (Ran s g.start c.loop-i.seat.view told) whole c.loop-i.invariant.5);
+        reported = reported;
+        ran = ran_later s g.start.first g.start.first c.loop-i.seat.view c.end.new.seat.view true reported (script_of script) (began_at s g.start) c.end.ensures.longer
+            (subst (Ran s g.start c.loop-i.seat.view reported) whole c.loop-i.invariant.5);
         loaded_is = done.next;
         apps_are = done.apps;
         left = subst (λ (bs : List Bool). AreLeft g.start.first (on_all finish (run_behind s g.start bs (script_of script)).courses) c.end.new.seat.view) c.as_slice-2.ensures.value c.end.ensures.left;
       };
-      late = late_later s g.start.first c.args.seat.now.view c.loop-i.seat.view c.end.new.seat.view true told (script_of script) (began_at s g.start) c.end.ensures.longer
-          (subst (RanLate s g.start c.args.seat.now.view c.loop-i.seat.view told) whole c.loop-i.invariant.7);
+      late = late_later s g.start.first c.args.seat.now.view c.loop-i.seat.view c.end.new.seat.view true reported (script_of script) (began_at s g.start) c.end.ensures.longer
+          (subst (RanLate s g.start c.args.seat.now.view c.loop-i.seat.view reported) whole c.loop-i.invariant.7);
     }

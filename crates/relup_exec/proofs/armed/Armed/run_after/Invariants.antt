@@ -11,16 +11,16 @@ abbrev pub ghost-let_pass : goal.ghost-let_pass
 ghost-let_pass g a = record { first = g.start.first; courses = (run_behind (site_of a.site.now) g.start [] (script_of a._before.now)).courses }
 
 abbrev pub ghost-carry_out_late : goal.ghost-carry_out_late
-ghost-carry_out_late g a = past_behind (site_of a.site.now) g.start a._told.now (script_of a._before.now)
+ghost-carry_out_late g a = past_behind (site_of a.site.now) g.start a._reported.now (script_of a._before.now)
 
 abbrev pub ghost-close : goal.ghost-close
 ghost-close g a = record {
   first = g.start.first;
-  courses = courses_within (site_of a.site.now) false (instruction_of a._instr.now) a._failure.now.modules a._failure.now.slot (run_behind (site_of a.site.now) g.start a._told.now (script_of a._before.now));
+  courses = courses_within (site_of a.site.now) false (instruction_of a._instr.now) a._failure.now.modules a._failure.now.slot (run_behind (site_of a.site.now) g.start a._reported.now (script_of a._before.now));
 }
 
 abbrev pub ghost-end : goal.ghost-end
-ghost-end g a = record { first = g.start.first; courses = (run_behind (site_of a.site.now) g.start a._told.now (script_of a._script.now)).courses }
+ghost-end g a = record { first = g.start.first; courses = (run_behind (site_of a.site.now) g.start a._reported.now (script_of a._script.now)).courses }
 
 -- what the instructions so far did, the point of no return among them
 abbrev pub invariant-loop-i : goal.invariant-loop-i
@@ -29,8 +29,8 @@ invariant-loop-i g l =
     (l.seat.table ≡ l.site.table.now)
     × (l.place < l.i)
     × (still_early true so_far ≡ false)
-    × (length l.told.items < l.i)
-    × (length (script_of l.script) ≤ vec_capacity l.told)
-    × Ran (site_of l.site) g.start l.seat.view l.told.items so_far
-    × HasDone (past_behind (site_of l.site) g.start l.told.items so_far) (progress_of l.progress) l.progress.tree l.seat.view
-    × RanLate (site_of l.site) g.start l.fn.seat.view l.seat.view l.told.items so_far
+    × (length l.reported.items < l.i)
+    × (length (script_of l.script) ≤ vec_capacity l.reported)
+    × Ran (site_of l.site) g.start l.seat.view l.reported.items so_far
+    × HasDone (past_behind (site_of l.site) g.start l.reported.items so_far) (progress_of l.progress) l.progress.tree l.seat.view
+    × RanLate (site_of l.site) g.start l.fn.seat.view l.seat.view l.reported.items so_far

@@ -1,10 +1,10 @@
 use Rattle.rel_session.proofs.LinePaths.{reads_line_paths, keeps_versions, replies_keep_versions}
-use Rattle.rel_session.proofs.OneRun.{tells_one_run}
+use Rattle.rel_session.proofs.OneRun.{reports_one_run}
 use Rattle.rel_session.proofs.DeviceLemmas.{IsDevice}
-use Rattle.rel_session.proofs.laws.a_text_tells_one_run.Goals as goal
+use Rattle.rel_session.proofs.laws.a_text_determines_one_run.Goals as goal
 
 pub returns-clause-one : goal.returns-clause-one
-returns-clause-one g c = λ files. tells_one_run (g.F.Files.gives files)
+returns-clause-one g c = λ files. reports_one_run (g.F.Files.gives files)
 
 pub returns-clause-paths : goal.returns-clause-paths
 returns-clause-paths g c = reads_line_paths

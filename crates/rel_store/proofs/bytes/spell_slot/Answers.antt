@@ -1,6 +1,6 @@
 use Rattle.std.proofs.Common.{◌≡◌, ◌+◌, ◌-◌, ◌∷◌, ◌++◌, length, drop, replicate, ◌∙◌, ap, arith}
 use Rattle.std.proofs.lemmas.List.{drop-replicate}
-use Rattle.rel_store.proofs.bytes.start_slot.Goals as goal
+use Rattle.rel_store.proofs.bytes.spell_slot.Goals as goal
 
 pub returns : goal.returns
 returns c =
