@@ -2,7 +2,7 @@
 //!
 //! [`StopDisk`] passes on so many calls of a disk. The next one fails, a write in the middle, and so does every one behind it: as
 //! if the power went (specs/Stops). [`MarkedDisk`] is a disk in memory that knows what was written since its last sync, so that it
-//! can recognise an image of this moment: the bytes as they were written, with another byte wherever something was written since
+//! can report an image of this moment: the bytes as they were written, with another byte wherever something was written since
 //! then, or cut to the smallest length since then (`image`; specs/Crashes). Each is one that a crash may leave (`may_leave`).
 //!
 //! Only tested: that an image is made where memory is there. Trusted: the toolchain alone.
