@@ -1,16 +1,15 @@
 -- Applications and their terms, both ways: what is read of the term of an application is that application, and only of its term.
-use Rattle.std.proofs.Common.{◌≡◌, inl, inr, ℕ, Bool, true, false, List, [], map, Option, Some, None, codes, unwrap_or, if◌then◌else◌, refl, sym, ap, subst, ◌∙◌}
+use Rattle.std.proofs.Common.{◌≡◌, inl, inr, ℕ, Bool, true, false, List, [], map, Option, Some, None, codes, if◌then◌else◌, refl, sym, ap, subst, ◌∙◌}
 use Rattle.std.specs.Option.{option_map, option_and_then}
-use Rattle.erl_term.specs.Value.{Value, Values}
+use Rattle.erl_term.specs.Value.{Value}
 use Rattle.erl_term.specs.Value.Value.{atom, list}
 use Rattle.erl_term.specs.Value.Values.{no_values}
 use Rattle.rel_files.specs.Name.{is_text, IsName, IsVersion, AreDistinct}
 use Rattle.rel_files.specs.Parts.{list_in, pair_in, triple_in, is_word}
-use Rattle.rel_files.specs.Sketch.{are_numbers, text_in, name_in, version_or_empty}
-use Rattle.rel_files.specs.Terms.{list_of, pair_term, triple_term, text_term, numbers_of}
+use Rattle.rel_files.specs.Sketch.{name_in, version_or_empty}
+use Rattle.rel_files.specs.Terms.{list_of, pair_term, triple_term, text_term}
 use Rattle.rel_files.proofs.Options.{mapped, chained, passed}
-use Rattle.rel_files.proofs.TermParts.{from_list, from_pair, from_triple, from_is_word, name_in-atom, from_name, names_in-atoms, from_names_in}
-use Rattle.rel_files.proofs.Texts.{numbers, are_numbers-numbers, text_in-numbers, from_text}
+use Rattle.rel_files.proofs.TermParts.{from_pair, from_triple, from_is_word, name_in-atom, from_name, names_in-atoms, from_names_in, version_or_empty-text, from_version_or_empty}
 use Rattle.app_file.specs.Parts.{pairs_in, Entries, entries_in, value_at, vsn_in, modules_at, module_in, names_none, top_at, Contents, contents, contents_in}
 use Rattle.app_file.specs.File.{Specification, with_term, IsAppTerm}
 use Rattle.app_file.specs.Form.{entry_term, app_term, HasFirst, HasVsn, HasModules, HasTop, IsAppForm}
@@ -18,23 +17,6 @@ use Rattle.app_file.proofs.PairLemmas.{pairs_in-entries, from_pair_list, value_a
 use Rattle.app_file.proofs.Readings.{of_its_keys, read}
 
 -- versions
-version_or_empty-text : (s : List ℕ) → IsVersion s → version_or_empty (text_term s) ≡ Some s
-version_or_empty-text s h =
-    ap (λ (b : Bool). if b then Some (unwrap_or (text_in 0x21 (numbers (numbers_of s))) []) else None) (are_numbers-numbers (numbers_of s))
-    ∙ ap (λ (o : Option (List ℕ)). Some (unwrap_or o [])) (text_in-numbers 0x21 s h)
-
-text_or_empty : (vs : Values) (o : Option (List ℕ)) (s : List ℕ) → text_in 0x21 vs ≡ o → unwrap_or o [] ≡ s → IsVersion s → vs ≡ numbers (numbers_of s)
-text_or_empty vs (Some t) s read same h = let is : t ≡ s = same in (from_text 0x21 vs t read).0 ∙ ap (λ (u : List ℕ). numbers (numbers_of u)) is
-text_or_empty vs None s read same h = let none : [] ≡ s = same in let bad : false ≡ true = ap (is_text 0x21) none ∙ h in absurd cc
-
--- a version that is one is that of its text
-from_version_or_empty : (v : Value) (s : List ℕ) → version_or_empty v ≡ Some s → IsVersion s → v ≡ text_term s
-from_version_or_empty v s e h =
-    let listed = chained (λ (vs : Values). if are_numbers vs then Some (unwrap_or (text_in 0x21 vs) []) else None) (list_in v) s e in
-    let read = passed (are_numbers listed.0) (Some (unwrap_or (text_in 0x21 listed.0) [])) s listed.2 in
-    let same : unwrap_or (text_in 0x21 listed.0) [] ≡ s = let some : Some (unwrap_or (text_in 0x21 listed.0) []) ≡ Some s = read.1 in cc in
-    from_list v listed.0 listed.1 ∙ ap list (text_or_empty listed.0 (text_in 0x21 listed.0) s refl same h)
-
 vsn_in-first : (pairs : List (Value × Value)) (vsn : List ℕ) → HasVsn pairs vsn → vsn_in pairs ≡ Some vsn
 vsn_in-first pairs vsn has =
     ap (option_and_then version_or_empty) (value_at-first (codes "vsn") pairs (text_term vsn) has.0) ∙ version_or_empty-text vsn has.1

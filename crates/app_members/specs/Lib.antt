@@ -1,2 +1,3 @@
+pub use Rattle.loaded_modules.specs.Loaded
 pub mod Walk
 pub mod InMemory

@@ -7,8 +7,7 @@ use Rattle.mod_table.specs.declared.child.ChildKind.TheVariants as kind
 use Rattle.mod_table.specs.declared.child.Restart.TheVariants as restart
 use Rattle.mod_table.specs.declared.table.Table.{Table}
 use Rattle.mod_table.specs.declared.table.Table.TheVariants.{Worker, Super}
-use Rattle.worker_table.specs.Table.{WorkerTable}
-use Rattle.mod_table.specs.Table.{ChildSpec}
+use Rattle.mod_table.specs.Table.{WorkerTable, ChildSpec}
 use Rattle.mod_table.specs.Tables.{Tables, first_of, child_table}
 
 -- why nothing starts: a module has no table of the kind that is asked of it; supervisors stand too deep in each other, or there

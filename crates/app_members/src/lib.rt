@@ -13,4 +13,5 @@ mod error;
 mod walk;
 
 pub use error::MembersError;
+pub use loaded_modules::Loaded;
 pub use walk::{NewChild, NewMember, members_of_app, members_of_child, process_count};

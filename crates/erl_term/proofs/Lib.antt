@@ -20,3 +20,4 @@ pub mod ReadBack
 pub mod Limits
 pub mod Lines
 pub mod Members
+pub mod ThreadLemmas

@@ -3,7 +3,7 @@ use Rattle.std.proofs.Common.{◌≡◌, ℕ, Bool, true, false, List, [], ◌�
 use Rattle.proc_table.specs.declared.pid.Pid.{Pid}
 use Rattle.proc_table.specs.declared.view.View.{View}
 use Rattle.mod_table.specs.Tables.{Tables}
-use Rattle.app_members.specs.Walk.{Start, app_starts, starts_among}
+use Rattle.sup_tree.specs.Walk.{Start, app_starts, starts_among}
 use Rattle.sup_tree.specs.declared.error.RestartError.{RestartError}
 use Rattle.sup_tree.specs.declared.error.RestartError.TheVariants.{NoSuper, NoTable, Unsupported, NoSlot, NoMemory}
 use Rattle.sup_tree.specs.declared.error.StartError.{StartError}
@@ -16,9 +16,8 @@ use Rattle.started_members.specs.declared.member.StartedProcess.{StartedProcess}
 use Rattle.started_members.specs.Places.{ChildEndedUnless, ChildLookedAt, Place}
 use Rattle.sup_tree.specs.Children.{DeletesChild, TerminatesChild, child_members, child_place}
 use Rattle.started_members.specs.Looks.{StateLookedAt}
-use Rattle.started_members.specs.Begins.{restart_members}
+use Rattle.started_members.specs.Begins.{restart_members, BeganInOrder}
 use Rattle.sup_tree.specs.Restarts.{Restarts, RestartsChild, RestartsUnless}
-use Rattle.started_members.specs.Begins.{BeganInOrder}
 use Rattle.sup_tree.specs.Starts.{StartsApp}
 use Rattle.started_members.specs.Ends.{EndedAt, EndedInOrder, MemberEnded}
 use Rattle.sup_tree.specs.Stops.{StopsApp}

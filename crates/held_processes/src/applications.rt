@@ -3,17 +3,16 @@ ghost use Rattle.std.specs.Prelude.{◌≡◌, ◌<◌, length, slice_index_or};
 ghost use Rattle.app_file.specs.InMemory.{specification_of};
 ghost use Rattle.held_processes.specs.Applications.{StartsIn, held_ended, scene_at, state_ended, with_stopped};
 ghost use Rattle.held_processes.specs.Following.{AllFollow, AreLonger, Followed};
-ghost use Rattle.loaded_modules.specs.Loaded.{modules_in, tables_of};
+ghost use Rattle.sup_tree.specs.Loaded.{modules_in, tables_of};
 ghost use Rattle.started_members.specs.Members.{pids_of, process_in, processes_among};
 ghost use Rattle.started_members.specs.declared.member.Member.{Member as Part};
 
 use crate::{AppName, HeldProcesses};
 use app_file::App;
-use loaded_modules::Loaded;
 use proc_table::{HandlerSeat, ProcTable};
 use std::alloc::Global;
 use std::sync::Wait;
-use sup_tree::{Member, StartError, Tree};
+use sup_tree::{Loaded, Member, StartError, Tree};
 
 impl HeldProcesses {
     /// Starts the application, beside the processes that are held (OTP: application:start/1). Where it answers an error, nothing

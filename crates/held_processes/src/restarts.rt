@@ -3,15 +3,14 @@ ghost use Rattle.std.specs.Prelude.{◌≡◌};
 ghost use Rattle.held_processes.specs.Applications.{scene_at};
 ghost use Rattle.held_processes.specs.Following.{AllFollow, AreLonger, Followed};
 ghost use Rattle.held_processes.specs.Restarts.{RestartsIn, was_given_up};
-ghost use Rattle.loaded_modules.specs.Loaded.{modules_in, tables_of};
+ghost use Rattle.sup_tree.specs.Loaded.{modules_in, tables_of};
 
 use crate::children::HeldEnd;
 use crate::{ChildName, HeldProcesses};
-use loaded_modules::Loaded;
 use proc_table::{HandlerSeat, ProcTable};
 use std::alloc::Global;
 use std::sync::Wait;
-use sup_tree::{RestartError, Stay, Tree};
+use sup_tree::{Loaded, RestartError, Stay, Tree};
 
 /// Why a child doesn't begin again, and whether what stood for it was given up all the same.
 #[derive(Clone, Copy, Debug)]

@@ -1,3 +1,5 @@
+pub use Rattle.mod_table.specs.Tables
+pub use Rattle.mod_table.specs.declared.table.Table
 pub mod Library
 pub mod InMemory
 pub mod Codes

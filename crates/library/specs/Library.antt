@@ -6,11 +6,13 @@ use Rattle.erl_term.specs.Value.{Value, Values}
 use Rattle.erl_term.specs.Value.Value.{atom}
 use Rattle.rel_files.specs.Parts.{list_in, triple_in, is_word}
 use Rattle.rel_files.specs.Release.{Application}
-use Rattle.app_file.specs.File.{Specification, IsAppTerm}
+pub use Rattle.app_file.specs.File.{Specification}
+use Rattle.app_file.specs.File.{IsAppTerm}
 use Rattle.mod_table.specs.declared.table.Table.{Table}
+pub use Rattle.mod_table.specs.File.{vsn_of}
 use Rattle.mod_table.specs.File.{IsTableTerm, name_of}
 use Rattle.rel_files.specs.Terms.{triple_term, list_of}
-use Rattle.worker_table.specs.Same.{is_same}
+use Rattle.mod_table.specs.Same.{is_same}
 
 -- what a `.mod` file says, and its whole term
 pub record TableTerm : Type 0 where

@@ -5,8 +5,7 @@ use Rattle.std.specs.Cmp.Lexicographic.{slice_cmp}
 use Rattle.std.specs.Ordering.{nat_cmp, match_ordering}
 use Rattle.std.proofs.lemmas.Bool.{cases_lt}
 use Rattle.std.proofs.lemmas.List.{drop_more, drop_all}
-use Rattle.app_file.specs.File.{Specification}
-use Rattle.library.specs.Library.{TableTerm}
+use Rattle.library.specs.Library.{Specification, TableTerm}
 use Rattle.loaded_modules.specs.Loaded.{module_of, NamedModules, named_modules, loaded_behind}
 
 -- What is read of a map is changed as the map is, where the keys are in the order of what is read of them.

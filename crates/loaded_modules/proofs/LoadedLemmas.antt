@@ -4,8 +4,7 @@ use Rattle.std.specs.Option.{option_map, option_or}
 use Rattle.std.specs.Str.{bytes_eq}
 use Rattle.std.proofs.lemmas.Bool.{cases_lt}
 use Rattle.std.proofs.lemmas.List.{drop_more, drop_all}
-use Rattle.app_file.specs.File.{Specification}
-use Rattle.library.specs.Library.{TableTerm}
+use Rattle.library.specs.Library.{Specification, TableTerm}
 use Rattle.loaded_modules.specs.Loaded.{Module, module_of, modules_with}
 
 -- what is found in a list or else before it, once one more goes in front of what was before

@@ -8,12 +8,10 @@ use Rattle.std.specs.Cmp.Lexicographic.{slice_cmp}
 use Rattle.std.specs.Option.{option_map, option_or, option_and_then}
 use Rattle.std.specs.Ordering.{nat_cmp}
 use Rattle.std.specs.Str.{bytes_eq}
-use Rattle.app_file.specs.File.{Specification}
-use Rattle.mod_table.specs.declared.table.Table.{Table}
-use Rattle.mod_table.specs.File.{vsn_of}
-use Rattle.library.specs.Library.{Library, TableTerm}
+use Rattle.library.specs.Library.{Specification, vsn_of, Library, TableTerm}
+use Rattle.library.specs.Table.{Table}
 use Rattle.library.specs.InMemory.{shared_of}
-use Rattle.mod_table.specs.Tables.{Tables}
+use Rattle.library.specs.Tables.{Tables}
 use Rattle.loaded_modules.specs.declared.loaded.LoadedModule.{LoadedModule}
 use Rattle.loaded_modules.specs.declared.loaded.Loaded.{Loaded}
 

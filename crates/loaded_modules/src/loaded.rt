@@ -9,9 +9,7 @@ ghost use Rattle.std.specs.Map.Iter.{deref_pair};
 ghost use Rattle.std.specs.Ordering.{nat_cmp};
 ghost use Rattle.loaded_modules.specs.Loaded.{Module, modules_of, library_modules, modules_in, modules_in_map, module_at, module_in, tables_of, listed_in, listed_in_map, listed_modules, loaded_behind, module_named, named_modules, name_and_version, with_loaded, without_module};
 
-use app_file::App;
-use library::Library;
-use mod_table::Table;
+use library::{App, Library, Table};
 use std::alloc::{AllocError, Global};
 use std::collections::BTreeMap;
 use std::rc::Rc;

@@ -11,11 +11,11 @@ use Rattle.rel_files.specs.Parts.{list_in, three, triple_in, word_in}
 use Rattle.rel_files.specs.Sketch.{name_in, version_or_empty}
 use Rattle.rel_files.specs.Terms.{tuple_of, list_of, triple_term, text_term, atoms_term}
 use Rattle.rel_files.proofs.Options.{mapped, chained, passed, both, both_true, choose}
-use Rattle.rel_files.proofs.TermParts.{from_list, from_triple, from_word, name_in-atom, from_name}
+use Rattle.rel_files.proofs.TermParts.{from_list, from_triple, from_word, name_in-atom, from_name, version_or_empty-text, from_version_or_empty}
 use Rattle.worker_table.specs.Table.{WorkerTable}
 use Rattle.worker_table.specs.Headed.{worker_in}
 use Rattle.worker_table.specs.Form.{worker_term, IsWorker}
-use Rattle.worker_table.proofs.FormLemmas.{from_three, version_or_empty-text, from_version_or_empty, worker_in-members, worker_has_versions, from_worker}
+use Rattle.worker_table.proofs.FormLemmas.{from_three, worker_in-members, worker_has_versions, from_worker}
 use Rattle.mod_table.specs.declared.child.Restart.{Restart}
 use Rattle.mod_table.specs.declared.child.Restart.TheVariants.{Permanent, Transient, Temporary}
 use Rattle.mod_table.specs.declared.child.ChildKind.{ChildKind}

@@ -1,3 +1,7 @@
+pub use Rattle.worker_table.specs.Codes
+pub use Rattle.worker_table.specs.Decide
+pub use Rattle.worker_table.specs.Same
+pub use Rattle.worker_table.specs.declared.step.Step
 pub mod Table
 pub mod Children
 pub mod Headed

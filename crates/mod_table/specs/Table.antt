@@ -1,5 +1,6 @@
 -- The table of a supervisor, without where it lies in memory.
 use Rattle.std.specs.Prelude.{ℕ, List}
+pub use Rattle.worker_table.specs.Table.{OldVersion, WorkerTable}
 use Rattle.mod_table.specs.declared.child.Restart.{Restart}
 use Rattle.mod_table.specs.declared.child.ChildKind.{ChildKind}
 

@@ -16,7 +16,7 @@ ghost use Rattle.rel_files.specs.Release.{Application, application_of};
 ghost use Rattle.rel_check.specs.Fault.{release_fault};
 ghost use Rattle.rel_check.specs.Modules.{parts};
 ghost use Rattle.rel_check.specs.Walk.{is_started};
-ghost use Rattle.node_store.specs.State.{list_in, is_dead, IsSound};
+ghost use Rattle.rel_handler.specs.State.{list_in, is_dead, IsSound};
 ghost use Rattle.rel_list.specs.Status.{is_current, is_permanent};
 ghost use Rattle.loaded_modules.specs.Loaded.{modules_in, tables_of};
 ghost use Rattle.sup_tree.specs.Starts.{AppStarted};

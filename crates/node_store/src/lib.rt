@@ -2,7 +2,7 @@
 //!
 //! A `NodeStore` is a list of releases and the store that has the records of its events. A commit has the list take an event,
 //! appends its record, writes the start record where another release is permanent then, and compacts a store of 64 records or
-//! more. The node is dead while it does so, and again behind a device that failed: nothing can be asked of it until the next boot.
+//! more (behind `move_permanent` the caller does so). The node is dead while it does so, and again behind a device that failed: nothing can be asked of it until the next boot.
 //! Stopped at any moment of a commit, the disk stands for the list of a prefix of the accepted events that holds every
 //! acknowledged one, compacted or not, and has a start record of its events (`Commits`: `any_moment`, `IsStoredAs`). Behind an
 //! `Ok` it stands for the list with the event (`IsDone`, `IsAppended`). A refusal changes nothing, but behind `Device` the node is

@@ -2,7 +2,7 @@
 use Rattle.std.specs.Prelude.{ℕ, Bool, true, false, not, List, ◌++◌, map, filter, Option, None, Some}
 use Rattle.std.specs.Str.{bytes_eq}
 use Rattle.library.specs.Library.{Library}
-use Rattle.script_progress.specs.Script.{version_in}
+use Rattle.relup_exec.specs.Script.{version_in}
 use Rattle.loaded_modules.specs.Loaded.{Module, NamedModules, listed_modules}
 use Rattle.node_upgrade.specs.Names.{sorted_names}
 

@@ -4,8 +4,8 @@ ghost use Rattle.node_command.specs.declared.error.HandlerError.TheVariants as c
 ghost use Rattle.node_upgrade.specs.declared.error.InstallError.TheVariants.{Command};
 
 use node_command::HandlerError;
+use relup_exec::Cause;
 use relup_script::ScriptFault;
-use script_progress::Cause;
 use std::alloc::{AllocError, Global};
 
 /// Why a script isn't carried out to its end.

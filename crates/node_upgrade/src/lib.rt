@@ -15,4 +15,5 @@ mod stale;
 mod upgrade;
 
 pub use error::{InstallError, ScriptFailure, Why};
+pub use relup_exec::{Cause, Tree};
 pub use upgrade::{Installed, Upgrade, find_upgrade};

@@ -1,7 +1,7 @@
 //! The script by which a release is installed.
 ghost use Rattle.std.specs.Prelude.{◌≡◌, IfErr, IfOk};
 ghost use Rattle.std.specs.Option.{option_map, option_copied};
-ghost use Rattle.held_processes.specs.Following.{HoldsNothing};
+ghost use Rattle.relup_exec.specs.Following.{HoldsNothing};
 ghost use Rattle.node_upgrade.specs.Failure.{failure_of};
 ghost use Rattle.node_upgrade.specs.InMemory.{upgrade_of};
 ghost use Rattle.node_upgrade.specs.Running.{IsInstalled, RunRefused, ReportsRefusal, start_in, state};
@@ -10,7 +10,7 @@ ghost use Rattle.rel_files.specs.Release.{release_of};
 ghost use Rattle.relup_exec.specs.Outcome.{IsFinished, Start};
 ghost use Rattle.relup_script.specs.Script.{IsRunnable, restarts};
 ghost use Rattle.relup_script.specs.Search.{found_of};
-ghost use Rattle.script_progress.specs.InMemory.{cause_of};
+ghost use Rattle.relup_exec.specs.InMemory.{cause_of};
 ghost use Rattle.loaded_modules.specs.Loaded.{listed_in};
 
 use crate::error::{InstallError, ScriptFailure, Why};
@@ -22,13 +22,11 @@ use node_command::{HandlerError, find_installation};
 use proc_table::{HandlerSeat, Name, ProcTable};
 use rel_files::Rel;
 use rel_list::ReleaseList;
-use relup_exec::{Failed, Refused, Site, run_before};
+use relup_exec::{Cause, Failed, Refused, Site, Tree, run_before};
 use relup_script::{Found, check, restarts};
-use script_progress::Cause;
 use std::alloc::Global;
 use std::rc::Rc;
 use std::sync::Wait;
-use sup_tree::Tree;
 
 /// A release was installed.
 #[derive(Drop)]

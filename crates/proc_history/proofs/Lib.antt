@@ -3,3 +3,4 @@ pub mod Entries
 pub mod ReleaseLemmas
 pub mod Beginnings
 pub mod StandLemmas
+pub mod ThreadLemmas

@@ -1,7 +1,7 @@
 -- The entries of a release are the handler's, and no calls.
 use Rattle.std.proofs.Common.{◌≡◌, ℕ, true, IsSome, List, [], ◌∷◌, refl, subst, Option, Some, None}
 use Rattle.erl_term.specs.Value as term
-use Rattle.worker_table.specs.Table.{OldVersion}
+use Rattle.mod_table.specs.Table.{OldVersion}
 use Rattle.proc_history.specs.declared.value.Standing.{Standing}
 use Rattle.proc_history.specs.declared.value.Standing.TheVariants.{Up}
 use Rattle.proc_history.specs.Events.Event.{changed}

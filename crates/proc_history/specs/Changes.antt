@@ -1,7 +1,7 @@
 -- What the calls that change a value answer and leave.
 use Rattle.std.specs.Prelude.{◌≡◌, ◌⊎◌, ℕ, Bool, true, ◌+◌, is_some, Option, Some, None, Result, Ok, Err}
 use Rattle.erl_term.specs.Value as term
-use Rattle.worker_table.specs.Table.{OldVersion}
+use Rattle.mod_table.specs.Table.{OldVersion}
 use Rattle.proc_history.specs.declared.value.Value.{Value}
 use Rattle.proc_history.specs.declared.value.Now.{Now}
 use Rattle.proc_history.specs.declared.value.Standing.{Standing}

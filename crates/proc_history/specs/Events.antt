@@ -1,7 +1,7 @@
 -- What happens to a process, and the history of a slot.
 use Rattle.std.specs.Prelude.{◌≡◌, ◌⊎◌, ℕ, zero, suc, ◌==◌, List, [], ◌∷◌, if◌then◌else◌}
 use Rattle.erl_term.specs.Value as term
-use Rattle.worker_table.specs.Table.{OldVersion, WorkerTable}
+use Rattle.mod_table.specs.Table.{OldVersion, WorkerTable}
 use Rattle.proc_history.specs.declared.beginning.Beginning.{Beginning}
 use Rattle.proc_history.specs.declared.value.Outcome.{Outcome}
 

@@ -1,3 +1,4 @@
+pub use Rattle.mod_table.specs.InMemory
 pub mod Events
 pub mod Codes
 pub mod Values

@@ -1,7 +1,7 @@
 -- The entries of a release.
 use Rattle.std.specs.Prelude.{◌≡◌, ℕ, List, [], ◌∷◌, map, IsSome, Option, Some, None}
 use Rattle.erl_term.specs.Value.{value_of}
-use Rattle.worker_table.specs.InMemory.{old_of}
+use Rattle.mod_table.specs.InMemory.{old_of}
 use Rattle.proc_history.specs.declared.value.Value.{Value}
 use Rattle.proc_history.specs.declared.value.Now.{Now}
 use Rattle.proc_history.specs.declared.entry.Entry.{Entry}

@@ -4,10 +4,10 @@ use Rattle.std.specs.Option.{option_map}
 use Rattle.erl_term.specs.Value as term
 use Rattle.mod_table.specs.declared.child.Restart.{Restart}
 use Rattle.mod_table.specs.declared.child.Restart.TheVariants.{Permanent, Transient, Temporary}
-use Rattle.worker_table.specs.declared.step.Step.{Step}
-use Rattle.worker_table.specs.declared.step.Step.TheVariants.{Next, Ends, Crashes}
-use Rattle.worker_table.specs.Table.{OldVersion}
-use Rattle.worker_table.specs.Decide.{step_of, change_of}
+use Rattle.mod_table.specs.Step.{Step}
+use Rattle.mod_table.specs.Step.TheVariants.{Next, Ends, Crashes}
+use Rattle.mod_table.specs.Table.{OldVersion}
+use Rattle.mod_table.specs.Decide.{step_of, change_of}
 use Rattle.proc_history.specs.declared.value.Standing.{Standing}
 use Rattle.proc_history.specs.declared.value.Standing.TheVariants.{Up, Down, Stopped}
 use Rattle.proc_history.specs.declared.beginning.Beginning.{Beginning}

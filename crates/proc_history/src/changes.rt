@@ -1,7 +1,7 @@
 //! What the handler's entries make of what stands in a slot.
 ghost use Rattle.std.specs.Prelude.{◌≡◌, IfOk};
 ghost use Rattle.erl_term.specs.Value.{value_of};
-ghost use Rattle.worker_table.specs.InMemory.{old_of};
+ghost use Rattle.mod_table.specs.InMemory.{old_of};
 ghost use Rattle.proc_history.specs.Events.Event.{changed, loaded, stopped, started, given_up};
 ghost use Rattle.proc_history.specs.Changes.{Begins, finds_row, finds_row_if};
 ghost use Rattle.proc_history.specs.Values.{after, begun, changes, moved_to, next_round, restarted, where_up};

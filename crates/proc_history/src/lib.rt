@@ -19,5 +19,6 @@ mod value;
 
 pub use beginning::Beginning;
 pub use entry::Entry;
+pub use mod_table::{Old, Worker};
 pub use name::Name;
 pub use value::{Now, Outcome, Standing, Value};

@@ -14,7 +14,7 @@ use Rattle.proc_history.specs.Histories.{replay}
 use Rattle.proc_history.specs.Values.{up_in}
 use Rattle.proc_table.specs.Parts.{Part, part_of, longer}
 use Rattle.proc_table.specs.Views.{seen, all_but}
-use Rattle.proc_table.specs.Calls.{SameBut, Looked, Called, Answers, Made, Joined}
+use Rattle.proc_table.specs.Calls.{Elsewhere, Looked, Called, Answers, Made, Joined}
 use Rattle.proc_table.specs.Waits.{IsAnswer, AnswersAtLast}
 use Rattle.proc_table.specs.Alone.{ByOnePass, CalledAlone, DownAlone, AnswersAlone, AloneSeesAll}
 use Rattle.proc_history.proofs.Entries.{own-append, own_between}
@@ -58,7 +58,7 @@ none_lent_then v one pass w both l same j =
     j.lent ∙ (ap (λ n. all_but n one.lent) (same ∙ l.number) ∙ (ap (all_but (v.count + 1)) l.lent ∙ none_left (v.count + 1)))
 
 -- it was taken back after a call at one slot
-by_one_pass : (p : ℕ) (v one pass w both : View) → LentAlone v one pass → SameBut p pass w → Joined one w both → ByOnePass p v both
+by_one_pass : (p : ℕ) (v one pass w both : View) → LentAlone v one pass → Elsewhere p pass w → Joined one w both → ByOnePass p v both
 by_one_pass p v one pass w both l rest j = record {
   number = j.number ∙ l.same;
   count = j.count ∙ l.count;

@@ -49,6 +49,7 @@ release_made p v w es inside h by legal is =
         out = l.out_is;
         legal = subst IsLegal (sym l.seen_is) legal;
         once = rw (l.seen_is, l.mine_is) once;
+        found = refl;
         rest = l.rest;
       };
       handler = handler_part p v w0 (seen v p ++ es) (mine v p ++ es) false false l

@@ -1,3 +1,4 @@
+pub use Rattle.proc_history.proofs.Beginnings
 pub mod Seats
 pub mod LentLemmas
 pub mod Turns

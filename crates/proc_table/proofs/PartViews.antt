@@ -9,7 +9,7 @@ use Rattle.proc_history.specs.Histories.{IsLegal}
 use Rattle.proc_table.specs.Views.{seen, mine, is_out, with_part}
 use Rattle.proc_table.specs.Agrees.{slots}
 use Rattle.proc_table.specs.Steps.{Known}
-use Rattle.proc_table.specs.Calls.{SameBut}
+use Rattle.proc_table.specs.Calls.{Elsewhere}
 
 -- the part of the slot p is this, and all else as in v
 pub record PartNow (p : ℕ) (v w : View) (s m : List HistoryEntry) (out laid : Bool) : Type 0 where
@@ -17,7 +17,7 @@ pub record PartNow (p : ℕ) (v w : View) (s m : List HistoryEntry) (out laid : 
   pub mine_is : mine w p ≡ m
   pub out_is : is_out w p ≡ out
   pub laid_is : (part_of w.parts p).laid ≡ laid
-  pub rest : SameBut p v w
+  pub rest : Elsewhere p v w
   pub parts : length w.parts ≡ slots
   pub live : w.spent ≡ v.spent
   pub alone : w.guest ≡ v.guest
@@ -31,7 +31,7 @@ set_part p v s m out laid inside long =
       mine_is = ap (λ (y : Part). y.mine) there;
       out_is = ap (λ (y : Part). y.out) there;
       laid_is = ap (λ (y : Part). y.laid) there;
-      rest = record { number = refl; count = refl; lent = refl; found = refl; others = λ q ne. get_or-set_other v.parts p q x unseen ne };
+      rest = record { number = refl; count = refl; lent = refl; others = λ q ne. get_or-set_other v.parts p q x unseen ne };
       parts = length-set v.parts p x ∙ long;
       live = refl;
       alone = refl;
@@ -51,7 +51,6 @@ then_part p v w s m out laid was t n away put inside =
         number = was.rest.number;
         count = was.rest.count;
         lent = was.rest.lent;
-        found = was.rest.found;
         others = λ q ne. x.rest.others q ne ∙ was.rest.others q ne;
       };
       parts = x.parts;

@@ -10,11 +10,11 @@ use Rattle.proc_history.specs.declared.value.Outcome.{Outcome}
 use Rattle.proc_history.specs.declared.value.Outcome.TheVariants.{Done, Crashed, Ended}
 use Rattle.proc_history.specs.Events.{HistoryEntry, MayDo, own, entry}
 use Rattle.proc_history.specs.Events.Event.{call}
-use Rattle.proc_table.specs.Parts.{Part, part}
+use Rattle.proc_table.specs.Parts.{Part}
 use Rattle.proc_history.specs.Histories.{replay, replay_from, IsLegal, LegalFrom}
 use Rattle.proc_history.specs.Values.{nothing, up_in, up_at, answer, outcome_of}
 use Rattle.proc_history.specs.Outcomes.{outcome_in, state_in, after_call, call_entries}
-use Rattle.proc_table.specs.Views.{seen, mine, is_out, with_part}
+use Rattle.proc_table.specs.Views.{seen, mine, is_out, taken}
 use Rattle.proc_table.specs.Agrees.{slots}
 use Rattle.proc_history.specs.Events.{MayAdd}
 use Rattle.proc_table.specs.Steps.{Me, Ready, Fresh, Took, Adding, InHand, given, Known}
@@ -90,31 +90,42 @@ call_adds p round input me x y o hand pass lends is next =
       value = λ i. (p, left i) ∷ l.1 i;
     }
 
--- the slot p after it was taken, at the history h
-abbrev pub taken : View → ℕ → List HistoryEntry → View
-taken v p h = with_part v p (part h (mine v p) true false)
-
 pub is_taken : (p : ℕ) (v : View) (h : List HistoryEntry) → p < slots → length v.parts ≡ slots → PartNow p v (taken v p h) h (mine v p) true false
-is_taken p v h inside long = set_part p v h (mine v p) true false inside long
+is_taken p v h inside long =
+    let x = set_part p v h (mine v p) true false inside long in
+    record {
+      seen_is = x.seen_is;
+      mine_is = x.mine_is;
+      out_is = x.out_is;
+      laid_is = x.laid_is;
+      rest = record { number = refl; count = refl; lent = refl; others = x.rest.others };
+      parts = x.parts;
+      live = refl;
+      alone = refl;
+    }
 
 -- a slot that was taken and given back
-abbrev pub Back : ℕ → View → List HistoryEntry → List HistoryEntry → View → Type 0
-Back p v h es w = PartNow p v w (h ++ es) (mine v p ++ es) false false
+pub record Back (p : ℕ) (v : View) (h es : List HistoryEntry) (w : View) : Type 0 where
+  pub part_is : PartNow p v w (h ++ es) (mine v p ++ es) false false
+  pub found : w.found ≡ v.found ++ (p, 0) ∷ []
 
 pub is_back : (p : ℕ) (v : View) (h es : List HistoryEntry) → p < slots → length v.parts ≡ slots → Back p v h es (given (taken v p h) p es)
 is_back p v h es inside long =
     let t = is_taken p v h inside long in
-    subst₂ (λ s m. PartNow p v (given (taken v p h) p es) s m false false) (ap (λ g. g ++ es) t.seen_is) (ap (λ g. g ++ es) t.mine_is)
-    (then_part p v (taken v p h) h (mine v p) true false t (seen (taken v p h) p ++ es) (mine (taken v p h) p ++ es) false false inside)
+    record {
+      part_is = subst₂ (λ s m. PartNow p v (given (taken v p h) p es) s m false false) (ap (λ g. g ++ es) t.seen_is) (ap (λ g. g ++ es) t.mine_is)
+          (then_part p v (taken v p h) h (mine v p) true false t (seen (taken v p h) p ++ es) (mine (taken v p h) p ++ es) false false inside);
+      found = refl;
+    }
 
 back_pass : (p : ℕ) (v : View) (h es : List HistoryEntry) (w : View) → Back p v h es w → Ready w → Known w → IsPass v → IsPass w
 back_pass p v h es w b ready known pass = record {
   ready = ready;
   known = known;
-  pass = λ e. pass.pass (sym b.rest.number ∙ e);
+  pass = λ e. pass.pass (sym b.part_is.rest.number ∙ e);
   none_out = λ q. dite (ℕ_discrete q p)
-      (λ e. subst (λ z. is_out w z ≡ false) (sym e) b.out_is)
-      (λ ne. ap (λ (x : Part). x.out) (b.rest.others q ne) ∙ pass.none_out q);
+      (λ e. subst (λ z. is_out w z ≡ false) (sym e) b.part_is.out_is)
+      (λ ne. ap (λ (x : Part). x.out) (b.part_is.rest.others q ne) ∙ pass.none_out q);
 }
 
 -- what a pass is left with
@@ -127,11 +138,12 @@ looked p v w h f b = record {
   between = f.between;
   strangers = f.strangers;
   alone = f.alone;
-  seen_is = b.seen_is ∙ (append-nil h ∙ f.is);
-  mine_is = b.mine_is ∙ append-nil (mine v p);
-  legal = subst IsLegal (sym (b.seen_is ∙ append-nil h)) f.legal;
-  once = rw (b.seen_is, b.mine_is) (rw (append-nil h, append-nil (mine v p)) f.once);
-  rest = b.rest;
+  seen_is = b.part_is.seen_is ∙ (append-nil h ∙ f.is);
+  mine_is = b.part_is.mine_is ∙ append-nil (mine v p);
+  legal = subst IsLegal (sym (b.part_is.seen_is ∙ append-nil h)) f.legal;
+  once = rw (b.part_is.seen_is, b.part_is.mine_is) (rw (append-nil h, append-nil (mine v p)) f.once);
+  found = b.found;
+  rest = b.part_is.rest;
 }
 
 pub own_behind : (n : ℕ) (h es m : List HistoryEntry) → MayAdd n es → own n h ≡ m → own n (h ++ es) ≡ m ++ es
@@ -146,11 +158,12 @@ called p round input v w h o f pass is b =
       between = f.between;
       strangers = f.strangers;
       up = (up.0, ap (λ g. up_in round (replay g)) (sym f.is) ∙ up.1, up.2);
-      seen_is = b.seen_is ∙ ap (λ g. g ++ es) f.is;
-      mine_is = b.mine_is;
-      legal = subst IsLegal (sym b.seen_is) (legal-append nothing h es f.legal (legal_call v.number round input (replay h) (Some o) pass.pass is));
-      once = rw (b.rest.number, b.seen_is, b.mine_is) (own_behind v.number h es (mine v p) (may_call v.number input (Some o) pass.pass) f.once);
-      rest = b.rest;
+      seen_is = b.part_is.seen_is ∙ ap (λ g. g ++ es) f.is;
+      mine_is = b.part_is.mine_is;
+      legal = subst IsLegal (sym b.part_is.seen_is) (legal-append nothing h es f.legal (legal_call v.number round input (replay h) (Some o) pass.pass is));
+      once = rw (b.part_is.rest.number, b.part_is.seen_is, b.part_is.mine_is) (own_behind v.number h es (mine v p) (may_call v.number input (Some o) pass.pass) f.once);
+      found = b.found;
+      rest = b.part_is.rest;
     }
 
 answered : (p round input : ℕ) (v w : View) (h : List HistoryEntry) (o : Option Outcome) → Fresh v p h → IsPass v → o ≡ outcome_in round input (replay h)
@@ -159,7 +172,7 @@ answered p round input v w h (Some (Done r)) f pass is b = called p round input 
 answered p round input v w h (Some Crashed) f pass is b = called p round input v w h Crashed f pass is b
 answered p round input v w h (Some (Ended r)) f pass is b = called p round input v w h (Ended r) f pass is b
 answered p round input v w h None f pass is b =
-    (looked p v w h f b, rw (b.seen_is ∙ append-nil h) (from_map_none (λ (m : Now). outcome_of (answer m input)) (up_in round (replay h)) is))
+    (looked p v w h f b, rw (b.part_is.seen_is ∙ append-nil h) (from_map_none (λ (m : Now). outcome_of (answer m input)) (up_in round (replay h)) is))
 
 -- a slot that was taken, called and given back
 pub record CallMade (p round input : ℕ) (v : View) (o : Option Outcome) (w : Me) : Type 0 where
@@ -182,7 +195,7 @@ call_made p round input v m w o inside pass t is given_is =
     subst (CallMade p round input v o) (sym there) (record {
       answer = answered p round input v w0 h o t.fresh pass is' b;
       left = record {
-        pass = back_pass p v h es w0 b (record { live = pass.ready.live; alone = pass.ready.alone }) (part_known p v w0 (h ++ es) (mine v p ++ es) false false b pass.known once legal) pass;
+        pass = back_pass p v h es w0 b (record { live = pass.ready.live; alone = pass.ready.alone }) (part_known p v w0 (h ++ es) (mine v p ++ es) false false b.part_is pass.known once legal) pass;
         empty = refl;
       };
     })
@@ -191,9 +204,9 @@ shown : (p round : ℕ) (v w : View) (h : List HistoryEntry) (s : Option ℕ) �
     → Back p v h [] w → Shows p round v (peeked_of s) w
 shown p round v w h (Some s) f is b =
     let up = from_map (λ (n : Now). n.state) (up_in round (replay h)) s is in
-    (looked p v w h f b, (up.0, ap (λ g. up_in round (replay g)) (b.seen_is ∙ append-nil h) ∙ up.1, up.2))
+    (looked p v w h f b, (up.0, ap (λ g. up_in round (replay g)) (b.part_is.seen_is ∙ append-nil h) ∙ up.1, up.2))
 shown p round v w h None f is b =
-    (looked p v w h f b, rw (b.seen_is ∙ append-nil h) (from_map_none (λ (n : Now). n.state) (up_in round (replay h)) is))
+    (looked p v w h f b, rw (b.part_is.seen_is ∙ append-nil h) (from_map_none (λ (n : Now). n.state) (up_in round (replay h)) is))
 
 pub record PeekMade (p round : ℕ) (v : View) (s : Option ℕ) (w : Me) : Type 0 where
   pub answer : Shows p round v (peeked_of s) w.0
@@ -214,7 +227,7 @@ peek_made p round v m w s inside pass t is given_is =
     subst (PeekMade p round v s) (sym there) (record {
       answer = shown p round v w0 h s t.fresh is' b;
       left = record {
-        pass = back_pass p v h [] w0 b (record { live = pass.ready.live; alone = pass.ready.alone }) (part_known p v w0 (h ++ []) (mine v p ++ []) false false b pass.known once legal) pass;
+        pass = back_pass p v h [] w0 b (record { live = pass.ready.live; alone = pass.ready.alone }) (part_known p v w0 (h ++ []) (mine v p ++ []) false false b.part_is pass.known once legal) pass;
         empty = refl;
       };
     })

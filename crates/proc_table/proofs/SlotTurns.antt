@@ -43,13 +43,13 @@ history_is s a p h all =
     (subst (λ g. IsPrefix g h) long.3 (all.longest long.0 long.1 long.2))
     (subst (λ g. IsPrefix g (a.history p)) top.3 ((a.each p).parts top.0 top.1 top.2).begins)
 
--- A seat's part of one slot changes, with the slot's history, word and home, and it has seen that whole history: if this slot
--- agrees, all do.
-pub turns_at : (s : States) (i : ℕ) (v : View) (a : Agrees s) (p : ℕ) (k : List HistoryEntry) (x : Part) (n : ℕ) (m : Option Value)
+-- A seat's part of one slot changes, with what its takes found and with the slot's history, word and home, and it has seen that
+-- whole history: if this slot agrees, all do.
+pub turns_at : (s : States) (i : ℕ) (v : View) (a : Agrees s) (p : ℕ) (k : List HistoryEntry) (x : Part) (f : List (ℕ × ℕ)) (n : ℕ) (m : Option Value)
     → Sits s i v → v.guest ≡ None → p < slots → x.seen ≡ k → Change s (a.history p) k p i v None x n (some m)
-    → Agrees (state (set s.words p n) (set s.homes p m) (set s.views i (with_part v p x)))
-turns_at s i v a p k x n m sits alone inside all c =
-    let w = with_part v p x in
+    → Agrees (state (set s.words p n) (set s.homes p m) (set s.views i (record (with_part v p x) { found = f })))
+turns_at s i v a p k x f n m sits alone inside all c =
+    let w = record (with_part v p x) { found = f } in
     let t = state (set s.words p n) (set s.homes p m) (set s.views i w) in
     let r : Reseats s t i v w = reseats s (set s.words p n) (set s.homes p m) i v w sits sits.1 in
     let fits = a.seats i v sits in

@@ -1,5 +1,5 @@
 -- Each kind of step keeps agreement.
-use Rattle.std.proofs.Common.{◌≡◌, ◌≢◌, ℕ, ◌<◌, Bool, true, false, List, ◌++◌, set, slice_index, refl, ap, sym, subst, ◌∙◌, inl, arith, true≢false, append-nil, None}
+use Rattle.std.proofs.Common.{◌≡◌, ◌≢◌, ℕ, ◌<◌, Bool, true, false, List, [], ◌∷◌, ◌++◌, set, slice_index, refl, ap, sym, subst, ◌∙◌, inl, arith, true≢false, append-nil, None}
 use Rattle.std.proofs.lemmas.List.{set-get_or}
 use mathlib.Core.Option.{Option, some, none}
 use mathlib.Core.List.{IsPrefix}
@@ -30,7 +30,7 @@ takes_agree s t m a =
     let f = (a.each m.p).parts m.i m.v m.sits in
     let same : h ≡ m.h = history_is s a m.p m.h m.all in
     let x = part m.h ((part_of m.v.parts m.p).mine) true false in
-    subst Agrees (sym m.is) (turns_at s m.i m.v a m.p m.h x (word_of m.v.number) none m.sits m.alone m.inside refl (record {
+    subst Agrees (sym m.is) (turns_at s m.i m.v a m.p m.h x (m.v.found ++ (m.p, 0) ∷ []) (word_of m.v.number) none m.sits m.alone m.inside refl (record {
       longer = subst (λ g. IsPrefix h g) same (prefix_self h);
       legal = subst IsLegal same (a.each m.p).legal;
       strangers = λ z ne. ap (own z) (sym same);
@@ -61,7 +61,7 @@ gives_agree s t m a =
     let all : seen m.v m.p ≡ h = f.all_where_out m.out in
     let k = seen m.v m.p ++ m.entries in
     let x = part k ((part_of m.v.parts m.p).mine ++ m.entries) false false in
-    subst Agrees (sym m.is) (turns_at s m.i m.v a m.p k x 0 (some (replay k)) m.sits m.alone m.inside refl (record {
+    subst Agrees (sym m.is) (turns_at s m.i m.v a m.p k x m.v.found 0 (some (replay k)) m.sits m.alone m.inside refl (record {
       longer = subst (λ g. IsPrefix g k) all (prefix_more (seen m.v m.p) m.entries);
       legal = m.legal;
       strangers = λ z ne. strangers_added m.v.number z (seen m.v m.p) m.entries m.may ne ∙ ap (own z) all;
@@ -106,7 +106,7 @@ home_agrees s a i p v laid m sits alone inside out y =
     let here = a.each p in
     let f = here.parts i v sits in
     let x = part (seen v p) (mine v p) true laid in
-    turns_at s i v a p (a.history p) x (slice_index s.words p) m sits alone inside (f.all_where_out out) (record {
+    turns_at s i v a p (a.history p) x v.found (slice_index s.words p) m sits alone inside (f.all_where_out out) (record {
       longer = prefix_self (a.history p);
       legal = here.legal;
       strangers = λ z ne. refl;

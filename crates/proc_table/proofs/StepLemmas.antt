@@ -10,9 +10,9 @@ use Rattle.atomic_table.proofs.Lists.{set_else}
 use Rattle.proc_table.specs.declared.view.View.{View}
 use Rattle.proc_history.specs.declared.value.Value.{Value}
 use Rattle.proc_history.specs.Events.{HistoryEntry, own}
-use Rattle.proc_table.specs.Parts.{part, part_of}
+use Rattle.proc_table.specs.Parts.{part_of}
 use Rattle.proc_history.specs.Histories.{replay}
-use Rattle.proc_table.specs.Views.{seen, mine, is_out, word_of, with_part, found_more, no_guest, one_more, new_pass, joined, gone}
+use Rattle.proc_table.specs.Views.{seen, is_out, word_of, taken, found_more, no_guest, one_more, new_pass, joined, gone}
 use Rattle.proc_table.specs.Agrees.{slots, States, Sits, Agrees}
 use Rattle.proc_table.specs.Moves as moves
 use Rattle.proc_table.specs.Moves.{Reached, IsHistory}
@@ -55,7 +55,7 @@ takes_allowed n id me p mark ready inside is s r long at fits = go (slice_index 
         let h = a.history p in
         let free : slice_index s.words p ≡ 0 = grind (arith, nat_tests) in
         let sits : Sits s id me.0 = (at, ready.live) in (
-          with_part me.0 p (part h (mine me.0 p) true false),
+          taken me.0 p h,
           takes p (replay h),
           (a.each p).home inside free,
           next s _ r (moves.Moves.takes (record {
@@ -68,7 +68,7 @@ takes_allowed n id me p mark ready inside is s r long at fits = go (slice_index 
             inside = inside;
             free = free;
             all = history_of s a p;
-            is = ap (λ k. stepped s p k id me.1 (with_part me.0 p (part h (mine me.0 p) true false)) (takes p (replay h))) is;
+            is = ap (λ k. stepped s p k id me.1 (taken me.0 p h) (takes p (replay h))) is;
           })),
           record { h = h; fresh = fresh s a p id me.0 sits; is = refl },
         )

@@ -6,7 +6,7 @@ use Rattle.proc_table.specs.Parts.{Part, part_of}
 use Rattle.proc_table.specs.Views.{seen, mine, found_more}
 use Rattle.proc_table.specs.Calls.{Elsewhere}
 use Rattle.proc_table.specs.Holds.{Holding, Released}
-use Rattle.proc_table.specs.Waits.{AreBusy, at_slot, Waited, HeldAtLast, HeldSince}
+use Rattle.proc_table.specs.Waits.{AreBusy, at_slot, Waited, FoundAtLast, HeldAtLast, HeldSince}
 
 busy_more : (ns : List ℕ) (n : ℕ) → AreBusy ns → (n ≡ 1) ⊎ (n ≡ 2) → AreBusy (ns ++ n ∷ [])
 busy_more [] n b one = (one, tt)
@@ -25,6 +25,14 @@ waited_more p v w u n was one is = record {
   busy = busy_more was.words n was.busy one;
   is = is ∙ (ap (λ (z : View). found_more z p n) was.is ∙ ap (λ l. record v { found = l })
       (append_assoc v.found (at_slot p was.words) ((p, n) ∷ []) ∙ ap (λ l. v.found ++ l) (sym (at_slot_more p was.words n))));
+}
+
+-- a take that got the slot, behind the waiting
+pub found_since : (p : ℕ) (v u w : View) → Waited p v u → w.found ≡ u.found ++ (p, 0) ∷ [] → FoundAtLast p v w
+found_since p v u w was got = record {
+  words = was.words;
+  busy = was.busy;
+  is = got ∙ ap (λ (z : View). z.found ++ (p, 0) ∷ []) was.is;
 }
 
 -- what is known of a slot that is held, since before it was waited for
@@ -46,6 +54,7 @@ since p v h w at =
       slot = at.held.slot;
       out = at.held.out;
       value = at.held.value;
+      found = found_since p v at.before w at.waited looked.found;
       elsewhere = record {
         number = looked.rest.number ∙ number;
         count = looked.rest.count ∙ ap (λ (z : View). z.count) at.waited.is;
@@ -56,7 +65,7 @@ since p v h w at =
 
 -- a release leaves other slots as they were
 pub elsewhere_left : (p : ℕ) (entries : List HistoryEntry) (v w : View) → Released p entries v w → Elsewhere p v w
-elsewhere_left p entries v w r = record { number = r.rest.number; count = r.rest.count; lent = r.rest.lent; others = r.rest.others }
+elsewhere_left p entries v w r = r.rest
 
 -- a hold and a release of what was held leave them so
 pub held_and_released : (p : ℕ) (entries : List HistoryEntry) (v : View) (h : Holding) (u w : View) → HeldAtLast p v h u → Released p entries u w → Elsewhere p v w

@@ -1,7 +1,7 @@
 -- Who has a process at a word.
 use Rattle.std.proofs.Common.{◌≡◌, ◌≢◌, ℕ, zero, suc, slice_index, refl, sym, ◌∙◌, arith}
 use Rattle.proc_table.specs.Views.{is_out, word_of}
-use Rattle.proc_table.specs.Words.{HasAtWord, WordsTell}
+use Rattle.proc_table.specs.Words.{HasAtWord, WordsShow}
 use Rattle.proc_table.proofs.Runs.{reached_agrees, none_out}
 use Rattle.proc_table.proofs.SlotTurns.{word_not_zero}
 
@@ -13,7 +13,7 @@ handler_above_one : (n m : ℕ) → word_of n ≡ suc (suc m) → n ≡ 0
 handler_above_one zero m e = refl
 handler_above_one (suc n) m e = absurd (omega arith)
 
-pub words_report : WordsTell
+pub words_report : WordsShow
 words_report s r p = go (slice_index s.words p) refl
   where
     go : (k : ℕ) → slice_index s.words p ≡ k → HasAtWord p k s

@@ -16,23 +16,16 @@ use Rattle.proc_history.specs.Histories.{replay, IsLegal}
 use Rattle.proc_history.specs.Values.{up_in, answer, outcome_of}
 use Rattle.proc_table.specs.Views.{seen, mine, is_out, IsLent, all_but, found_more}
 
--- All but one slot is as before.
-pub record SameBut (p : ℕ) (v w : View) : Type 0 where
-  pub number : w.number ≡ v.number
-  pub count : w.count ≡ v.count
-  pub lent : w.lent ≡ v.lent
-  pub found : w.found ≡ v.found
-  pub others : (q : ℕ) → q ≢ p → part_of w.parts q ≡ part_of v.parts q
-
--- All but one slot is as before. What was found isn't reported, since it grows while a slot is waited for.
+-- All but one slot is as before. What the takes found stands beside.
 pub record Elsewhere (p : ℕ) (v w : View) : Type 0 where
   pub number : w.number ≡ v.number
   pub count : w.count ≡ v.count
   pub lent : w.lent ≡ v.lent
   pub others : (q : ℕ) → q ≢ p → part_of w.parts q ≡ part_of v.parts q
 
--- The seat has seen the history up to a moment in the call: what it had seen, then entries of others, of which there are none
--- where the handler has lent no pass. It is legal, and the seat's own entries in it are those that it made, in order.
+-- The call took the slot once, and found it free: what the seat then saw is the slot's whole history at that take. It is what
+-- the seat had seen, then entries of others, of which there are none where the handler has lent no pass. It is legal, and the
+-- seat's own entries in it are those that it made, in order.
 pub record Looked (p : ℕ) (v w : View) : Type 0 where
   pub between : List HistoryEntry
   pub strangers : own v.number between ≡ []
@@ -41,10 +34,12 @@ pub record Looked (p : ℕ) (v w : View) : Type 0 where
   pub mine_is : mine w p ≡ mine v p
   pub legal : IsLegal (seen w p)
   pub once : own v.number (seen w p) ≡ mine w p
-  pub rest : SameBut p v w
+  pub found : w.found ≡ v.found ++ (p, 0) ∷ []
+  pub rest : Elsewhere p v w
 
--- The call stands in the history: behind what the pass had seen and entries of others, once. The process was up in its round,
--- and the outcome is that of its table's first fitting row.
+-- The call took the slot once, and found it free. It stands in the history: behind what the pass had seen and entries of others,
+-- which is the whole history at that take, once. The process was up in its round, and the outcome is that of its table's first
+-- fitting row.
 pub record Called (p round input : ℕ) (outcome : Outcome) (v w : View) : Type 0 where
   pub between : List HistoryEntry
   pub strangers : own v.number between ≡ []
@@ -53,7 +48,8 @@ pub record Called (p round input : ℕ) (outcome : Outcome) (v w : View) : Type 
   pub mine_is : mine w p ≡ mine v p ++ entry v.number (call input outcome) ∷ []
   pub legal : IsLegal (seen w p)
   pub once : own v.number (seen w p) ≡ mine w p
-  pub rest : SameBut p v w
+  pub found : w.found ≡ v.found ++ (p, 0) ∷ []
+  pub rest : Elsewhere p v w
 
 -- the answer of a call that had this outcome
 abbrev pub tried_of : Option Outcome → Tried

@@ -7,7 +7,7 @@ use Rattle.proc_history.specs.declared.value.Value.{Value}
 use Rattle.proc_history.specs.Events.{HistoryEntry, own}
 use Rattle.proc_history.specs.Histories.{replay, IsLegal}
 use Rattle.proc_table.specs.Views.{seen, mine, is_out, found_more}
-use Rattle.proc_table.specs.Calls.{SameBut, Looked}
+use Rattle.proc_table.specs.Calls.{Elsewhere, Looked}
 
 -- a slot that the handler holds, and what stands in it
 pub record Holding : Type 0 where
@@ -17,7 +17,7 @@ pub record Holding : Type 0 where
 abbrev pub holding_code : Coded Value → Coded Holding
 holding_code value = code_by (ℕ × Value) (coded× coded_ℕ value) (λ h. (h.slot, h.value)) (λ t. record { slot = t.0; value = t.1 }) (λ _. refl)
 
--- The handler holds the slot: it has seen the whole history, and the value is what that leaves.
+-- The handler took the slot in this call and holds it: it has seen the whole history, and the value is what that leaves.
 pub record HeldNow (p : ℕ) (v : View) (held : Holding) (w : View) : Type 0 where
   pub handler : v.number ≡ 0
   pub slot : held.slot ≡ p
@@ -29,11 +29,12 @@ pub record HeldNow (p : ℕ) (v : View) (held : Holding) (w : View) : Type 0 whe
 abbrev pub NotHeld : ℕ → View → View → Type 0
 NotHeld p v w = (n : ℕ) × ((n ≡ 1) ⊎ (n ≡ 2)) × (w ≡ found_more v p n)
 
--- The slot was given back, with these entries behind what the handler had seen, as one.
+-- The slot was given back, with these entries behind what the handler had seen, as one. No slot was taken.
 pub record Released (p : ℕ) (entries : List HistoryEntry) (v w : View) : Type 0 where
   pub seen_is : seen w p ≡ seen v p ++ entries
   pub mine_is : mine w p ≡ mine v p ++ entries
   pub out : is_out w p ≡ false
   pub legal : IsLegal (seen w p)
   pub once : own v.number (seen w p) ≡ mine w p
-  pub rest : SameBut p v w
+  pub found : w.found ≡ v.found
+  pub rest : Elsewhere p v w

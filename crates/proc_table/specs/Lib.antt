@@ -1,3 +1,9 @@
+pub use Rattle.proc_history.specs.Events
+pub use Rattle.proc_history.specs.Histories
+pub use Rattle.proc_history.specs.Values
+pub use Rattle.proc_history.specs.declared.beginning.Beginning
+pub use Rattle.proc_history.specs.declared.value.Now
+pub use Rattle.proc_history.specs.declared.value.Value
 pub mod Parts
 pub mod Codes
 pub mod Views

@@ -7,7 +7,7 @@ use Rattle.proc_history.specs.declared.value.Value.{Value}
 use Rattle.proc_history.specs.Events.{HistoryEntry, MayAdd}
 use Rattle.proc_table.specs.Parts.{part}
 use Rattle.proc_history.specs.Histories.{replay, IsLegal}
-use Rattle.proc_table.specs.Views.{seen, mine, is_out, word_of, with_part, found_more, no_guest, one_more, new_pass, joined, gone}
+use Rattle.proc_table.specs.Views.{seen, mine, is_out, word_of, with_part, taken, found_more, no_guest, one_more, new_pass, joined, gone}
 use Rattle.proc_table.specs.Agrees.{slots, States, state, start, Sits, Agrees}
 
 -- the longest that any seat has seen of a slot
@@ -19,7 +19,7 @@ pub record IsHistory (s : States) (p : ℕ) (h : List HistoryEntry) : Type 0 whe
 abbrev pub kept : States → ℕ → List ℕ
 kept s p = slice_set s.words p (slice_index s.words p)
 
--- a seat takes a slot whose word is 0: then it has seen its whole history
+-- a seat takes a slot whose word is 0: then it has seen its whole history, and keeps that it found 0
 pub record Takes (s t : States) : Type 0 where
   pub i : ℕ
   pub p : ℕ
@@ -30,7 +30,7 @@ pub record Takes (s t : States) : Type 0 where
   pub inside : p < slots
   pub free : slice_index s.words p ≡ 0
   pub all : IsHistory s p h
-  pub is : t ≡ state (slice_set s.words p (word_of v.number)) (slice_set s.homes p none) (slice_set s.views i (with_part v p (part h (mine v p) true false)))
+  pub is : t ≡ state (slice_set s.words p (word_of v.number)) (slice_set s.homes p none) (slice_set s.views i (taken v p h))
 
 -- a seat puts the value back, with its entries behind the history
 pub record Gives (s t : States) : Type 0 where

@@ -7,7 +7,7 @@ use Rattle.proc_history.specs.declared.value.Value.{Value}
 use Rattle.proc_history.specs.Events.{HistoryEntry, own}
 use Rattle.proc_table.specs.Parts.{Guest, part, part_of}
 use Rattle.proc_history.specs.Histories.{replay, IsLegal}
-use Rattle.proc_table.specs.Views.{seen, mine, is_out, with_part, found_more, no_guest}
+use Rattle.proc_table.specs.Views.{seen, mine, is_out, with_part, taken, found_more, no_guest}
 use Rattle.proc_table.specs.Agrees.{slots}
 use Rattle.proc_history.specs.Events.{MayAdd}
 
@@ -30,11 +30,11 @@ pub record Fresh (v : View) (p : ℕ) (h : List HistoryEntry) : Type 0 where
   pub legal : IsLegal h
   pub once : own v.number h ≡ mine v p
 
--- the slot is out: its whole history is seen, and its value is what that leaves
+-- The slot is out, and its word was 0: its whole history is seen, and its value is what that leaves.
 pub record Took (p : ℕ) (me w : Me) : Type 0 where
   pub h : List HistoryEntry
   pub fresh : Fresh me.0 p h
-  pub is : w ≡ (with_part me.0 p (part h (mine me.0 p) true false), (p, replay h) ∷ me.1)
+  pub is : w ≡ (taken me.0 p h, (p, replay h) ∷ me.1)
 
 -- another has the slot: a pass at word 1, the handler at word 2
 pub record Missed (p n : ℕ) (me w : Me) : Type 0 where

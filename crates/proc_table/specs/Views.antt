@@ -2,7 +2,7 @@
 use Rattle.std.specs.Prelude.{ℕ, zero, suc, ◌+◌, ◌==◌, Bool, true, false, not, List, [], ◌∷◌, ◌++◌, map, filter, replicate, slice_set, Some, None, Contains}
 use Rattle.proc_table.specs.declared.view.View.{View}
 use Rattle.proc_history.specs.Events.{HistoryEntry}
-use Rattle.proc_table.specs.Parts.{Part, part_of, unseen, only_seen, joined_parts}
+use Rattle.proc_table.specs.Parts.{Part, part, part_of, unseen, only_seen, joined_parts}
 
 abbrev pub view : ℕ → ℕ → List Part → View
 view number count parts = record { number = number; count = count; lent = []; parts = parts; found = []; guest = None; spent = false }
@@ -32,9 +32,13 @@ word_of (suc n) = 1
 abbrev pub with_part : View → ℕ → Part → View
 with_part v p x = record v { parts = slice_set v.parts p x }
 
--- after a failed take
+-- after a take of the slot that found this word
 abbrev pub found_more : View → ℕ → ℕ → View
 found_more v p n = record v { found = v.found ++ (p, n) ∷ [] }
+
+-- after a take that found the slot free and got it, with its whole history
+abbrev pub taken : View → ℕ → List HistoryEntry → View
+taken v p h = found_more (with_part v p (part h (mine v p) true false)) p 0
 
 abbrev pub no_guest : View → View
 no_guest v = record v { guest = None }

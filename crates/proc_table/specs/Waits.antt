@@ -30,6 +30,12 @@ IsAnswer Busy = ⊥
 IsAnswer Held = ⊥
 IsAnswer t = Unit {0}
 
+-- The last take since the view v was of this slot, and got it. Those before it were of this slot too, and found it taken.
+pub record FoundAtLast (p : ℕ) (v w : View) : Type 0 where
+  pub words : List ℕ
+  pub busy : AreBusy words
+  pub is : w.found ≡ (v.found ++ at_slot p words) ++ (p, 0) ∷ []
+
 -- After some steps that found the slot taken, the answer of one that did not.
 pub record AnswersAtLast (p round input : ℕ) (v : View) (t : Tried) (w : View) : Type 0 where
   pub before : View
@@ -43,8 +49,8 @@ pub record HeldAtLast (p : ℕ) (v : View) (h : Holding) (w : View) : Type 0 whe
   pub waited : Waited p v before
   pub held : HeldNow p before h w
 
--- Of a slot that was waited for and is held, since before the waiting: entries of others came, of which there are none where
--- the handler has lent no pass, and other slots are as they were.
+-- Of a slot that was waited for and is held, since before the waiting: the last take got it, and those before it found it taken.
+-- Entries of others came, of which there are none where the handler has lent no pass, and other slots are as they were.
 pub record HeldSince (p : ℕ) (v : View) (h : Holding) (w : View) : Type 0 where
   pub between : List HistoryEntry
   pub strangers : own v.number between ≡ []
@@ -57,6 +63,7 @@ pub record HeldSince (p : ℕ) (v : View) (h : Holding) (w : View) : Type 0 wher
   pub slot : h.slot ≡ p
   pub out : is_out w p ≡ true
   pub value : h.value ≡ replay (seen w p)
+  pub found : FoundAtLast p v w
   pub elsewhere : Elsewhere p v w
 
 -- What is held was waited for, or not, with the same outcome. A release leaves other slots as they were.

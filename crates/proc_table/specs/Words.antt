@@ -21,5 +21,5 @@ HasAtWord p (suc zero) s = ClientHas s p
 HasAtWord p (suc (suc n)) s = HandlerHas s p
 
 -- In each state to which a run leads, the word of a process shows who has it.
-abbrev pub WordsTell : Type 0
-WordsTell = (s : States) → Reached s → (p : ℕ) → HasAtWord p (slice_index s.words p) s
+abbrev pub WordsShow : Type 0
+WordsShow = (s : States) → Reached s → (p : ℕ) → HasAtWord p (slice_index s.words p) s

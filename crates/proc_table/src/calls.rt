@@ -13,7 +13,7 @@ use proc_history::{Outcome, Value};
 use std::marker::Brand;
 
 impl ProcTable {
-    /// A call of the process. It takes no memory and waits for nobody.
+    /// A call of the process. Its answer goes by a take of the slot in this call. It takes no memory and waits for nobody.
     pub fn try_call(&self, pass: &mut Pass, pid: Pid, input: u32) -> Tried
         requires { pass.old.table ≡ self.now }
         ensures table { pass.new.table ≡ pass.old.table }
@@ -30,7 +30,8 @@ impl ProcTable {
         Tried::of(outcome)
     }
 
-    /// The state of the process. It takes no memory and waits for nobody, and adds nothing to the history.
+    /// The state of the process, by a take of the slot in this call. It takes no memory and waits for nobody, and adds nothing to
+    /// the history.
     pub fn try_peek(&self, pass: &mut Pass, pid: Pid) -> Peeked
         requires { pass.old.table ≡ self.now }
         ensures table { pass.new.table ≡ pass.old.table }

@@ -1,7 +1,7 @@
 //! A process that the handler holds.
 ghost use Rattle.std.specs.Prelude.{◌≡◌, ◌<◌, ◌↔◌, IsTrue, true, false, List, [], ◌++◌, MatchOption};
 ghost use Rattle.erl_term.specs.Value.{value_of};
-ghost use Rattle.worker_table.specs.InMemory.{old_of};
+ghost use Rattle.proc_history.specs.InMemory.{old_of};
 ghost use Rattle.proc_table.specs.Agrees.{slots};
 ghost use Rattle.proc_history.specs.Events.{ByHandler, HistoryEntry};
 ghost use Rattle.proc_history.specs.Events.Event.{changed, loaded, stopped, started, given_up};
@@ -19,8 +19,7 @@ use crate::rule::Adds;
 use crate::{HandlerSeat, Pid, ProcTable, View};
 use atomic_table::Seat;
 use erl_term::Term;
-use mod_table::{Old, Worker};
-use proc_history::{Beginning, Entry, Value};
+use proc_history::{Beginning, Entry, Old, Value, Worker};
 use std::marker::{Brand, Model};
 
 /// A slot that the handler holds, with what stands in it. It ends in `release` or `let_go`.

@@ -4,7 +4,7 @@ ghost use Rattle.proc_table.specs.Free.{BeginsTakeOne, HandlerKnows};
 ghost use Rattle.proc_table.specs.Moves.{RunsAgree, ReachedAgrees, HeldAlone};
 ghost use Rattle.proc_table.specs.Together.{TwoClients, CallsStandApart};
 ghost use Rattle.proc_table.specs.Waits.{HoldsAndReleases};
-ghost use Rattle.proc_table.specs.Words.{WordsTell};
+ghost use Rattle.proc_table.specs.Words.{WordsShow};
 
 /// Every run of the kinds of step, by any number of passes, keeps agreement.
 pub fn every_run_keeps_agreement()
@@ -19,7 +19,7 @@ pub fn what_is_reached_agrees()
 /// The word of a process shows who has it: nobody at 0, a client at 1, and else the handler. So `Busy` and `Held` are answered
 /// by a word that shows another, and a call by one that shows nobody.
 pub fn the_word_of_a_process_shows_who_has_it()
-    ensures { WordsTell }
+    ensures { WordsShow }
 {}
 
 /// While the handler or a client has a process, no other has it, and so no call of it is answered.

@@ -17,7 +17,7 @@ pub struct View {
     pub ghost lent: { List ℕ } by { coded_list coded_ℕ },
     /// What it knows of each slot.
     pub ghost parts: { List Part } by { parts_code },
-    /// The failed takes: each the slot, and the word found.
+    /// What each take found: the slot, and its word, 0 where the seat got it.
     pub ghost found: { List (ℕ × ℕ) } by { coded_list (coded× coded_ℕ coded_ℕ) },
     /// The pass that was joined last, until the table was asked about it.
     pub ghost guest: { Option Guest } by { coded_option guest_code },

@@ -13,8 +13,8 @@ use Rattle.proc_workers.specs.declared.worker.Ended.{Ended}
 use Rattle.proc_workers.specs.declared.worker.EndCause.TheVariants as cause
 use Rattle.proc_workers.specs.Ends.{read_by, taken}
 use Rattle.proc_workers.specs.Notes.{EndsBy}
-use Rattle.proc_workers.specs.Work.{job_of, HasAnswered, HasDone, HasEnded}
-use Rattle.proc_workers.specs.Desks.{IsAt, IsReached, TakesNote, SameDesk, HasRoomFor, HasAnswer, HasResumed}
+use Rattle.proc_workers.specs.Work.{job_of, HasAnswer, HasAnswered, HasDone, HasEnded}
+use Rattle.proc_workers.specs.Desks.{IsAt, IsReached, TakesNote, SameDesk, HasRoomFor, HasResumed}
 use Rattle.proc_workers.proofs.NoteLemmas.{map_more, done_nothing, still_running, is_suspended, runs_on, suspends_same, done_suspended, done_stopped, done_kept, done_answered, done_resumed}
 use Rattle.proc_workers.proofs.WorkLemmas.{answered_nothing, answered_more}
 

@@ -16,13 +16,12 @@ use Rattle.proc_table.specs.declared.pass.Tried.{Tried}
 use Rattle.proc_table.specs.declared.pass.Tried.TheVariants as tried
 use Rattle.proc_table.specs.Parts.{Part, part_of}
 use Rattle.proc_table.specs.Views.{seen, mine}
-use Rattle.proc_table.specs.Calls.{SameBut, Elsewhere, Looked, Called, tried_of}
+use Rattle.proc_table.specs.Calls.{Elsewhere, Looked, Called, tried_of}
 use Rattle.proc_table.specs.Waits.{Waited, AnswersAtLast}
 use Rattle.proc_workers.specs.declared.note.Answer.{Answer}
 use Rattle.proc_workers.specs.declared.note.Job.{Job}
 use Rattle.proc_workers.specs.Processes.{IsProcess}
-use Rattle.proc_workers.specs.Work.{job_of, entries_of, calls_of, AnswersBy, AnswersInTurn, HasAnswered}
-use Rattle.proc_workers.specs.Desks.{HasAnswer}
+use Rattle.proc_workers.specs.Work.{job_of, entries_of, calls_of, AnswersBy, AnswersEach, AnswersInTurn, HasAnswer, HasAnswered}
 
 -- ---- a call that was waited for
 -- What a call leaves, since before the waiting: it was answered by a history, and its entry stands right behind that.
@@ -43,7 +42,7 @@ same_parts p v u was = ap (λ (z : View). z.parts) was.is
 same_number : (p : ℕ) (v u : View) → Waited p v u → u.number ≡ v.number
 same_number p v u was = ap (λ (z : View). z.number) was.is
 
-elsewhere_since : (p : ℕ) (v u w : View) → Waited p v u → SameBut p u w → Elsewhere p v w
+elsewhere_since : (p : ℕ) (v u w : View) → Waited p v u → Elsewhere p u w → Elsewhere p v w
 elsewhere_since p v u w was rest = record {
   number = rest.number ∙ same_number p v u was;
   count = rest.count ∙ ap (λ (z : View). z.count) was.is;
@@ -106,9 +105,14 @@ turn_more pid n h [] a g now later turns longer by more = (now, prefix_trans h g
 turn_more pid n h (x ∷ xs) a g now later turns longer by more =
     (turns.0, turns.1, turns.2, turn_more pid n (turns.0 ++ entries_of n x.input x.tried) xs a g now later turns.3 longer by more)
 
+each_more : (pid : Pid) (v : View) (answers : List Answer) (u : View) (a : Answer) (w : View) → AnswersEach pid v answers u → HasAnswer pid u (job_of a) a.tried w → AnswersEach pid v (answers ++ a ∷ []) w
+each_more pid v [] u a w same now = (w, subst (λ (z : View). HasAnswer pid z (job_of a) a.tried w) same now, refl)
+each_more pid v (x ∷ xs) u a w each now = (each.0, each.1, each_more pid each.0 xs u a w each.2 now)
+
 -- no answer yet
 pub answered_nothing : (pid : Pid) (v : View) → HasAnswered pid v [] v
 answered_nothing pid v = record {
+  each = refl;
   in_turn = prefix_self (seen v pid.slot);
   mine_is = sym (append-nil (mine v pid.slot));
   once = λ h. h;
@@ -124,6 +128,7 @@ by_call pid v answers u a w h is at =
     let number = h.elsewhere.number in
     let behind : s.now ++ entries_of v.number a.input a.tried ≡ seen w p = sym (s.seen_is ∙ ap (λ (n : ℕ). s.now ++ entries_of n a.input a.tried) number) in
     record {
+      each = each_more pid v answers u a w h.each (inl (is, at));
       in_turn = turn_more pid v.number (seen v p) answers a (seen u p) s.now (seen w p) h.in_turn s.longer (inl (is, s.tried_is))
           (subst (λ (l : List HistoryEntry). IsPrefix l (seen w p)) (sym behind) (prefix_self (seen w p)));
       mine_is = s.mine_is ∙ (ap (λ (l : List HistoryEntry). l ++ entries_of u.number a.input a.tried) h.mine_is ∙ (append_assoc (mine v p) (calls_of v.number answers) (entries_of u.number a.input a.tried)
@@ -144,6 +149,7 @@ by_name pid v answers u a h other down =
     let none : entries_of v.number a.input a.tried ≡ [] = ap (λ (t : Tried). entries_of v.number a.input t) down in
     let behind : seen u p ++ entries_of v.number a.input a.tried ≡ seen u p = ap (λ (l : List HistoryEntry). seen u p ++ l) none ∙ append-nil (seen u p) in
     record {
+      each = each_more pid v answers u a u h.each (inr (other, down, refl));
       in_turn = turn_more pid v.number (seen v p) answers a (seen u p) (seen u p) (seen u p) h.in_turn (prefix_self (seen u p)) (inr (other, down))
           (subst (λ (l : List HistoryEntry). IsPrefix l (seen u p)) (sym behind) (prefix_self (seen u p)));
       mine_is = h.mine_is ∙ ap (λ (l : List HistoryEntry). mine v p ++ l) (sym (calls_more v.number answers a ∙ (ap (λ (l : List HistoryEntry). calls_of v.number answers ++ l) none ∙ append-nil (calls_of v.number answers))));

@@ -1,10 +1,7 @@
 -- What a worker has in hand between two notes.
-use Rattle.std.specs.Prelude.{◌≡◌, ◌⊎◌, ℕ, ◌+◌, ◌≤◌, false, List, [], ◌∷◌, ◌++◌, length, map, take, vec_capacity}
+use Rattle.std.specs.Prelude.{◌≡◌, ℕ, ◌+◌, ◌≤◌, false, List, [], ◌∷◌, ◌++◌, length, map, take, vec_capacity}
 use Rattle.proc_table.specs.declared.view.View.{View}
 use Rattle.proc_table.specs.declared.pid.Pid.{Pid}
-use Rattle.proc_table.specs.declared.pass.Tried.{Tried}
-use Rattle.proc_table.specs.declared.pass.Tried.TheVariants.{Down}
-use Rattle.proc_table.specs.Waits.{AnswersAtLast}
 use Rattle.proc_workers.specs.declared.desk.Desk.{Desk}
 use Rattle.proc_workers.specs.declared.ends.Inbox.{Inbox}
 use Rattle.proc_workers.specs.declared.note.Answer.{Answer}
@@ -13,8 +10,7 @@ use Rattle.proc_workers.specs.declared.note.Note.{Note}
 use Rattle.proc_workers.specs.declared.worker.EndCause.{EndCause}
 use Rattle.proc_workers.specs.declared.worker.Ended.{Ended}
 use Rattle.proc_workers.specs.Notes.{stops, suspends}
-use Rattle.proc_workers.specs.Processes.{IsProcess}
-use Rattle.proc_workers.specs.Work.{job_of, HasAnswered, HasDone}
+use Rattle.proc_workers.specs.Work.{job_of, HasAnswer, HasAnswered, HasDone}
 
 -- the worker took these notes, and goes on
 pub record IsAt (pid : Pid) (v : View) (notes : List Note) (d : Desk) : Type 0 where
@@ -37,10 +33,6 @@ SameDesk d e = (e.pass ≡ d.pass) × (e.answers.items ≡ d.answers.items) × (
 -- there is room for so many jobs more, and for an answer to each job
 abbrev pub HasRoomFor : ℕ → Desk → Type 0
 HasRoomFor n d = (length d.kept.items + n ≤ vec_capacity d.kept) × (length d.answers.items + (length d.kept.items + n) ≤ vec_capacity d.answers)
-
--- the job was answered, by a call of the process that it names or by Down
-abbrev pub HasAnswer : Pid → View → Job → Tried → View → Type 0
-HasAnswer pid v job t w = (IsProcess pid job.pid × AnswersAtLast pid.slot pid.round job.input v t w) ⊎ ((¬ IsProcess pid job.pid) × (t ≡ Down) × (w ≡ v))
 
 -- the job is answered, behind the others
 abbrev pub AnswersJob : Pid → Job → Desk → Desk → Type 0

@@ -12,6 +12,7 @@ use Rattle.proc_table.specs.declared.pass.Tried.{Tried}
 use Rattle.proc_table.specs.declared.pass.Tried.TheVariants as tried
 use Rattle.proc_table.specs.Calls.{Elsewhere, tried_of}
 use Rattle.proc_table.specs.Views.{seen, mine}
+use Rattle.proc_table.specs.Waits.{AnswersAtLast}
 use Rattle.proc_workers.specs.declared.note.Answer.{Answer}
 use Rattle.proc_workers.specs.declared.note.Job.{Job}
 use Rattle.proc_workers.specs.declared.note.Note.{Note}
@@ -48,10 +49,22 @@ AnswersInTurn pid number h [] g = IsPrefix h g
 AnswersInTurn pid number h (a ∷ more) g =
     (now : List HistoryEntry) × IsPrefix h now × AnswersBy pid now a × AnswersInTurn pid number (now ++ entries_of number a.input a.tried) more g
 
+-- the job was answered, by a call of the process that it names or by Down
+abbrev pub HasAnswer : Pid → View → Job → Tried → View → Type 0
+HasAnswer pid v job t w = (IsProcess pid job.pid × AnswersAtLast pid.slot pid.round job.input v t w) ⊎ ((¬ IsProcess pid job.pid) × (t ≡ tried.Down) × (w ≡ v))
+
+-- From the view v to w these answers were given one after another. Each that names the process is that of a call of its own,
+-- which took the slot.
+abbrev pub AnswersEach : Pid → View → List Answer → View → Type 0
+AnswersEach pid v [] w = w ≡ v
+AnswersEach pid v (a ∷ more) w = (u : View) × HasAnswer pid v (job_of a) a.tried u × AnswersEach pid u more w
+
 -- The worker of this process has given these answers in turn, from the history that its pass had seen to the one that it has
--- seen now. Each but Down is a call of its pass, and it made no other. Where the pass's own entries in what it had seen were its
--- `mine`, they still are, so each call stands in the history once. Where that was legal, it still is. Other slots are as before.
+-- seen now, and each by a call of its own. Each but Down is a call of its pass, and it made no other. Where the pass's own entries
+-- in what it had seen were its `mine`, they still are, so each call stands in the history once. Where that was legal, it still is.
+-- Other slots are as before.
 pub record HasAnswered (pid : Pid) (v : View) (answers : List Answer) (w : View) : Type 0 where
+  pub each : AnswersEach pid v answers w
   pub in_turn : AnswersInTurn pid v.number (seen v pid.slot) answers (seen w pid.slot)
   pub mine_is : mine w pid.slot ≡ mine v pid.slot ++ calls_of v.number answers
   pub once : own v.number (seen v pid.slot) ≡ mine v pid.slot → own v.number (seen w pid.slot) ≡ mine w pid.slot

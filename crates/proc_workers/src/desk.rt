@@ -1,7 +1,8 @@
 //! What a worker has in hand between two notes.
 ghost use Rattle.std.specs.Prelude.{◌≡◌, ◌<◌, ◌+◌, [], length, OnOk, vec_capacity, true, false};
 ghost use Rattle.proc_workers.specs.declared.note.Note.TheVariants as note;
-ghost use Rattle.proc_workers.specs.Desks.{AnswersJob, HandsBack, HasAnswer, HasRoomFor, IsAt, KeepsJobs, SameDesk, TakesNote};
+ghost use Rattle.proc_workers.specs.Desks.{AnswersJob, HandsBack, HasRoomFor, IsAt, KeepsJobs, SameDesk, TakesNote};
+ghost use Rattle.proc_workers.specs.Work.{HasAnswer};
 
 use crate::{Answer, EndCause, Ended, Gate, Inbox, Job};
 use proc_table::{Pass, Pid, ProcTable, Tried};

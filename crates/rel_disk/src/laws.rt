@@ -7,7 +7,7 @@ ghost use Rattle.rel_disk.specs.Places.{KeepsOutside, KeepsFront, Survives};
 
 use crate::Disk;
 
-/// The damage of a write and of a cut, stated by places: nothing but the stated bytes can change.
+/// The damage of a write and of a cut, stated by places: only the bytes that are written, or cut off, can change.
 pub fn damage_by_places()
     ensures write { (at n : ℕ) (old new : List ℕ) → Torn at n old new ↔ KeepsOutside at n old new }
     ensures cut { (n : ℕ) (old new : List ℕ) → Cut n old new ↔ KeepsFront n old new }

@@ -1,17 +1,17 @@
 -- Terms that are made of parts, and the parts that are read of them: each is what the other was made of.
-use Rattle.std.proofs.Common.{◌≡◌, ℕ, Bool, true, List, Some, None, codes, if◌then◌else◌, ap, subst, ◌∙◌}
+use Rattle.std.proofs.Common.{◌≡◌, ℕ, Bool, true, List, Some, None, codes, if◌then◌else◌, ap, subst, ◌∙◌, false, [], Option, unwrap_or, refl}
 use Rattle.std.specs.List.{AllByRecursion}
 use Rattle.std.specs.Option.{option_map, option_and_then}
 use Rattle.std.proofs.lemmas.Slice.Eq.{bytes_eq-Decides}
 use Rattle.erl_term.specs.Value.{Value, Values}
 use Rattle.erl_term.specs.Value.Value.{atom, list, tuple}
 use Rattle.erl_term.specs.Value.Values.{no_values, value}
-use Rattle.rel_files.specs.Name.{is_name, IsName, IsVersion}
+use Rattle.rel_files.specs.Name.{is_name, IsName, IsVersion, is_text}
 use Rattle.rel_files.specs.Parts.{list_in, pair_in, triple_in, four_in, word_in, is_word, AppParts, app_parts, Title, title_in, erts_in, RelParts, rel_parts}
-use Rattle.rel_files.specs.Sketch.{name_in, names_of, text_in, version_in, names_in}
-use Rattle.rel_files.specs.Terms.{pair_term, triple_term, text_term, atoms_term}
+use Rattle.rel_files.specs.Sketch.{name_in, names_of, text_in, version_in, names_in, are_numbers, version_or_empty}
+use Rattle.rel_files.specs.Terms.{pair_term, triple_term, text_term, atoms_term, numbers_of}
 use Rattle.rel_files.proofs.Options.{mapped, chained, passed}
-use Rattle.rel_files.proofs.Texts.{names_of-atoms, from_names, text_in-numbers, from_text}
+use Rattle.rel_files.proofs.Texts.{names_of-atoms, from_names, text_in-numbers, from_text, numbers, are_numbers-numbers}
 
 pub from_list : (v : Value) (vs : Values) → list_in v ≡ Some vs → v ≡ list vs
 from_list (list ws) vs e = let same : ws ≡ vs = cc in ap list same
@@ -66,6 +66,23 @@ from_version v s e =
     let listed = chained (text_in 0x21) (list_in v) s e in
     let text = from_text 0x21 listed.0 s listed.2 in
     (from_list v listed.0 listed.1 ∙ ap list text.0, text.1)
+
+pub version_or_empty-text : (s : List ℕ) → IsVersion s → version_or_empty (text_term s) ≡ Some s
+version_or_empty-text s h =
+    ap (λ (b : Bool). if b then Some (unwrap_or (text_in 0x21 (numbers (numbers_of s))) []) else None) (are_numbers-numbers (numbers_of s))
+    ∙ ap (λ (o : Option (List ℕ)). Some (unwrap_or o [])) (text_in-numbers 0x21 s h)
+
+text_or_empty : (vs : Values) (o : Option (List ℕ)) (s : List ℕ) → text_in 0x21 vs ≡ o → unwrap_or o [] ≡ s → IsVersion s → vs ≡ numbers (numbers_of s)
+text_or_empty vs (Some t) s read same h = let is : t ≡ s = same in (from_text 0x21 vs t read).0 ∙ ap (λ (u : List ℕ). numbers (numbers_of u)) is
+text_or_empty vs None s read same h = let none : [] ≡ s = same in let bad : false ≡ true = ap (is_text 0x21) none ∙ h in absurd cc
+
+-- a version that is one is that of its text
+pub from_version_or_empty : (v : Value) (s : List ℕ) → version_or_empty v ≡ Some s → IsVersion s → v ≡ text_term s
+from_version_or_empty v s e h =
+    let listed = chained (λ (vs : Values). if are_numbers vs then Some (unwrap_or (text_in 0x21 vs) []) else None) (list_in v) s e in
+    let read = passed (are_numbers listed.0) (Some (unwrap_or (text_in 0x21 listed.0) [])) s listed.2 in
+    let same : unwrap_or (text_in 0x21 listed.0) [] ≡ s = let some : Some (unwrap_or (text_in 0x21 listed.0) []) ≡ Some s = read.1 in cc in
+    from_list v listed.0 listed.1 ∙ ap list (text_or_empty listed.0 (text_in 0x21 listed.0) s refl same h)
 
 pub from_app_parts : (v : Value) (p : AppParts) → app_parts v ≡ Some p → v ≡ tuple (value (atom p.name) (value (list p.vsn) p.ending))
 from_app_parts (tuple (value (atom s) (value (list vs) ws))) p e =

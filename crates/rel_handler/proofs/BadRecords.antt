@@ -6,7 +6,7 @@ use Rattle.rel_list.specs.Event.{recorded}
 use Rattle.rel_records.specs.Lists.{Makes, IsBadRecord}
 use Rattle.rel_records.proofs.ListLemmas.{makes_not_bad}
 use Rattle.rel_records.proofs.RecordLaws.{make_or_bad}
-use Rattle.rel_store.specs.Records.{records_of, records_from, onto, is_whole, reported_length, reported_body}
+use Rattle.rel_store.specs.Records.{records_of, records_from, onto, is_whole, spelled_length, spelled_body}
 use Rattle.rel_store.specs.Layout.{has_magic, base_of, base_slot, format_of}
 use Rattle.rel_store.specs.declared.error.StoreError.{StoreError}
 use Rattle.rel_store.specs.declared.error.StoreError.TheVariants as store
@@ -37,7 +37,7 @@ of_bytes_onto body (Err e) is = is
 of_bytes_from : (place inside : ℕ) (bytes : List ℕ) → IsOfBytes (records_from place inside bytes)
 of_bytes_from place inside [] = tt
 of_bytes_from place zero (gate ∷ bytes) =
-    of_bytes_if (gate == 1) _ _ (of_bytes_if (is_whole bytes) _ _ (of_bytes_onto (reported_body bytes) _ (of_bytes_from (place + 1) (4 + reported_length bytes) bytes)) tt) tt
+    of_bytes_if (gate == 1) _ _ (of_bytes_if (is_whole bytes) _ _ (of_bytes_onto (spelled_body bytes) _ (of_bytes_from (place + 1) (4 + spelled_length bytes) bytes)) tt) tt
 of_bytes_from place (suc inside) (byte ∷ bytes) = of_bytes_from (place + 1) inside bytes
 
 of_bytes : (bytes : List ℕ) → IsOfBytes (records_of bytes)

@@ -1,3 +1,4 @@
+pub use Rattle.node_store.proofs.Commits
 pub mod NewNodes
 pub mod Boots
 pub mod BootLists

@@ -1,3 +1,6 @@
+pub use Rattle.node_store.specs.State
+pub use Rattle.node_store.specs.Image
+pub use Rattle.node_store.specs.declared.node_store.NodeStore
 pub mod Booting
 pub mod Refusals
 pub mod Moments

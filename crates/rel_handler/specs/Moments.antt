@@ -45,8 +45,8 @@ pub record BootsTo (k : Known) (es : Releases) : Type 0 where
   pub prefix : IsPrefix k events
   pub after : list_after (events ++ boot ∷ []) ≡ Some es
 
--- The disk was synced at this moment of a boot. Up to it a crash leaves nothing that none before would have left; from then
--- on it leaves what a read gave, and what the boot has written.
+-- Up to this moment of a boot a crash leaves nothing that none before would have left; from then on it leaves what a read gave,
+-- and what the boot has written.
 pub record SettlesAt {D : Type 0} (seen : D → List ℕ) (may_leave : D → List ℕ → Type 0) (moment : D → ℕ) (left_since : D → ℕ → List ℕ → Type 0) (old new at : D) : Type 0 where
   pub until : LeavesOnly moment left_since old at (may_leave old)
   pub from : LeavesOnly moment left_since at new (λ c. (c ≡ seen old) ⊎ IsLeftByBoot (seen old) c)

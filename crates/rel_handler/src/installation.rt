@@ -7,7 +7,7 @@
 // unless it is the permanent one: the next boot starts it, and has room for its record, which was asked for together with that of
 // the installation (`install_room`).
 ghost use Rattle.std.specs.Prelude.{◌≡◌, true, false, IfErr, IfOk, OnOk};
-ghost use Rattle.held_processes.specs.Following.{HoldsNothing};
+ghost use Rattle.node_upgrade.specs.Following.{HoldsNothing};
 ghost use Rattle.loaded_modules.specs.Loaded.{listed_in};
 ghost use Rattle.node_upgrade.specs.Running.{state};
 ghost use Rattle.node_store.specs.Commits.{Commits, IsDone};
@@ -20,12 +20,11 @@ use crate::install_record::InstallRecord;
 use loaded_modules::Loaded;
 use node_command::HandlerError;
 use node_store::make_room;
-use node_upgrade::{InstallError, Installed, find_upgrade};
+use node_upgrade::{InstallError, Installed, Tree, find_upgrade};
 use proc_table::{HandlerSeat, ProcTable};
 use rel_disk::Disk;
 use std::alloc::Global;
 use std::sync::Wait;
-use sup_tree::Tree;
 
 impl<D: Disk> Handler<D> {
     /// Installs a release by its script: its processes are upgraded, and it is current until the next boot, unless it is the

@@ -30,7 +30,7 @@ const LOG: usize = 134_217_728;
 pub enum OpenError {
     /// It can't be opened or made, or is no file.
     CantOpen,
-    /// Another process has it open as a disk, or it can't be locked.
+    /// It is open as a disk, here or in another process, or it can't be locked.
     InUse,
     /// It can't be read, or what is read can't be made durable.
     CantRead,

@@ -3,7 +3,7 @@
 //! With each release the list keeps the libraries of its applications. A release is refused of which a library differs from the
 //! list's of the same name and version (`first_different` finds it). For one that fits, `share` puts the list's own libraries in
 //! place of those that it has already, so that the terms of a library are in memory once; clauses speak of the values alone.
-//! `libs` reports each library once. A library leaves the list with the last release that names it.
+//! `libs` gives each library once. A library leaves the list with the last release that names it.
 ghost use Rattle.std.specs.Prelude.{◌≡◌, List, ◌++◌, map, is_some, IfOk, OnOk};
 ghost use Rattle.std.specs.Option.{option_map, unwrap_or};
 ghost use Rattle.library.specs.InMemory.{library_of, shared_of};

@@ -1,24 +1,24 @@
--- No moment of a session loses an acknowledged event.
-use Rattle.std.proofs.Common.{◌≡◌, ◌≢◌, ◌⊎◌, inl, inr, ℕ, zero, suc, List, [], ◌∷◌, ◌++◌, Option, Some, None, refl, sym, ap, ◌∙◌, subst, append-nil, append_assoc, arith}
-use Rattle.rel_list.specs.Event.{Event, list_after}
+-- No moment of a session loses an acknowledged event, or has one that no command asked for.
+use Rattle.std.proofs.Common.{◌≡◌, ◌≢◌, ◌⊎◌, inl, inr, ⊎_elim, ℕ, zero, suc, List, [], ◌∷◌, ◌++◌, Option, Some, None, refl, sym, ap, ◌∙◌, subst, append-nil, append_assoc, arith}
+use Rattle.rel_list.specs.Event.{Event}
 use Rattle.node_store.specs.Image.{extent_of}
 use Rattle.node_store.proofs.Beginnings.{with_themselves, with_first, has_start_since}
-use Rattle.node_store.specs.Events.{Known, Events, Stored, settled, at_rest_since, certain, with_doubt, BeginWith, HasStart, IsStoredAs}
+use Rattle.node_store.specs.Events.{Known, Events, Stored, settled, certain, with_doubt, IsPrefix, BeginWith, IsStoredAs}
 use Rattle.session_input.specs.Commands.{Command}
 use Rattle.rel_session.specs.Device.{Device, LeavesOnly}
 use Rattle.session_input.specs.Feed.{Feed}
 use Rattle.session_input.specs.Feed.Feed.{over, cut, next}
 use Rattle.rel_unpack.specs.Source.{Source}
 use Rattle.rel_session.specs.Files.{Files, files_behind, source_of}
-use Rattle.rel_session.specs.Node.{Place, at_rest, CommandOutcome, Reply}
+use Rattle.rel_session.specs.Node.{Place, at_rest, Reply}
 use Rattle.rel_session.specs.Node.Place.{raw, closed, running, dead}
 use Rattle.rel_session.specs.Run.{EndsInFull, Starts, Holds, Moments, Executes, MayLeave, IsReply, Replies, Ending, IsReached, events_of}
 use Rattle.rel_session.specs.Run.Ending.{ended, cut_off, unread, early}
-use Rattle.rel_session.specs.RunLaws.{acknowledged_at, ran_at, IsKnown, Finds, KeepsEvents, place_after, HaveAll, StandsForAll, BecomesKnown, LosesNothing, IsOfAccepted, BeginsWhereOneEnded, BeginsBehindACrash, IsNextDisk, Lasts, LosesNothingEver}
+use Rattle.rel_session.specs.RunLaws.{acknowledged_at, ran_at, IsKnown, MayBe, Finds, KeepsEvents, place_after, HaveAll, StandsForAll, BecomesKnown, LosesNothing, IsOfAccepted, BeginsWhereOneEnded, store_left, BeginsBehindACrash, IsHandedBack, GoesOn, Lasts, LosesNothingEver}
 use Rattle.rel_session.specs.Transition.{Transition}
-use Rattle.rel_session.proofs.Prefixes.{prefix_of}
+use Rattle.rel_session.proofs.Prefixes.{prefix_of, prefix_is}
 use Rattle.rel_session.proofs.DeviceLemmas.{IsDevice, weakened, joined, still}
-use Rattle.rel_session.proofs.Transitions.{each_left_keeps}
+use Rattle.rel_session.proofs.Transitions.{may_have, each_left_keeps}
 
 left_by : (source : Source) (p : Place) (c : Command) (ending : Ending) (a : Reply) (more : List Reply) → IsReply source p c ending more a → MayLeave source p c a
 left_by source p c ended a more is = inl is
@@ -81,23 +81,26 @@ keeps_more p a keeps =
     let (more, is) = finds_more p keeps.found keeps.finds in
     (more, keeps.are ∙ ap (λ (l : Events). l ++ a.outcome.acknowledged) is ∙ append_assoc (acknowledged_at p) more a.outcome.acknowledged)
 
-stands_for_more : (ran later events more all : Events) (image : List ℕ) → BeginWith ran later → all ≡ events ++ more → StandsForAll later all image → StandsForAll ran events image
-stands_for_more ran later events more all image begins is of = record {
-  more = more ++ of.more;
+-- what is left behind a reply is left by the command or behind it
+stands_for_later : (p : Place) (a : Reply) (more : List Reply) (image : List ℕ) → KeepsEvents p a → StandsForAll a.after more image → StandsForAll p (a ∷ more) image
+stands_for_later p a more image keeps of = record {
+  events = of.events;
+  within = inr of.within;
+  begins = let (between, is) = keeps_more p a keeps in with_first (acknowledged_at p) (acknowledged_at a.after) of.events (between ++ a.outcome.acknowledged, is) of.begins;
   list = of.list;
-  after = ap list_after (sym (append_assoc events more of.more) ∙ ap (λ (l : Events). l ++ of.more) (sym is)) ∙ of.after;
+  after = of.after;
   image_of = of.image_of;
-  start = subst (λ l. HasStart ran l image) (ap (λ (l : Events). l ++ of.more) is ∙ append_assoc events more of.more) (has_start_since ran later (all ++ of.more) image begins of.start);
+  start = has_start_since (ran_at p) (ran_at a.after) of.events image keeps.ran of.start;
 }
 
 -- the events of all the replies
 have_all : (base : Source) (files : Files) (p : Place) (commands : Feed Command) (ending : Ending) (first rest : List Reply) → Replies base files p commands ending (first ++ rest)
-    → HaveAll (acknowledged_at p) first (acknowledged_at (place_after p first))
+    → HaveAll p first (acknowledged_at (place_after p first))
 have_all base files p commands ending [] rest right = refl
 have_all base files p commands ending (a ∷ first) rest right =
     let n = first_answered base files p commands ending a (first ++ rest) right in
-    let (between, is) = keeps_more p a (each_left_keeps (source_of base files) p n.command a n.is) in
-    (between, subst (λ events. HaveAll events first (acknowledged_at (place_after a.after first))) is (have_all base (files_behind files n.command) a.after n.rest ending first rest n.right))
+    let keeps = each_left_keeps (source_of base files) p n.command a n.is in
+    (keeps.found, keeps.finds, keeps.are, have_all base (files_behind files n.command) a.after n.rest ending first rest n.right)
 
 known_first : (p : Place) (replies : List Reply) → IsKnown p → BecomesKnown p replies
 known_first p [] known = known
@@ -146,47 +149,67 @@ stays_known base files p commands ending (a ∷ more) right known =
 pub of_accepted : IsOfAccepted
 of_accepted s image of = record { events = of.events; prefix = prefix_of s of.events (extent_of image) of.list of.has of.after; list = of.list; after = of.after; image_of = of.image_of }
 
-stands_for : (s : Stored) (image : List ℕ) → IsStoredAs s image → StandsForAll s.known.ran s.known.acknowledged image
-stands_for s image of =
+-- what a crash leaves between two commands
+stands_for : (p : Place) (s : Stored) (image : List ℕ) → ((found : Events) → MayBe s found → Finds p found) → BeginWith (acknowledged_at p) s.known.acknowledged → BeginWith (ran_at p) s.known.ran → IsStoredAs s image
+    → StandsForAll p [] image
+stands_for p s image finds known ran of =
     let prefix = prefix_of s of.events (extent_of image) of.list of.has of.after in
-    record { more = prefix.more; list = of.list; after = ap list_after (sym prefix.holds) ∙ of.after; image_of = of.image_of; start = subst (λ l. HasStart s.known.ran l image) prefix.holds of.start }
+    record {
+      events = of.events;
+      within = finds of.events (may_have s of.events (extent_of image) of.has);
+      begins = with_first (acknowledged_at p) s.known.acknowledged of.events known (prefix.more, prefix.holds);
+      list = of.list;
+      after = of.after;
+      image_of = of.image_of;
+      start = has_start_since (ran_at p) s.known.ran of.events image ran of.start;
+    }
 
-stands_for_reached : (k : Known) (command : Events) (image : List ℕ) → IsReached k command image → StandsForAll k.ran k.acknowledged image
-stands_for_reached k command image of = record {
-  more = of.prefix.more ++ of.more;
+-- and within a command
+stands_for_reached : (p : Place) (a : Reply) (more : List Reply) (k : Known) (image : List ℕ) → ((found : Events) → IsPrefix k found → Finds p found) → BeginWith (acknowledged_at p) k.acknowledged → BeginWith (ran_at p) k.ran
+    → IsReached k (events_of a.outcome) image → StandsForAll p (a ∷ more) image
+stands_for_reached p a more k image finds known ran of = record {
+  events = of.events ++ of.more;
+  within = inl (of.events, of.more, of.left, finds of.events of.prefix, of.begins, refl);
+  begins = with_first (acknowledged_at p) k.acknowledged (of.events ++ of.more) known
+      (of.prefix.more ++ of.more, ap (λ (l : Events). l ++ of.more) of.prefix.holds ∙ append_assoc k.acknowledged of.prefix.more of.more);
   list = of.list;
-  after = ap list_after (sym (append_assoc k.acknowledged of.prefix.more of.more) ∙ ap (λ (l : Events). l ++ of.more) (sym of.prefix.holds)) ∙ of.after;
+  after = of.after;
   image_of = of.image_of;
-  start = subst (λ l. HasStart k.ran l image) (ap (λ (l : Events). l ++ of.more) of.prefix.holds ∙ append_assoc k.acknowledged of.prefix.more of.more) of.start;
+  start = has_start_since (ran_at p) k.ran (of.events ++ of.more) image ran of.start;
 }
 
 module _ {D : Type 0} (v : Device D) (laws : IsDevice v) where
   -- each image where the disk stands
-  held_images : (p : Place) (disk : D) → IsKnown p → Holds v p disk → (c : List ℕ) → v.may_leave disk c → StandsForAll (ran_at p) (acknowledged_at p) c
+  held_images : (p : Place) (disk : D) → IsKnown p → Holds v p disk → (c : List ℕ) → v.may_leave disk c → StandsForAll p [] c
   held_images (raw bytes) disk known holds c now = absurd known
-  held_images (closed s) disk known holds c now = stands_for s c (holds c now)
-  held_images (running events extent ps) disk known holds c now = stands_for (certain events extent) c (holds c now)
-  held_images (dead s) disk known holds c now = stands_for s c (holds c now)
+  held_images (closed s) disk known holds c now = stands_for (closed s) s c (λ found is. is) (with_themselves s.known.acknowledged) (with_themselves s.known.ran) (holds c now)
+  held_images (running events extent ps) disk known holds c now =
+      stands_for (running events extent ps) (certain events extent) c (λ found. ⊎_elim (λ is. is) (λ is. is)) (with_themselves events) (with_themselves events) (holds c now)
+  held_images (dead s) disk known holds c now = stands_for (dead s) s c (λ found is. is) (with_themselves s.known.acknowledged) (with_themselves s.known.ran) (holds c now)
 
   -- and at each moment of a command
-  command_images : (p : Place) (o : CommandOutcome) (old new : D) → IsKnown p → Moments v p o old new → LeavesOnly v old new (StandsForAll (ran_at p) (acknowledged_at p))
-  command_images (raw bytes) o old new known moments = absurd known
-  command_images (closed s) o old new known moments = weakened v old new _ _ (stands_for_reached s.known (events_of o)) moments
-  command_images (running events extent ps) o old new known moments = weakened v old new _ _ (stands_for_reached (settled events) (events_of o)) moments
-  command_images (dead s) o old new known moments = weakened v old new _ _ (stands_for_reached s.known (events_of o)) moments
+  command_images : (p : Place) (a : Reply) (more : List Reply) (old new : D) → IsKnown p → Moments v p a.outcome old new → LeavesOnly v old new (StandsForAll p (a ∷ more))
+  command_images (raw bytes) a more old new known moments = absurd known
+  command_images (closed s) a more old new known moments =
+      weakened v old new (IsReached s.known (events_of a.outcome)) (StandsForAll (closed s) (a ∷ more))
+      (λ c. stands_for_reached (closed s) a more s.known c (prefix_is s.known) (with_themselves s.known.acknowledged) (with_themselves s.known.ran)) moments
+  command_images (running events extent ps) a more old new known moments =
+      weakened v old new (IsReached (settled events) (events_of a.outcome)) (StandsForAll (running events extent ps) (a ∷ more))
+      (λ c. stands_for_reached (running events extent ps) a more (settled events) c (λ found prefix. ⊎_elim (λ is. is) (λ is. is) (prefix_is (settled events) found prefix)) (with_themselves events) (with_themselves events)) moments
+  command_images (dead s) a more old new known moments =
+      weakened v old new (IsReached s.known (events_of a.outcome)) (StandsForAll (dead s) (a ∷ more))
+      (λ c. stands_for_reached (dead s) a more s.known c (prefix_is s.known) (with_themselves s.known.acknowledged) (with_themselves s.known.ran)) moments
 
   -- and so at each moment of a session
   pub session_images : (base : Source) (files : Files) (p : Place) (commands : Feed Command) (ending : Ending) (replies : List Reply) (old new : D) → Replies base files p commands ending replies
-      → IsKnown p → Holds v p old → Executes v p replies old new → LeavesOnly v old new (StandsForAll (ran_at p) (acknowledged_at p))
+      → IsKnown p → Holds v p old → Executes v p replies old new → LeavesOnly v old new (StandsForAll p replies)
   session_images base files p commands ending [] old new right known holds (leaves, then, counted) =
-      weakened v old new (v.may_leave old) (StandsForAll (ran_at p) (acknowledged_at p)) (held_images p old known holds) leaves
+      weakened v old new (v.may_leave old) (StandsForAll p []) (held_images p old known holds) leaves
   session_images base files p commands ending (a ∷ more) old new right known holds (mid, happens, leads) =
       let n = first_answered base files p commands ending a more right in
       let keeps = each_left_keeps (source_of base files) p n.command a n.is in
-      let (between, is) = keeps_more p a keeps in
-      joined v old mid new (StandsForAll (ran_at p) (acknowledged_at p)) (command_images p a.outcome old mid known happens.moments)
-      (weakened v mid new (StandsForAll (ran_at a.after) (acknowledged_at a.after)) (StandsForAll (ran_at p) (acknowledged_at p))
-      (λ c. stands_for_more (ran_at p) (ran_at a.after) (acknowledged_at p) (between ++ a.outcome.acknowledged) (acknowledged_at a.after) c keeps.ran is)
+      joined v old mid new (StandsForAll p (a ∷ more)) (command_images p a more old mid known happens.moments)
+      (weakened v mid new (StandsForAll a.after more) (StandsForAll p (a ∷ more)) (λ c. stands_for_later p a more c keeps)
       (session_images base (files_behind files n.command) a.after n.rest ending more mid new n.right (keeps.known (inl known)) happens.holds leads))
 
   -- a session in two parts
@@ -226,11 +249,14 @@ module _ {D : Type 0} (v : Device D) (laws : IsDevice v) where
   begins_where_one_ended p replies old new leads = starts_at_rest (place_after p replies) new (handed_back p replies old new leads)
 
   pub begins_behind_a_crash : BeginsBehindACrash v
-  begins_behind_a_crash ran events image disk of only = (
-    of.more,
-    λ c now. subst (IsStoredAs (at_rest_since ran (events ++ of.more) (extent_of image))) (sym (only c now))
-        (record { events = events ++ of.more; has = (with_first ran of.start.before (events ++ of.more) of.start.since (of.start.later, of.start.is), inl (refl, refl)); list = of.list; after = of.after; image_of = of.image_of; start = of.start }),
-  )
+  begins_behind_a_crash p replies image disk of only = λ c now. subst (IsStoredAs (store_left p replies image of)) (sym (only c now)) (record {
+    events = of.events;
+    has = (with_first (ran_at p) of.start.before of.events of.start.since (of.start.later, of.start.is), inl (refl, refl));
+    list = of.list;
+    after = of.after;
+    image_of = of.image_of;
+    start = of.start;
+  })
 
   known_at_rest : (p : Place) → IsKnown p → (s : Stored) × (at_rest p ≡ closed s) × (s.known.acknowledged ≡ acknowledged_at p) × (s.known.ran ≡ ran_at p)
   known_at_rest (raw bytes) known = absurd known
@@ -238,40 +264,33 @@ module _ {D : Type 0} (v : Device D) (laws : IsDevice v) where
   known_at_rest (running events extent ps) known = (certain events extent, refl, refl, refl)
   known_at_rest (dead s) known = (s, refl, refl, refl)
 
-  -- where all these events are acknowledged, with others behind them
-  abbrev IsOn : Events → Events → D → Type 0
-  IsOn ran events disk =
-      (s : Stored) × (more : Events) × Starts v (closed s) disk × (s.known.acknowledged ≡ events ++ more) × BeginWith ran s.known.ran
-
-  next_disk : (p : Place) (replies : List Reply) (mid new later : D) → LeavesOnly v mid new (StandsForAll (ran_at p) (acknowledged_at p)) → IsStill p replies
-      → Holds v (place_after p replies) new → IsNextDisk v mid new later → IsOn (ran_at p) (acknowledged_at p) later
-  next_disk p replies mid new later moments (known, more, is, ran) holds (inl same) =
+  is_handed_back : (p : Place) (replies : List Reply) → IsStill p replies → (s : Stored) × IsHandedBack p replies s
+  is_handed_back p replies (known, more, is, ran) =
       let (s, rests, are, last) = known_at_rest (place_after p replies) known in
-      let starts = subst (λ d. Starts v (at_rest (place_after p replies)) d) (sym same) (starts_at_rest (place_after p replies) new holds) in
-      (s, more, subst (λ q. Starts v q later) rests starts, are ∙ is, subst (BeginWith (ran_at p)) (sym last) ran)
-  next_disk p replies mid new later moments still holds (inr (image, left, only)) =
-      let (more, starts) = begins_behind_a_crash (ran_at p) (acknowledged_at p) image later (moments.each image left) only in
-      (at_rest_since (ran_at p) (acknowledged_at p ++ more) (extent_of image), more, starts, refl, with_themselves (ran_at p))
+      (s, record { is = sym rests; begins = (more, are ∙ is); ran = subst (BeginWith (ran_at p)) (sym last) ran })
 
-  lasts : (base : Source) (n : ℕ) (ran events : Events) (disk : D) → IsOn ran events disk → Lasts v base n ran events disk
-  lasts base zero ran events disk on = on
-  lasts base (suc n) ran events disk (s, more, starts, is, last) = (
-    s,
-    more,
+  -- a next session goes on so, where each that begins with a store does
+  goes_on : (p : Place) (replies : List Reply) (old new : D) (Next : Stored → D → Type 0) → LeavesOnly v old new (StandsForAll p replies) → IsStill p replies → Holds v (place_after p replies) new
+      → ((s : Stored) (disk : D) → Starts v (closed s) disk → Next s disk) → GoesOn v p replies old new Next
+  goes_on p replies old new Next moments stays holds begins =
+      let (s, back) = is_handed_back p replies stays in (
+        (s, back, begins s new (subst (λ q. Starts v q new) (sym back.is) (starts_at_rest (place_after p replies) new holds))),
+        λ image later left only.
+            let of = moments.each image left in
+            (of, begins (store_left p replies image of) later (begins_behind_a_crash p replies image later of only)),
+      )
+
+  pub loses_nothing_ever : (base : Source) → LosesNothingEver v base
+  loses_nothing_ever base zero s disk starts = starts
+  loses_nothing_ever base (suc n) s disk starts = (
     starts,
-    is,
-    last,
-    λ files commands ending first rest mid new later right before behind next.
+    λ files commands ending first rest mid new right before behind.
         let (fs, left, right_then) = rest_right base files (closed s) commands ending first rest right in
         let known = becomes_known base files (closed s) commands ending first rest right (known_first (closed s) first tt) in
         let then = place_after (closed s) first in
-        let moments = session_images base fs then left ending rest mid new right_then known (handed_back (closed s) first disk mid before) behind in
-        let on = next_disk then rest mid new later moments (stays_known base fs then left ending rest right_then known) (handed_back then rest mid new behind) next in (
-          acknowledged_at then,
-          subst (λ es. HaveAll es first (acknowledged_at then)) is (have_all base files (closed s) commands ending first rest right),
-          lasts base n (ran_at then) (acknowledged_at then) later on,
+        let moments = session_images base fs then left ending rest mid new right_then known (handed_back (closed s) first disk mid before) behind in (
+          have_all base files (closed s) commands ending first rest right,
+          goes_on then rest mid new (λ t later. Lasts v base n t later) moments (stays_known base fs then left ending rest right_then known) (handed_back then rest mid new behind)
+              (λ t later begins. loses_nothing_ever base n t later begins),
         ),
   )
-
-  pub loses_nothing_ever : (base : Source) → LosesNothingEver v base
-  loses_nothing_ever base n s disk starts = lasts base n s.known.ran s.known.acknowledged disk (s, [], starts, sym (append-nil s.known.acknowledged), with_themselves s.known.ran)

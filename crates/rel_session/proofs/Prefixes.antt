@@ -52,6 +52,38 @@ pub prefix_of : (s : Stored) (events : Events) (extent : Extent) (list : Release
 prefix_of s events extent list (since, inl (is, at)) after = prefix_so s.known.ran s.known.acknowledged s.known.in_doubt events list (inl is) after
 prefix_of s events extent list (since, inr (is, at)) after = prefix_so s.known.ran s.known.acknowledged s.known.in_doubt events list (inr is) after
 
+none_or_all : (more lacks : Events) (doubt : Option Event) → more ++ lacks ≡ doubt_of doubt → (more ≡ []) ⊎ (more ≡ doubt_of doubt)
+none_or_all [] lacks doubt is = inl refl
+none_or_all (e ∷ more) lacks None is = absurd cc
+none_or_all (e ∷ []) lacks (Some d) is = inr cc
+none_or_all (e ∷ f ∷ more) lacks (Some d) is = absurd cc
+
+same_behind : (events a b : Events) → events ++ a ≡ events ++ b → a ≡ b
+same_behind [] a b is = is
+same_behind (e ∷ events) a b is = same_behind events a b cc
+
+accepted_is : (k : Known) → (accepted k ≡ k.acknowledged ++ []) ⊎ (accepted k ≡ k.acknowledged ++ doubt_of k.in_doubt)
+accepted_is k = go (is_some (list_after (with_doubt k.acknowledged k.in_doubt)))
+  where
+    go : (b : Bool) → ((if b then with_doubt k.acknowledged k.in_doubt else k.acknowledged) ≡ k.acknowledged ++ [])
+        ⊎ ((if b then with_doubt k.acknowledged k.in_doubt else k.acknowledged) ≡ k.acknowledged ++ doubt_of k.in_doubt)
+    go true = inr (with_doubt-append k.acknowledged k.in_doubt)
+    go false = inl (sym (append-nil k.acknowledged))
+
+all_behind : (k : Known) (events accepted_more : Events) (prefix : IsPrefix k events) → accepted k ≡ k.acknowledged ++ accepted_more → prefix.more ++ prefix.lacks ≡ accepted_more
+all_behind k events accepted_more prefix are = same_behind k.acknowledged (prefix.more ++ prefix.lacks) accepted_more
+    (sym (append_assoc k.acknowledged prefix.more prefix.lacks) ∙ ap (λ (l : Events). l ++ prefix.lacks) (sym prefix.holds) ∙ sym prefix.of_accepted ∙ are)
+
+-- a prefix of the accepted events with every acknowledged one has nothing else, or the one in doubt
+pub prefix_is : (k : Known) (events : Events) → IsPrefix k events → (events ≡ k.acknowledged) ⊎ (events ≡ with_doubt k.acknowledged k.in_doubt)
+prefix_is k events prefix =
+    let none : prefix.more ≡ [] → (events ≡ k.acknowledged) ⊎ (events ≡ with_doubt k.acknowledged k.in_doubt) =
+    λ is. inl (prefix.holds ∙ ap (λ (l : Events). k.acknowledged ++ l) is ∙ append-nil k.acknowledged) in
+    let all : prefix.more ≡ doubt_of k.in_doubt → (events ≡ k.acknowledged) ⊎ (events ≡ with_doubt k.acknowledged k.in_doubt) =
+    λ is. inr (prefix.holds ∙ ap (λ (l : Events). k.acknowledged ++ l) is ∙ sym (with_doubt-append k.acknowledged k.in_doubt)) in
+    ⊎_elim (λ are. ⊎_elim none none (none_or_all prefix.more prefix.lacks None (all_behind k events [] prefix are)))
+    (λ are. ⊎_elim none all (none_or_all prefix.more prefix.lacks k.in_doubt (all_behind k events (doubt_of k.in_doubt) prefix are))) (accepted_is k)
+
 -- an image of a store is reached by each command on it, before it has done anything
 pub reached : (s : Stored) (command : Events) (c : List ℕ) → IsStoredAs s c → IsReached s.known command c
 reached s command c of = record {

@@ -169,7 +169,7 @@ abbrev pub AsksNode : CommandInMemory → Type 0
 AsksNode command =
     ((path : String Global) (given : GivenFile) → command ≢ asked.File path given) × (command ≢ asked.Quit)
 
--- what is done by a node that runs alone, but for what may boot it
+-- what only a node that runs does, but for `releases` and what may boot it
 abbrev pub NeedsNode : Command → Type 0
 NeedsNode (set_unpacked path) = Unit {0}
 NeedsNode (check vsn) = Unit {0}

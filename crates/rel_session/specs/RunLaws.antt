@@ -13,7 +13,7 @@ use Rattle.rel_unpack.specs.Source.{Source}
 use Rattle.rel_session.specs.Files.{Files}
 use Rattle.rel_session.specs.Node.{Place, at_rest, Reply}
 use Rattle.rel_session.specs.Node.Place.{raw, closed, running, dead}
-use Rattle.rel_session.specs.Run.{Starts, Holds, Executes, Replies, Ending}
+use Rattle.rel_session.specs.Run.{Starts, Holds, Executes, Replies, Ending, events_of}
 use Rattle.rel_session.specs.Transition.{Transition}
 
 -- the acknowledged events where the disk stands; of bytes that are no known store there are none
@@ -66,39 +66,50 @@ abbrev pub place_after : Place → List Reply → Place
 place_after p [] = p
 place_after p (a ∷ more) = place_after a.after more
 
--- These events begin with those before, and have those that the replies acknowledge, in order. Between them are events
--- that a boot has settled.
-abbrev pub HaveAll : Events → List Reply → Events → Type 0
-HaveAll before [] events = events ≡ before
-HaveAll before (a ∷ more) events =
-    (settled : Events) × HaveAll (before ++ (settled ++ a.outcome.acknowledged)) more events
+-- These are the acknowledged events behind the replies. Behind each reply they are those that its command found, with its own at
+-- the end. So there are no others.
+abbrev pub HaveAll : Place → List Reply → Events → Type 0
+HaveAll p [] events = events ≡ acknowledged_at p
+HaveAll p (a ∷ more) events =
+    (found : Events) × Finds p found × (acknowledged_at a.after ≡ found ++ a.outcome.acknowledged) × HaveAll a.after more events
 
--- the bytes stand for the list of events that begin with these, and have a start record of those events that is no older than when
--- it was last right
-pub record StandsForAll (ran events : Events) (image : List ℕ) : Type 0 where
-  pub more : Events
+-- The store may have these events at a moment of the replies: those that a command finds, with none, some or all of its own at
+-- the end, in order; or those that are found behind the replies.
+abbrev pub MayBeWithin : Place → List Reply → Events → Type 0
+MayBeWithin p [] events = Finds p events
+MayBeWithin p (a ∷ more) events =
+    ((found begun left : Events) × Finds p found × (begun ++ left ≡ events_of a.outcome) × (events ≡ found ++ begun))
+    ⊎ MayBeWithin a.after more events
+
+-- The bytes stand for the list of events of a moment of the replies, which begin with all that were acknowledged before them.
+-- They have a start record of those events that is no older than when it was last right.
+pub record StandsForAll (p : Place) (replies : List Reply) (image : List ℕ) : Type 0 where
+  pub events : Events
+  pub within : MayBeWithin p replies events
+  pub begins : BeginWith (acknowledged_at p) events
   pub list : Releases
-  pub after : list_after (events ++ more) ≡ Some list
+  pub after : list_after events ≡ Some list
   pub image_of : IsImageOf image list
-  pub start : HasStart ran (events ++ more) image
+  pub start : HasStart (ran_at p) events image
 
 -- the store is known before the replies, or one of them acknowledges an event
 abbrev pub BecomesKnown : Place → List Reply → Type 0
 BecomesKnown p [] = IsKnown p
 BecomesKnown p (a ∷ more) = (IsKnown p ⊎ (a.outcome.acknowledged ≢ [])) ⊎ BecomesKnown a.after more
 
--- Behind the first replies of a session the acknowledged events are those before it with those of these replies, and
--- at each moment from there on a crash leaves the list of events that begin with them; and a start record that is no older than
--- when it was last right, as it is where a node runs.
+-- Behind the first replies of a session the acknowledged events are those before it with those of these replies. At each moment
+-- from there on a crash leaves the list of events that begin with all of them. Behind these stand only what was in doubt, and
+-- what the other replies add. And it leaves a start record that is no older than when it was last right, as it is where a node
+-- runs.
 pub record KeepsAll {D : Type 0} (v : Device D) (p : Place) (first rest : List Reply) (old new : D) : Type 0 where
   pub mid : D
   pub before : Executes v p first old mid
   pub behind : Executes v (place_after p first) rest mid new
   pub known : IsKnown (place_after p first)
-  pub have_all : HaveAll (acknowledged_at p) first (acknowledged_at (place_after p first))
-  pub moments : LeavesOnly v mid new (StandsForAll (ran_at (place_after p first)) (acknowledged_at (place_after p first)))
+  pub have_all : HaveAll p first (acknowledged_at (place_after p first))
+  pub moments : LeavesOnly v mid new (StandsForAll (place_after p first) rest)
 
--- No moment of a session loses an acknowledged event.
+-- No moment of a session loses an acknowledged event, or has one that no command asked for.
 abbrev pub LosesNothing : {D : Type 0} → Device D → Source → Type 0
 LosesNothing {D} v base =
     (files : Files) (p : Place) (commands : Feed Command) (ending : Ending) (first rest : List Reply) (old new : D)
@@ -115,34 +126,47 @@ BeginsWhereOneEnded {D} v =
     (p : Place) (replies : List Reply) (old new : D)
     → Executes v p replies old new → Starts v (at_rest (place_after p replies)) new
 
--- One begins on a disk that holds nothing but what a crash left, and all these events are acknowledged then.
+-- the store of such bytes behind a crash: their events are acknowledged then, and none is in doubt
+abbrev pub store_left : (p : Place) (replies : List Reply) (image : List ℕ) → StandsForAll p replies image → Stored
+store_left p replies image of = at_rest_since (ran_at p) of.events (extent_of image)
+
+-- One begins on a disk that holds nothing but what a crash left, and just its events are acknowledged then.
 abbrev pub BeginsBehindACrash : {D : Type 0} → Device D → Type 0
 BeginsBehindACrash {D} v =
-    (ran events : Events) (image : List ℕ) (disk : D) → StandsForAll ran events image → Only image (v.may_leave disk)
-    → (more : Events) × Starts v (closed (at_rest_since ran (events ++ more) (extent_of image))) disk
+    (p : Place) (replies : List Reply) (image : List ℕ) (disk : D) (of : StandsForAll p replies image)
+    → Only image (v.may_leave disk) → Starts v (closed (store_left p replies image of)) disk
 
--- A next session begins on this disk: it is the one that was handed back, or holds what a crash left at some moment.
-abbrev pub IsNextDisk : {D : Type 0} → Device D → D → D → D → Type 0
-IsNextDisk v mid new later =
-    (later ≡ new) ⊎ ((image : List ℕ) × v.left_since new (v.moment mid) image × Only image (v.may_leave later))
+-- This store is handed back behind the replies. It has all events that were acknowledged before them, and its start record is no
+-- older than it was then.
+pub record IsHandedBack (p : Place) (replies : List Reply) (s : Stored) : Type 0 where
+  pub is : closed s ≡ at_rest (place_after p replies)
+  pub begins : BeginWith (acknowledged_at p) s.known.acknowledged
+  pub ran : BeginWith (ran_at p) s.known.ran
 
--- These events are acknowledged on the disk, and its start record is no older than it is behind `ran`; and so over as many
--- sessions: each begins where they are, and behind any of its replies a crash may come, or its end.
-abbrev pub Lasts : {D : Type 0} → Device D → Source → ℕ → Events → Events → D → Type 0
-Lasts v base zero ran events disk =
-    (s : Stored) × (more : Events) × Starts v (closed s) disk × (s.known.acknowledged ≡ events ++ more) × BeginWith ran s.known.ran
-Lasts {D} v base (suc n) ran events disk =
-    (s : Stored) × (more : Events) × Starts v (closed s) disk × (s.known.acknowledged ≡ events ++ more) × BeginWith ran s.known.ran
-    × ((files : Files) (commands : Feed Command) (ending : Ending) (first rest : List Reply) (mid new later : D)
+-- `Next` holds where a next session begins: on the disk that was handed back, with its store; and on each that has what a crash
+-- left at a moment of the replies, with the store of just its events.
+abbrev pub GoesOn : {D : Type 0} → Device D → Place → List Reply → D → D → (Stored → D → Type 0) → Type 0
+GoesOn {D} v p replies old new Next =
+    ((s : Stored) × IsHandedBack p replies s × Next s new)
+    × ((image : List ℕ) (later : D) → v.left_since new (v.moment old) image → Only image (v.may_leave later)
+    → (of : StandsForAll p replies image) × Next (store_left p replies image of) later)
+
+-- A session may begin with this store on the disk, and so over as many sessions. Behind its replies the acknowledged events are
+-- those of the store with those of the replies. Behind any of them a crash may come, or its end, and then a next session.
+abbrev pub Lasts : {D : Type 0} → Device D → Source → ℕ → Stored → D → Type 0
+Lasts v base zero s disk = Starts v (closed s) disk
+Lasts {D} v base (suc n) s disk =
+    Starts v (closed s) disk
+    × ((files : Files) (commands : Feed Command) (ending : Ending) (first rest : List Reply) (mid new : D)
     → Replies base files (closed s) commands ending (first ++ rest) → Executes v (closed s) first disk mid
-    → Executes v (place_after (closed s) first) rest mid new → IsNextDisk v mid new later
-    → (all : Events) × HaveAll (events ++ more) first all × Lasts v base n (ran_at (place_after (closed s) first)) all later)
+    → Executes v (place_after (closed s) first) rest mid new
+    → HaveAll (closed s) first (acknowledged_at (place_after (closed s) first))
+    × GoesOn v (place_after (closed s) first) rest mid new (λ t later. Lasts v base n t later))
 
--- Where a store is known, no number of sessions and crashes loses an acknowledged event, or brings back a start record from before
--- it was last right.
+-- Where a store is known, no number of sessions and crashes loses an acknowledged event, adds one that no command asked for, or
+-- brings back a start record from before it was last right.
 abbrev pub LosesNothingEver : {D : Type 0} → Device D → Source → Type 0
-LosesNothingEver {D} v base =
-    (n : ℕ) (s : Stored) (disk : D) → Starts v (closed s) disk → Lasts v base n s.known.ran s.known.acknowledged disk
+LosesNothingEver {D} v base = (n : ℕ) (s : Stored) (disk : D) → Starts v (closed s) disk → Lasts v base n s disk
 
 -- the device fails in none of the replies
 abbrev pub NoneFails : List Reply → Type 0
@@ -155,7 +179,7 @@ NoneAcknowledged [] = Unit {0}
 NoneAcknowledged (a ∷ more) = (a.outcome.acknowledged ≡ []) × NoneAcknowledged more
 
 -- On an empty disk the first reply that acknowledges events is that a release was made, where the device did not fail
--- before, and from that reply on no moment loses an acknowledged event.
+-- before, and from that reply on no moment loses an acknowledged event, or has one that no command asked for.
 abbrev pub BeginsWithAMaking : {D : Type 0} → Device D → Source → Type 0
 BeginsWithAMaking {D} v base =
     (files : Files) (commands : Feed Command) (ending : Ending)

@@ -1,9 +1,9 @@
 //! A session of a node.
 //!
 //! The commands come from `session_input`. A failed read, a failed write and an input that is too long are reported only where one
-//! was. At most 16,777,216 bytes of the input are taken, and each answer is written once its command was read. Where memory is
-//! refused to the processes, or to a boot behind a commit, the session ends without an answer, and what the command has committed
-//! is on the disk.
+//! was. At most 16,777,216 bytes of the input are taken. Each answer is written once its command is done, and before the next is
+//! read. Where memory is refused to the processes, or behind a commit to a boot or to the answer, the session ends without an
+//! answer, and what the command has committed is on the disk.
 ghost use Rattle.std.specs.Prelude.{◌≡◌, ◌≤◌, None, IsErrOf, OnOk, OnErr};
 ghost use Rattle.counted_io.specs.Counted.{held_by, failed_writes};
 ghost use Rattle.counted_io.specs.Failures.{HasRisen};
@@ -22,8 +22,8 @@ use std::io::{Read, Write};
 use std::sync::Wait;
 use std::thread::Threads;
 
-/// Follows the commands of an input on a disk, and writes each answer as soon as its command was read. A file that isn't given
-/// in the session is read from `files`. The disk comes back with the result.
+/// Follows the commands of an input on a disk, and writes each answer once its command is done. A file that isn't given in the
+/// session is read from `files`. The disk comes back with the result.
 pub fn session<H: Threads + Wait + Sync, D: Disk, F: Files, R: Read + Drop, W: Write + Drop>(
     rt: &H,
     alloc: Global,

@@ -14,17 +14,19 @@ fn a_disk_stands_for_one_list()
     a_disk_boots_or_is_refused();
 }
 
-/// Each reply keeps the acknowledged events. At each moment of a session, ended or broken off, a crash leaves the list
-/// of events that begin with all those acknowledged before that moment, and a start record that is no older than the last of them
-/// behind which it was right, as it is where a node runs.
+/// Each reply keeps the acknowledged events, and adds only its own. At each moment of a session, ended or broken off, a crash
+/// leaves the list of events that begin with all those acknowledged before that moment. Behind these stand only the one that was in
+/// doubt, if there was one, and what later commands add, in order. And it leaves a start record that is no older than the last of
+/// the acknowledged events behind which it was right, as it is where a node runs.
 pub fn a_crash_loses_nothing_acknowledged<D: Disk, F: Files>()
     ensures replies { (files : F) → EachKeeps (F.gives files) }
     ensures accepted { IsOfAccepted }
     ensures moments { (files : F) → LosesNothing D.Disk (F.gives files) }
 {}
 
-/// A session may begin on the disk that another handed back, and on one that holds what a crash left of it. No number of
-/// sessions and crashes loses an acknowledged event, or brings back a start record from before it was last right.
+/// A session may begin on the disk that another handed back, and on one that holds what a crash left of it, with just its events.
+/// No number of sessions and crashes loses an acknowledged event, adds one that no command asked for, or brings back a start
+/// record from before it was last right.
 pub fn a_session_begins_where_another_ended<D: Disk, F: Files>()
     ensures ended { BeginsWhereOneEnded D.Disk }
     ensures crashed { BeginsBehindACrash D.Disk }
@@ -53,7 +55,7 @@ pub fn an_input_has_one_answer<D: Disk, F: Files>()
 }
 
 /// On an empty disk of a device that has not failed, the first event that is acknowledged is that a release was made.
-/// From then on no acknowledged event is lost, whatever fails.
+/// From then on no acknowledged event is lost, and none is there that no command asked for, whatever fails.
 pub fn an_empty_disk_begins_with_a_making<D: Disk, F: Files>()
     ensures { (files : F) → BeginsWithAMaking D.Disk (F.gives files) }
 {}

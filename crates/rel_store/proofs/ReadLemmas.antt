@@ -6,7 +6,7 @@ use Rattle.std.proofs.lemmas.Bool.{cases_eq}
 use Rattle.std.proofs.lemmas.Bool.Decides.{nat_tests}
 use Rattle.std.proofs.lemmas.List.{take_at, drop_at, length-take-le, take-append-le, take-take, drop-append-le, drop-take}
 use Rattle.std.proofs.lemmas.Nat.{from_be_bytes-to_be_bytes_4}
-use Rattle.rel_store.specs.Records.{record_bytes, reported_length, reported_body, is_whole, onto, records_from, space}
+use Rattle.rel_store.specs.Records.{record_bytes, spelled_length, spelled_body, is_whole, onto, records_from, space}
 use Rattle.rel_store.specs.declared.error.StoreError.{StoreError}
 use Rattle.rel_store.specs.declared.error.StoreError.TheVariants.{Damaged}
 
@@ -35,9 +35,9 @@ pub closed : (place gate : ℕ) (bytes : List ℕ) → gate ≢ 1 → records_fr
 closed place gate bytes shut = grind (arith, nat_tests)
 
 -- an open gate before a whole record
-pub more : (place : ℕ) (bytes : List ℕ) → reported_length bytes ≤ 16777216 → 4 + reported_length bytes < length bytes
-    → records_from place 0 (1 ∷ bytes) ≡ onto (reported_body bytes) (records_from (place + (5 + reported_length bytes)) 0 (drop (4 + reported_length bytes) bytes))
-more place bytes = more_of place bytes (reported_length bytes) (reported_body bytes)
+pub more : (place : ℕ) (bytes : List ℕ) → spelled_length bytes ≤ 16777216 → 4 + spelled_length bytes < length bytes
+    → records_from place 0 (1 ∷ bytes) ≡ onto (spelled_body bytes) (records_from (place + (5 + spelled_length bytes)) 0 (drop (4 + spelled_length bytes) bytes))
+more place bytes = more_of place bytes (spelled_length bytes) (spelled_body bytes)
   where
     more_of : (place : ℕ) (bytes : List ℕ) (n : ℕ) (body : List ℕ) → n ≤ 16777216 → 4 + n < length bytes
         → (if nat_le n 16777216 && nat_lt (4 + n) (length bytes) then onto body (records_from (place + 1) (4 + n) bytes) else Err (Damaged place))
@@ -49,8 +49,8 @@ more place bytes = more_of place bytes (reported_length bytes) (reported_body by
         ∙ ap (onto body) (passed (place + 1) (4 + n) bytes (omega arith) ∙ ap (λ p. records_from p 0 (drop (4 + n) bytes)) same)
 
 -- what a record says of itself
-pub reported-record : (body rest : List ℕ) → length body ≤ 16777216 → reported_length (record_bytes body ++ rest) ≡ length body
-reported-record body rest short = from_be_bytes-to_be_bytes_4 (length body) (omega arith)
+pub spelled_length-record : (body rest : List ℕ) → length body ≤ 16777216 → spelled_length (record_bytes body ++ rest) ≡ length body
+spelled_length-record body rest short = from_be_bytes-to_be_bytes_4 (length body) (omega arith)
 
 pub length-record : (body : List ℕ) → length (record_bytes body) ≡ 4 + length body
 length-record body = omega (arith, length-append (to_be_bytes w32 (length body)) body)
@@ -60,15 +60,15 @@ pub read-record : (place : ℕ) (body rest : List ℕ) → length body ≤ 16777
     → records_from place 0 (1 ∷ (record_bytes body ++ rest)) ≡ onto body (records_from (place + (5 + length body)) 0 rest)
 read-record place body rest short more_bytes =
     let bytes = record_bytes body ++ rest in
-    let reported = reported-record body rest short in
+    let reported = spelled_length-record body rest short in
     let long = length-append (record_bytes body) rest in
     let size = length-record body in
-    let behind : drop (4 + reported_length bytes) bytes ≡ rest =
+    let behind : drop (4 + spelled_length bytes) bytes ≡ rest =
     ap (λ n. drop (4 + n) bytes) reported ∙ drop_at (record_bytes body) rest (4 + length body) size in
-    let body_is : reported_body bytes ≡ body = ap (λ n. take n (drop 4 bytes)) reported ∙ take_at body rest (length body) refl in
+    let body_is : spelled_body bytes ≡ body = ap (λ n. take n (drop 4 bytes)) reported ∙ take_at body rest (length body) refl in
     more place bytes (omega (arith, reported)) (omega (arith, reported, long, size))
-    ∙ ap (λ b. onto b (records_from (place + (5 + reported_length bytes)) 0 (drop (4 + reported_length bytes) bytes))) body_is
-    ∙ ap (λ n. onto body (records_from (place + (5 + n)) 0 (drop (4 + reported_length bytes) bytes))) reported
+    ∙ ap (λ b. onto b (records_from (place + (5 + spelled_length bytes)) 0 (drop (4 + spelled_length bytes) bytes))) body_is
+    ∙ ap (λ n. onto body (records_from (place + (5 + n)) 0 (drop (4 + spelled_length bytes) bytes))) reported
     ∙ ap (λ r. onto body (records_from (place + (5 + length body)) 0 r)) behind
 
 -- Bytes from a gate on that hold these records: a front that holds them whatever follows it, and the closed gate.
@@ -87,11 +87,11 @@ onto-ok body (Err f) bodies e = absurd cc
 
 -- an open gate that is read: the record behind it is whole, and the rest is read on
 pub record Opened (place : ℕ) (bytes : List ℕ) (bodies : List (List ℕ)) : Type 0 where
-  pub short : reported_length bytes ≤ 16777216
-  pub whole : 4 + reported_length bytes < length bytes
+  pub short : spelled_length bytes ≤ 16777216
+  pub whole : 4 + spelled_length bytes < length bytes
   pub others : List (List ℕ)
-  pub read : records_from (place + (5 + reported_length bytes)) 0 (drop (4 + reported_length bytes) bytes) ≡ Ok others
-  pub is : bodies ≡ reported_body bytes ∷ others
+  pub read : records_from (place + (5 + spelled_length bytes)) 0 (drop (4 + spelled_length bytes) bytes) ≡ Ok others
+  pub is : bodies ≡ spelled_body bytes ∷ others
 
 pub opened : (place : ℕ) (bytes : List ℕ) (bodies : List (List ℕ)) → records_from place 0 (1 ∷ bytes) ≡ Ok bodies → Opened place bytes bodies
 opened place bytes bodies read = go (is_whole bytes) refl
@@ -101,31 +101,31 @@ opened place bytes bodies read = go (is_whole bytes) refl
 
     go : (b : Bool) → is_whole bytes ≡ b → Opened place bytes bodies
     go true e =
-        let fits = whole_from (reported_length bytes) (length bytes) e in
-        let found = onto-ok (reported_body bytes) _ bodies (sym (more place bytes fits.0 fits.1) ∙ read) in
+        let fits = whole_from (spelled_length bytes) (length bytes) e in
+        let found = onto-ok (spelled_body bytes) _ bodies (sym (more place bytes fits.0 fits.1) ∙ read) in
         record { short = fits.0; whole = fits.1; others = found.0; read = found.1; is = found.2 }
     go false e =
-        let refused : records_from place 0 (1 ∷ bytes) ≡ Err (Damaged place) = ap (λ t. if t then onto (reported_body bytes) (records_from (place + 1) (4 + reported_length bytes) bytes) else Err (Damaged place)) e in
+        let refused : records_from place 0 (1 ∷ bytes) ≡ Err (Damaged place) = ap (λ t. if t then onto (spelled_body bytes) (records_from (place + 1) (4 + spelled_length bytes) bytes) else Err (Damaged place)) e in
         absurd (cc (refused, read))
 
 -- the front of a whole record is read as it was, whatever stands behind it
-refronted : (place : ℕ) (bytes behind : List ℕ) → reported_length bytes ≤ 16777216 → 4 + reported_length bytes < length bytes → 0 < length behind
-    → records_from place 0 (1 ∷ (take (4 + reported_length bytes) bytes ++ behind)) ≡ onto (reported_body bytes) (records_from (place + (5 + reported_length bytes)) 0 behind)
+refronted : (place : ℕ) (bytes behind : List ℕ) → spelled_length bytes ≤ 16777216 → 4 + spelled_length bytes < length bytes → 0 < length behind
+    → records_from place 0 (1 ∷ (take (4 + spelled_length bytes) bytes ++ behind)) ≡ onto (spelled_body bytes) (records_from (place + (5 + spelled_length bytes)) 0 behind)
 refronted place bytes behind short whole some =
-    let n = reported_length bytes in
+    let n = spelled_length bytes in
     let front = take (4 + n) bytes in
     let long : length front ≡ 4 + n = length-take-le (4 + n) bytes (omega arith) in
     let size : length (front ++ behind) ≡ 4 + n + length behind = omega (arith, length-append front behind) in
     let first : take 4 (front ++ behind) ≡ take 4 bytes = take-append-le 4 front behind (omega arith) ∙ take-take 4 (4 + n) bytes (omega arith) in
-    let reported : reported_length (front ++ behind) ≡ n = ap (λ l. from_be_bytes w32 l) first in
+    let reported : spelled_length (front ++ behind) ≡ n = ap (λ l. from_be_bytes w32 l) first in
     let rest : drop 4 (front ++ behind) ≡ take n (drop 4 bytes) ++ behind = drop-append-le 4 front behind (omega arith) ∙ ap (λ l. l ++ behind) (drop-take 4 n bytes) in
     let body_long : length (take n (drop 4 bytes)) ≡ n = length-take-le n (drop 4 bytes) (omega (arith, length-drop 4 bytes)) in
-    let body : reported_body (front ++ behind) ≡ reported_body bytes = ap (λ k. take k (drop 4 (front ++ behind))) reported ∙ ap (λ l. take n l) rest ∙ take_at (take n (drop 4 bytes)) behind n body_long in
-    let tail : drop (4 + reported_length (front ++ behind)) (front ++ behind) ≡ behind = ap (λ k. drop (4 + k) (front ++ behind)) reported ∙ drop_at front behind (4 + n) long in
+    let body : spelled_body (front ++ behind) ≡ spelled_body bytes = ap (λ k. take k (drop 4 (front ++ behind))) reported ∙ ap (λ l. take n l) rest ∙ take_at (take n (drop 4 bytes)) behind n body_long in
+    let tail : drop (4 + spelled_length (front ++ behind)) (front ++ behind) ≡ behind = ap (λ k. drop (4 + k) (front ++ behind)) reported ∙ drop_at front behind (4 + n) long in
     more place (front ++ behind) (omega (arith, reported)) (omega (arith, reported, size))
-    ∙ ap (λ b. onto b (records_from (place + (5 + reported_length (front ++ behind))) 0 (drop (4 + reported_length (front ++ behind)) (front ++ behind)))) body
-    ∙ ap (λ k. onto (reported_body bytes) (records_from (place + (5 + k)) 0 (drop (4 + reported_length (front ++ behind)) (front ++ behind)))) reported
-    ∙ ap (λ r. onto (reported_body bytes) (records_from (place + (5 + n)) 0 r)) tail
+    ∙ ap (λ b. onto b (records_from (place + (5 + spelled_length (front ++ behind))) 0 (drop (4 + spelled_length (front ++ behind)) (front ++ behind)))) body
+    ∙ ap (λ k. onto (spelled_body bytes) (records_from (place + (5 + k)) 0 (drop (4 + spelled_length (front ++ behind)) (front ++ behind)))) reported
+    ∙ ap (λ r. onto (spelled_body bytes) (records_from (place + (5 + n)) 0 r)) tail
 
 pub held : (place : ℕ) (bodies : List (List ℕ)) (bytes : List ℕ) → records_from place 0 bytes ≡ Ok bodies → Held place bodies bytes
 held place bodies [] read = absurd cc
@@ -144,9 +144,9 @@ held place [] (gate ∷ bytes) read = elim (cases_eq gate 1) [
 held place (body ∷ bodies) (gate ∷ bytes) read = elim (cases_eq gate 1) [
   | inl is_open ↦
       let found = opened place bytes (body ∷ bodies) (ap (λ g. records_from place 0 (g ∷ bytes)) (sym is_open) ∙ read) in
-      let n = reported_length bytes in
+      let n = spelled_length bytes in
       let same_others : found.others ≡ bodies = cc found.is in
-      let same_body : reported_body bytes ≡ body = cc found.is in
+      let same_body : spelled_body bytes ≡ body = cc found.is in
       let others = held (place + (5 + n)) bodies (drop (4 + n) bytes) (found.read ∙ ap (λ o. Ok o) same_others) in
       let front_long : length (take (4 + n) bytes) ≡ 4 + n = length-take-le (4 + n) bytes (omega (arith, found.whole)) in
       let body_long : length body ≡ n = ap length (sym same_body) ∙ length-take-le n (drop 4 bytes) (omega (arith, length-drop 4 bytes, found.whole)) in

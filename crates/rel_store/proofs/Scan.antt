@@ -9,7 +9,7 @@ use Rattle.std.proofs.lemmas.List.{drop_more, drop-drop, drop-take, take-take, g
 use Rattle.rel_disk.specs.Moments.{HasFailed}
 use Rattle.rel_store.specs.Contents.{DeviceRefused, OpenRefused, RecordRefused, RecordsRefused}
 use Rattle.rel_store.specs.Layout.{base_of}
-use Rattle.rel_store.specs.Records.{reported_length, reported_body, is_whole, onto, records_from, space}
+use Rattle.rel_store.specs.Records.{spelled_length, spelled_body, is_whole, onto, records_from, space}
 use Rattle.rel_store.specs.declared.error.StoreError.{StoreError}
 use Rattle.rel_store.specs.declared.error.StoreError.TheVariants.{NotAStore, Damaged, Exists, Full, Device, NoMemory, MustReopen}
 use Rattle.rel_store.proofs.ReadLemmas.{onto_all, onto_all-push, onto_all-none, closed, more}
@@ -25,8 +25,8 @@ pub record IsReadTo (bytes : List ℕ) (base gate : ℕ) (bodies : List (List �
   pub rest : onto_all bodies (records_from gate 0 (drop gate bytes)) ≡ records_from base 0 (drop base bytes)
   pub place : gate ≡ base + space bodies
 
-pub whole_from : (bytes : List ℕ) → is_whole bytes ≡ true → (reported_length bytes ≤ 16777216) × (4 + reported_length bytes < length bytes)
-whole_from bytes = facts (reported_length bytes) (length bytes)
+pub whole_from : (bytes : List ℕ) → is_whole bytes ≡ true → (spelled_length bytes ≤ 16777216) × (4 + spelled_length bytes < length bytes)
+whole_from bytes = facts (spelled_length bytes) (length bytes)
   where
     facts : (n long : ℕ) → (nat_le n 16777216 && nat_lt (4 + n) long) ≡ true → (n ≤ 16777216) × (4 + n < long)
     facts n long e = (grind (arith, nat_tests), grind (arith, nat_tests))
@@ -41,10 +41,10 @@ at_gate bytes gate byte within is = drop_more bytes gate 0 within ∙ ap (λ (b 
 
 -- one record more
 pub read_more : (bytes : List ℕ) (base gate next : ℕ) (bodies : List (List ℕ)) (body behind : List ℕ) → IsReadTo bytes base gate bodies → get_or bytes gate 0 ≡ 1 → behind ≡ drop (gate + 1) bytes
-    → is_whole behind ≡ true → body ≡ reported_body behind → next ≡ gate + (5 + length body) → IsReadTo bytes base next (bodies ++ body ∷ [])
+    → is_whole behind ≡ true → body ≡ spelled_body behind → next ≡ gate + (5 + length body) → IsReadTo bytes base next (bodies ++ body ∷ [])
 read_more bytes base gate next bodies body behind so_far is_open is whole body_is next_is =
     let fits = whole_from behind whole in
-    let n = reported_length behind in
+    let n = spelled_length behind in
     let size : length behind ≡ length bytes - (gate + 1) = ap length is ∙ length-drop (gate + 1) bytes in
     let long : length body ≡ n = ap length body_is ∙ length-take-le n (drop 4 behind) (omega (arith, length-drop 4 behind, fits.1)) in
     let here : drop gate bytes ≡ 1 ∷ behind = at_gate bytes gate 1 so_far.within is_open ∙ ap (λ (l : List ℕ). 1 ∷ l) (sym is) in
@@ -80,7 +80,7 @@ pub read_damaged : (bytes : List ℕ) (base gate : ℕ) (bodies : List (List ℕ
     → is_whole behind ≡ false → records_from base 0 (drop base bytes) ≡ Err (Damaged gate)
 read_damaged bytes base gate bodies behind so_far is_open is broken =
     let here : drop gate bytes ≡ 1 ∷ behind = at_gate bytes gate 1 so_far.within is_open ∙ ap (λ (l : List ℕ). 1 ∷ l) (sym is) in
-    let refused : records_from gate 0 (1 ∷ behind) ≡ Err (Damaged gate) = ap (λ t. if t then onto (reported_body behind) (records_from (gate + 1) (4 + reported_length behind) behind) else Err (Damaged gate)) broken in
+    let refused : records_from gate 0 (1 ∷ behind) ≡ Err (Damaged gate) = ap (λ t. if t then onto (spelled_body behind) (records_from (gate + 1) (4 + spelled_length behind) behind) else Err (Damaged gate)) broken in
     sym so_far.rest ∙ ap (λ l. onto_all bodies (records_from gate 0 l)) here ∙ ap (onto_all bodies) refused ∙ onto_all-err bodies (Damaged gate)
 
 -- the first of five bytes from a gate on
@@ -95,13 +95,13 @@ byte_in_five bytes gate head byte is first =
 
 -- The record at a gate, by what five bytes from the gate on say of it.
 module _ (bytes : List ℕ) (gate size : ℕ) where
-  pub reported_in_five : (head : List ℕ) → head ≡ take 5 (drop gate bytes) → size ≡ reported_length (drop 1 head) → size ≡ reported_length (drop (gate + 1) bytes)
+  pub reported_in_five : (head : List ℕ) → head ≡ take 5 (drop gate bytes) → size ≡ spelled_length (drop 1 head) → size ≡ spelled_length (drop (gate + 1) bytes)
   reported_in_five head is reported =
       reported
-      ∙ ap (λ l. reported_length (drop 1 l)) is
+      ∙ ap (λ l. spelled_length (drop 1 l)) is
       ∙ ap (λ l. from_be_bytes w32 (take 4 l)) (drop-take 1 4 (drop gate bytes))
       ∙ ap (from_be_bytes w32) (take-take 4 4 (drop 1 (drop gate bytes)) (omega arith))
-      ∙ ap reported_length (drop-drop 1 gate bytes)
+      ∙ ap spelled_length (drop-drop 1 gate bytes)
 
   tests : (n long : ℕ) → n ≤ 16777216 → 4 + n < long → (nat_le n 16777216 && nat_lt (4 + n) long) ≡ true
   tests n long short within = grind (arith, nat_tests)
@@ -114,30 +114,30 @@ module _ (bytes : List ℕ) (gate size : ℕ) where
       go true e = e
       go false e = refl
 
-  pub whole_there : size ≡ reported_length (drop (gate + 1) bytes) → size ≤ 16777216 → 5 + size < length bytes - gate → is_whole (drop (gate + 1) bytes) ≡ true
-  whole_there reported short within = tests (reported_length (drop (gate + 1) bytes)) (length (drop (gate + 1) bytes)) (omega (arith, reported)) (omega (arith, reported, length-drop (gate + 1) bytes))
+  pub whole_there : size ≡ spelled_length (drop (gate + 1) bytes) → size ≤ 16777216 → 5 + size < length bytes - gate → is_whole (drop (gate + 1) bytes) ≡ true
+  whole_there reported short within = tests (spelled_length (drop (gate + 1) bytes)) (length (drop (gate + 1) bytes)) (omega (arith, reported)) (omega (arith, reported, length-drop (gate + 1) bytes))
 
-  pub broken_there : size ≡ reported_length (drop (gate + 1) bytes) → (16777216 < size) ⊎ (length bytes - gate ≤ 5 + size) → is_whole (drop (gate + 1) bytes) ≡ false
-  broken_there reported why = fails (reported_length (drop (gate + 1) bytes)) (length (drop (gate + 1) bytes))
+  pub broken_there : size ≡ spelled_length (drop (gate + 1) bytes) → (16777216 < size) ⊎ (length bytes - gate ≤ 5 + size) → is_whole (drop (gate + 1) bytes) ≡ false
+  broken_there reported why = fails (spelled_length (drop (gate + 1) bytes)) (length (drop (gate + 1) bytes))
       (elim why [ inl far ↦ inl (omega (arith, reported)) | inr past ↦ inr (omega (arith, reported, length-drop (gate + 1) bytes)) ])
 
 -- one record more, whose body is read by itself
 pub read_body_more : (bytes mid after : List ℕ) (base gate size : ℕ) (bodies : List (List ℕ)) (body : List ℕ) → IsReadTo bytes base gate bodies → mid ≡ bytes → after ≡ mid
-    → (get_or mid gate 0 ≡ 1) × (is_whole (drop (gate + 1) mid) ≡ true) × (size ≡ reported_length (drop (gate + 1) mid))
+    → (get_or mid gate 0 ≡ 1) × (is_whole (drop (gate + 1) mid) ≡ true) × (size ≡ spelled_length (drop (gate + 1) mid))
     → body ≡ take size (drop (gate + 5) after) → IsReadTo bytes base (gate + (5 + size)) (bodies ++ body ∷ [])
 read_body_more bytes mid after base gate size bodies body so_far same same' there read =
     let behind = drop (gate + 1) bytes in
     let is_open : get_or bytes gate 0 ≡ 1 = subst (λ l. get_or l gate 0 ≡ 1) same there.0 in
     let whole : is_whole behind ≡ true = subst (λ l. is_whole (drop (gate + 1) l) ≡ true) same there.1 in
-    let reported : size ≡ reported_length behind = subst (λ l. size ≡ reported_length (drop (gate + 1) l)) same there.2 in
+    let reported : size ≡ spelled_length behind = subst (λ l. size ≡ spelled_length (drop (gate + 1) l)) same there.2 in
     let fits = whole_from behind whole in
     let place : gate + 1 + 4 ≡ gate + 5 = omega arith in
-    let is : body ≡ reported_body behind =
+    let is : body ≡ spelled_body behind =
     read
     ∙ ap (λ l. take size (drop (gate + 5) l)) (same' ∙ same)
     ∙ ap (λ n. take n (drop (gate + 5) bytes)) reported
-    ∙ ap (λ l. take (reported_length behind) l) (ap (λ p. drop p bytes) (sym place) ∙ sym (drop-drop 4 (gate + 1) bytes)) in
-    let long : length body ≡ size = ap length is ∙ length-take-le (reported_length behind) (drop 4 behind) (omega (arith, length-drop 4 behind, fits.1)) ∙ sym reported in
+    ∙ ap (λ l. take (spelled_length behind) l) (ap (λ p. drop p bytes) (sym place) ∙ sym (drop-drop 4 (gate + 1) bytes)) in
+    let long : length body ≡ size = ap length is ∙ length-take-le (spelled_length behind) (drop 4 behind) (omega (arith, length-drop 4 behind, fits.1)) ∙ sym reported in
     let next : gate + (5 + size) ≡ gate + (5 + length body) = omega (arith, long) in
     read_more bytes base gate (gate + (5 + size)) bodies body behind so_far is_open refl whole is next
 

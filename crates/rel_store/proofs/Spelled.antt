@@ -6,7 +6,7 @@ use Rattle.std.proofs.lemmas.List.{length-take-le, drop-drop, get_or-take, get_o
 use Rattle.std.proofs.lemmas.Nat.{be_bytes_4}
 use Rattle.std.proofs.lemmas.Slice.Eq.{bytes_eq-Decides}
 use Rattle.rel_store.specs.Layout.{magic, base_of}
-use Rattle.rel_store.specs.Records.{record_bytes, records_bytes, onto, reported_length, reported_body, records_from, records_of}
+use Rattle.rel_store.specs.Records.{record_bytes, records_bytes, onto, spelled_length, spelled_body, records_from, records_of}
 use Rattle.rel_store.specs.Spelled.{AreShort, IsSpelled, AreBytes}
 use Rattle.rel_store.proofs.ReadLemmas.{closed, read-record, opened}
 use Rattle.rel_store.proofs.Whole.{readable, sound}
@@ -43,9 +43,9 @@ take-bytes n bytes small i = elim (cases_lt i n) [
   | inr past ↦ subst (λ b. b < 256) (sym (get_or_past (take n bytes) i 0 (omega (arith, length-take n bytes)))) (omega arith)
 ]
 
-one_spelled : (bytes body : List ℕ) → AreBytes bytes → 4 + reported_length bytes < length bytes → reported_body bytes ≡ body → (length body ≡ reported_length bytes) × (bytes ≡ record_bytes body ++ drop (4 + reported_length bytes) bytes)
+one_spelled : (bytes body : List ℕ) → AreBytes bytes → 4 + spelled_length bytes < length bytes → spelled_body bytes ≡ body → (length body ≡ spelled_length bytes) × (bytes ≡ record_bytes body ++ drop (4 + spelled_length bytes) bytes)
 one_spelled bytes body small whole same =
-    let n = reported_length bytes in
+    let n = spelled_length bytes in
     let long : length body ≡ n = ap length (sym same) ∙ length-take-le n (drop 4 bytes) (omega (arith, length-drop 4 bytes)) in
     let reported : to_be_bytes w32 n ≡ take 4 bytes = be_bytes_4 (take 4 bytes) n (length-take-le 4 bytes (omega arith)) (take-bytes 4 bytes small) refl in (
       long,
@@ -67,9 +67,9 @@ spells place [] (gate ∷ bytes) small reported = elim (cases_eq gate 1) [
 spells place (body ∷ bodies) (gate ∷ bytes) small reported = elim (cases_eq gate 1) [
   | inl is_open ↦
       let found = opened place bytes (body ∷ bodies) (ap (λ g. records_from place 0 (g ∷ bytes)) (sym is_open) ∙ reported) in
-      let n = reported_length bytes in
+      let n = spelled_length bytes in
       let same_others : found.others ≡ bodies = cc found.is in
-      let same_body : reported_body bytes ≡ body = cc found.is in
+      let same_body : spelled_body bytes ≡ body = cc found.is in
       let one = one_spelled bytes body (λ i. small (suc i)) found.whole same_body in
       let others = spells (place + (5 + n)) bodies (drop (4 + n) bytes) (drop-bytes (4 + n) bytes (λ i. small (suc i))) (found.read ∙ ap (λ o. Ok o) same_others) in
       record {

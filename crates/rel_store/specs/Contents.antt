@@ -17,7 +17,7 @@ pub record AreContentsOf (bytes : List ℕ) (contents : Contents) : Type 0 where
   pub chooses : contents.second_base ≡ (slice_index bytes 10 == 1)
   pub format : contents.format ≡ format_of bytes
 
--- Why an opening of these bytes refuses them: what they report, or a failure of the device, or out of memory.
+-- Why an opening of these bytes refuses them: what is wrong with them, or a failure of the device, or out of memory.
 abbrev pub OpenRefused : List ℕ → ℕ → ℕ → StoreError → Type 0
 OpenRefused bytes before now NotAStore = records_of bytes ≡ Err NotAStore
 OpenRefused bytes before now (Damaged at) = records_of bytes ≡ Err (Damaged at)

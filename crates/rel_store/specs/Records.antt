@@ -15,16 +15,16 @@ records_bytes [] = []
 records_bytes (body ∷ bodies) = 1 ∷ (record_bytes body ++ records_bytes bodies)
 
 -- the length that the bytes behind a gate give
-abbrev pub reported_length : List ℕ → ℕ
-reported_length bytes = from_be_bytes w32 (take 4 bytes)
+abbrev pub spelled_length : List ℕ → ℕ
+spelled_length bytes = from_be_bytes w32 (take 4 bytes)
 
 -- the body of the record behind a gate
-abbrev pub reported_body : List ℕ → List ℕ
-reported_body bytes = take (reported_length bytes) (drop 4 bytes)
+abbrev pub spelled_body : List ℕ → List ℕ
+spelled_body bytes = take (spelled_length bytes) (drop 4 bytes)
 
 -- the record behind a gate is no longer than a record may be, and it and the gate after it stand within the bytes
 abbrev pub is_whole : List ℕ → Bool
-is_whole bytes = nat_le (reported_length bytes) 16777216 && nat_lt (4 + reported_length bytes) (length bytes)
+is_whole bytes = nat_le (spelled_length bytes) 16777216 && nat_lt (4 + spelled_length bytes) (length bytes)
 
 -- a body before those of the rest
 abbrev pub onto : List ℕ → Result (List (List ℕ)) StoreError → Result (List (List ℕ)) StoreError
@@ -37,7 +37,7 @@ abbrev pub records_from : ℕ → ℕ → List ℕ → Result (List (List ℕ)) 
 records_from place inside [] = Err (Damaged place)
 records_from place zero (gate ∷ bytes) =
     if gate == 1
-    then (if is_whole bytes then onto (reported_body bytes) (records_from (place + 1) (4 + reported_length bytes) bytes) else Err (Damaged place))
+    then (if is_whole bytes then onto (spelled_body bytes) (records_from (place + 1) (4 + spelled_length bytes) bytes) else Err (Damaged place))
     else Ok []
 records_from place (suc inside) (byte ∷ bytes) = records_from (place + 1) inside bytes
 

@@ -1,7 +1,7 @@
 // What an opening reads of a disk.
 ghost use Rattle.std.specs.Prelude.{◌≡◌, ◌≢◌, ◌+◌, ◌<◌, ◌≤◌, map, length, take, drop, true, None, Ok, Err, slice_index, IfOk, IfErr, IfSome};
 ghost use Rattle.rel_store.specs.Contents.{DeviceRefused, HasOnlyRead, RecordRefused, RecordsRefused};
-ghost use Rattle.rel_store.specs.Records.{is_whole, records_from, space, reported_length};
+ghost use Rattle.rel_store.specs.Records.{is_whole, records_from, space, spelled_length};
 
 use crate::StoreError;
 use crate::layout::{
@@ -104,7 +104,7 @@ fn record_at<D: Disk>(disk: &mut D, gate: u64, len: u64) -> Result<Option<usize>
     ensures open { IfOk result
         (λ found. IfSome found (λ size. (slice_index (D.seen disk.old) gate ≡ 1)
         × (is_whole (drop (gate + 1) (D.seen disk.old)) ≡ true)
-        × (size ≡ reported_length (drop (gate + 1) (D.seen disk.old))))) }
+        × (size ≡ spelled_length (drop (gate + 1) (D.seen disk.old))))) }
     ensures reads { HasOnlyRead D.seen D.may_leave D.moment D.left_since disk.old disk.new }
     ensures counted { D.failures disk.old ≤ D.failures disk.new }
     ensures refused { IfErr result

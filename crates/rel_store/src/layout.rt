@@ -2,7 +2,7 @@
 ghost use Rattle.std.specs.Prelude.{◌≡◌, ◌+◌, ◌≤◌, length, drop, if◌then◌else◌};
 ghost use Rattle.std.specs.Int.{w64, from_be_bytes};
 ghost use Rattle.rel_store.specs.Layout.{part, has_magic, base_slot, format_of};
-ghost use Rattle.rel_store.specs.Records.{reported_length};
+ghost use Rattle.rel_store.specs.Records.{spelled_length};
 
 /// The longest body of a record, in bytes.
 pub const MAX_BODY: usize = 16_777_216;
@@ -73,7 +73,7 @@ pub(crate) fn place_at(bytes: &[u8], at: usize) -> u64
 
 // The length that a gate and the four bytes behind it give, greatest byte first.
 pub(crate) fn body_length(head: &[u8; 5]) -> usize
-    ensures { result ≡ reported_length (drop 1 head.now) }
+    ensures { result ≡ spelled_length (drop 1 head.now) }
 {
     let mut length = [0; 4];
     length.copy_from_slice(&head[1..]);

@@ -8,7 +8,7 @@ use Rattle.relup_block.specs.declared.order.ChoiceRule.TheVariants.{DependentsFi
 use Rattle.relup_block.specs.declared.order.BlockItem.{BlockItem}
 use Rattle.relup_block.specs.declared.order.Waiting.{Waiting}
 use Rattle.relup_block.specs.Order.{BlockItemForm, block_item_of, block_items_of, item_name, item_deps, is_among, depends_on, must_wait_for, is_free, first_free, or_first, choice}
-use Rattle.relup_block.specs.Counts.{one_if, waits_among, WaitingForm, waiting_of, all_waiting, waiting_items, counted_behind, counted, are_some, has_deps, first_idle_behind, after_item, after_item_first, Takes}
+use Rattle.relup_block.specs.Counts.{one_if, waits_among, WaitingForm, waiting_of, all_waiting, waiting_items, counted_behind, counted, are_some, has_deps, first_idle_behind, after_item, Takes}
 
 more_than_none : (n : ℕ) → 0 < n → nat_eq n 0 ≡ false
 more_than_none n h = grind (arith, nat_tests)
@@ -284,6 +284,12 @@ waits_for_none x (y ∷ ys) e =
     go : (deps : List (List ℕ)) → are_some deps ≡ false → is_among (item_name y) deps ≡ false
     go [] q = refl
     go (n ∷ ns) q = absurd cc
+
+-- The first so many of these wait for one less, where they waited for the item that has come.
+abbrev pub after_item_first : ChoiceRule → BlockItemForm → ℕ → List WaitingForm → List WaitingForm
+after_item_first rule y n [] = []
+after_item_first rule y zero (w ∷ ws) = w ∷ ws
+after_item_first rule y (suc n) (w ∷ ws) = after_item rule y w ∷ after_item_first rule y n ws
 
 -- One more no longer waits.
 pub one_released : (rule : ChoiceRule) (y : BlockItemForm) (n : ℕ) (ws : List WaitingForm) (d : WaitingForm) → n < length ws

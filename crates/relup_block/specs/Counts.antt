@@ -63,12 +63,6 @@ first_idle_behind n (w ∷ ws) = if nat_eq w.waits 0 then Some n else first_idle
 abbrev pub after_item : ChoiceRule → BlockItemForm → WaitingForm → WaitingForm
 after_item rule y w = record { item = w.item; waits = w.waits - one_if (must_wait_for rule w.item y) }
 
--- the same of the first so many of these
-abbrev pub after_item_first : ChoiceRule → BlockItemForm → ℕ → List WaitingForm → List WaitingForm
-after_item_first rule y n [] = []
-after_item_first rule y zero (w ∷ ws) = w ∷ ws
-after_item_first rule y (suc n) (w ∷ ws) = after_item rule y w ∷ after_item_first rule y n ws
-
 -- The naming ones are those of the items that name dependencies.
 abbrev pub HasNaming : Ahead → Type 0
 HasNaming a = block_items_of a.naming.now ≡ filter has_deps (block_items_of a.items.now)

@@ -1,4 +1,4 @@
-//! Relups from the files of releases (OTP: systools:make_relup/3, which reads them so too).
+//! Relups from the files of releases (OTP: systools:make_relup/3; the order of reading is this project's own).
 //!
 //! [`make_relup_of_files`] reads the `.rel` file of a release and the `.app` files of its applications, then those of the
 //! releases that it comes from and goes back to, and last the release's appups. It answers the relup that the translation of

@@ -1,5 +1,6 @@
 -- A script that has come to its point of no return, as it lies in memory.
 use Rattle.std.specs.Prelude.{vec_capacity}
+pub use Rattle.script_progress.specs.InMemory.{cause_of}
 use Rattle.relup_exec.specs.declared.armed.Armed.{Armed}
 use Rattle.relup_exec.specs.Outcome.{ArmedForm}
 use Rattle.loaded_modules.specs.Loaded.{listed_in}

@@ -111,7 +111,8 @@ pub record IsInstructionAt (script : List Instruction) (number : ℕ) (front : L
   pub is : script ≡ front ++ (i ∷ rest)
   pub counted : number ≡ length front + 1
 
--- An instruction before the point is the first that fails, and nothing was added to any history.
+-- An instruction before the point is the first that fails, or the point itself, where memory was refused; and nothing was added
+-- to any history.
 pub record IsRefused (s : Site) (start : Start) (script : List Instruction) (number : ℕ) (c : Cause) (v : View) : Type 0 where
   pub front : List Instruction
   pub instruction : Instruction

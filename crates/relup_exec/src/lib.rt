@@ -24,3 +24,4 @@ pub use after::Failed;
 pub use armed::Armed;
 pub use before::{Refused, run_before};
 pub use script_steps::{Cause, Site};
+pub use sup_tree::Tree;

@@ -1,3 +1,4 @@
+pub use Rattle.sup_tree.specs.Tree
 pub mod Calls
 pub mod Script
 pub mod Fault

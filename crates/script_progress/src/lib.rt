@@ -27,3 +27,4 @@ pub use cause::{Cause, Failure, failure_at_start, on_no_child};
 pub use errors::raise;
 pub use progress::Progress;
 pub use site::Site;
+pub use sup_tree::Tree;

@@ -6,7 +6,7 @@ use Rattle.held_processes.specs.Following.{AreLonger}
 use Rattle.held_processes.specs.Operations.{values_seen}
 use Rattle.relup_instruction.specs.Instruction.{CallForm, Instruction}
 use Rattle.relup_instruction.specs.Instruction.Instruction.{apply}
-use Rattle.sup_tree.specs.Tree.{App}
+use Rattle.script_progress.specs.Tree.{App}
 use Rattle.script_progress.specs.declared.cause.Failure.{Failure}
 use Rattle.script_progress.specs.Fault.{Cause, call_fault, error_cause}
 use Rattle.script_progress.specs.InMemory.{cause_of}

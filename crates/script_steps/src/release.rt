@@ -10,9 +10,8 @@ ghost use Rattle.script_progress.specs.Steps.{CarriesOut, HasDone, Past, progres
 
 use held_processes::{HeldProcesses, Users};
 use proc_table::{HandlerSeat, ProcTable};
-use script_progress::{Progress, Site};
+use script_progress::{Progress, Site, Tree};
 use std::sync::Wait;
-use sup_tree::Tree;
 
 /// What is done to processes without asking for memory.
 #[derive(Clone, Copy)]

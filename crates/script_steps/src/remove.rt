@@ -6,7 +6,7 @@ ghost use Rattle.relup_instruction.specs.Instruction.{purging_of};
 ghost use Rattle.relup_instruction.specs.Instruction.Instruction.{remove};
 ghost use Rattle.script_progress.specs.InMemory.{site_of};
 ghost use Rattle.script_progress.specs.Steps.{CarriesOut, HasDone, Past, progress_of};
-ghost use Rattle.sup_tree.specs.Tree.{supervises};
+ghost use Rattle.script_progress.specs.Tree.{supervises};
 
 use held_processes::Users;
 use proc_table::HandlerSeat;

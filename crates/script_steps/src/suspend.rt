@@ -13,10 +13,9 @@ ghost use Rattle.std.specs.Prelude.{◌≡◌, Bool, map};
 use held_processes::{HeldProcesses, Undone, Users};
 use proc_table::{HandlerSeat, ProcTable};
 use relup_instruction::Suspension;
-use script_progress::{Cause, Failure, Progress, Site};
+use script_progress::{Cause, Failure, Progress, Site, Tree};
 use std::alloc::Global;
 use std::sync::Wait;
-use sup_tree::Tree;
 
 // The processes of these modules are held until they are resumed.
 pub(crate) fn suspend<R: Wait>(

@@ -1,3 +1,6 @@
+pub use Rattle.mod_table.specs.InMemory
+pub use Rattle.mod_table.specs.Table
+pub use Rattle.mod_table.specs.Tables
 pub mod Members
 pub mod Begins
 pub mod Preparations

@@ -1,3 +1,8 @@
+pub use Rattle.app_members.specs.Loaded
+pub use Rattle.app_members.specs.Walk
+pub use Rattle.started_members.specs.Begins
+pub use Rattle.started_members.specs.Places
+pub use Rattle.started_members.specs.declared.looks.Stay
 pub mod Tree
 pub mod Starts
 pub mod Stops

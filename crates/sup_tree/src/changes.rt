@@ -1,12 +1,11 @@
 //! Supervisors whose children change.
 ghost use Rattle.std.specs.Prelude.{◌≡◌, IfOk, OnErr, OnOk, map};
-ghost use Rattle.mod_table.specs.InMemory.{child_of};
+ghost use Rattle.started_members.specs.InMemory.{child_of};
 ghost use Rattle.sup_tree.specs.Changes.{app_changed, apps_changed};
 ghost use Rattle.sup_tree.specs.Tree.{app_of};
 
 use crate::{StartedApp, Tree};
-use mod_table::{Child, Super};
-use started_members::{changed_members, copy_members};
+use started_members::{Child, Super, changed_members, copy_members};
 use std::alloc::{AllocError, Global};
 
 impl Tree {

@@ -18,7 +18,7 @@ pub enum StartError<'a> {
     Unsupported,
     /// A process can begin in fewer slots than it needs.
     NoSlot,
-    /// No memory was left. It may come in place of any other.
+    /// No memory was left. It may come in place of any other but AlreadyStarted.
     NoMemory,
 }
 

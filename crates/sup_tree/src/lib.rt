@@ -24,6 +24,7 @@ mod restarts;
 mod stops;
 mod tree;
 
+pub use app_members::Loaded;
 pub use error::{NoSuchApp, NoSuper, RestartError, StartError};
 pub use started_members::{Member, MemberState, StartedProcess, Stay};
 pub use tree::{StartedApp, Tree};

@@ -1,14 +1,13 @@
 //! Children of started supervisors that begin again.
 ghost use Rattle.std.specs.Prelude.{◌≡◌};
-ghost use Rattle.loaded_modules.specs.Loaded.{modules_in, tables_of};
+ghost use Rattle.app_members.specs.Loaded.{modules_in, tables_of};
 ghost use Rattle.started_members.specs.Places.{IsRange, Place};
 ghost use Rattle.sup_tree.specs.Restarts.{BeginsAgain, Prepares, RestartsChild, RestartsIn, app_at};
 ghost use Rattle.sup_tree.specs.Tree.{app_of};
 
 use crate::children::place_of_only_super;
 use crate::{RestartError, StartedApp, Tree};
-use app_members::{NewChild, members_of_child};
-use loaded_modules::Loaded;
+use app_members::{Loaded, NewChild, members_of_child};
 use proc_table::{HandlerSeat, ProcTable};
 use started_members::{
     Member, Preparation, Stay, begin_all, end_member, member_stays, prepare_all, process_count,

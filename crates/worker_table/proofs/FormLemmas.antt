@@ -1,5 +1,5 @@
 -- Tables of workers and their terms, both ways: what is read of the term of a table is that table, and only of its term.
-use Rattle.std.proofs.Common.{◌≡◌, ℕ, pos, nat_lt, ◌^◌, Bool, true, false, List, [], ◌∷◌, map, Option, Some, None, codes, unwrap_or, if◌then◌else◌, refl, sym, ap, subst, ◌∙◌}
+use Rattle.std.proofs.Common.{◌≡◌, ℕ, pos, nat_lt, ◌^◌, Bool, true, List, [], ◌∷◌, map, Option, Some, None, codes, if◌then◌else◌, refl, sym, ap, subst, ◌∙◌}
 use Rattle.std.specs.List.{AllByRecursion, list_all}
 use Rattle.std.specs.Option.{option_map, option_and_then}
 use Rattle.std.proofs.lemmas.Bool.{lt-ltb, ltb-true}
@@ -8,12 +8,12 @@ use Rattle.erl_term.specs.Value.Value.{int, atom, list, tuple, bin}
 use Rattle.erl_term.specs.Value.Values.{no_values, value}
 use Rattle.rel_files.specs.Name.{is_text, IsName, IsVersion}
 use Rattle.rel_files.specs.Parts.{list_in, two, pair_in, three, four, is_word}
-use Rattle.rel_files.specs.Sketch.{are_numbers, text_in, name_in, version_or_empty}
-use Rattle.rel_files.specs.Terms.{list_of, pair_term, text_term, numbers_of}
+use Rattle.rel_files.specs.Sketch.{name_in, version_or_empty}
+use Rattle.rel_files.specs.Terms.{list_of, pair_term, text_term}
 use Rattle.rel_files.proofs.Options.{mapped, chained, passed, both, both_true, choose}
 use Rattle.rel_files.proofs.Rows.{ReadsEach, each_read, from_each, from_each_valid}
-use Rattle.rel_files.proofs.TermParts.{from_list, from_pair, from_is_word, name_in-atom, from_name}
-use Rattle.rel_files.proofs.Texts.{numbers, are_numbers-numbers, text_in-numbers, from_text}
+use Rattle.rel_files.proofs.TermParts.{from_list, from_pair, from_is_word, name_in-atom, from_name, version_or_empty-text, from_version_or_empty}
+use Rattle.rel_files.proofs.Texts.{numbers}
 use Rattle.worker_table.specs.Table.{OldVersion, Row, WorkerTable}
 use Rattle.worker_table.specs.Table.OldVersion.{up, down}
 use Rattle.worker_table.specs.Table.Row.{on, add, stop, change}
@@ -53,23 +53,6 @@ abbrev SaysNumber : Value → ℕ → Type 0
 SaysNumber v n = (v ≡ number_term n) × IsNumber n
 
 -- versions
-pub version_or_empty-text : (s : List ℕ) → IsVersion s → version_or_empty (text_term s) ≡ Some s
-version_or_empty-text s h =
-    ap (λ (b : Bool). if b then Some (unwrap_or (text_in 0x21 (numbers (numbers_of s))) []) else None) (are_numbers-numbers (numbers_of s))
-    ∙ ap (λ (o : Option (List ℕ)). Some (unwrap_or o [])) (text_in-numbers 0x21 s h)
-
-text_or_empty : (vs : Values) (o : Option (List ℕ)) (s : List ℕ) → text_in 0x21 vs ≡ o → unwrap_or o [] ≡ s → IsVersion s → vs ≡ numbers (numbers_of s)
-text_or_empty vs (Some t) s read same h = let is : t ≡ s = same in (from_text 0x21 vs t read).0 ∙ ap (λ (u : List ℕ). numbers (numbers_of u)) is
-text_or_empty vs None s read same h = let none : [] ≡ s = same in let bad : false ≡ true = ap (is_text 0x21) none ∙ h in absurd cc
-
--- a version that is one is that of its text
-pub from_version_or_empty : (v : Value) (s : List ℕ) → version_or_empty v ≡ Some s → IsVersion s → v ≡ text_term s
-from_version_or_empty v s e h =
-    let listed = chained (λ (vs : Values). if are_numbers vs then Some (unwrap_or (text_in 0x21 vs) []) else None) (list_in v) s e in
-    let read = passed (are_numbers listed.0) (Some (unwrap_or (text_in 0x21 listed.0) [])) s listed.2 in
-    let same : unwrap_or (text_in 0x21 listed.0) [] ≡ s = let some : Some (unwrap_or (text_in 0x21 listed.0) []) ≡ Some s = read.1 in cc in
-    from_list v listed.0 listed.1 ∙ ap list (text_or_empty listed.0 (text_in 0x21 listed.0) s refl same h)
-
 old_in-term : (o : OldVersion) → IsOld o → old_in (old_term o) ≡ Some o
 old_in-term (up s) h = ap (option_map up) (version_or_empty-text s h)
 old_in-term (down s) h = ap (option_map down) (version_or_empty-text s h)

@@ -3,3 +3,4 @@ pub mod FirstChange
 pub mod IndexLemmas
 pub mod HeadedLemmas
 pub mod FormLemmas
+pub mod ThreadLemmas

@@ -1,5 +1,5 @@
 use Rattle.std.proofs.Common.{◌≡◌, ℕ, ◌+◌, ◌≤◌, true, List, [], ◌∷◌, ◌++◌, length, length-drop, drop, get_or, Option, Some, Ok, ap, subst, sym, ◌∙◌, arith}
-use Rattle.rel_store.specs.Records.{is_whole, reported_length}
+use Rattle.rel_store.specs.Records.{is_whole, spelled_length}
 use Rattle.rel_store.specs.declared.error.StoreError.TheVariants.{NoMemory}
 use Rattle.std.specs.Prelude.{IfSome}
 use Rattle.std.proofs.lemmas.Grind.{common_steps}
@@ -12,7 +12,7 @@ some_so : {A : Type 0} (P : A → Type 0) (o : Option A) (x : A) → o ≡ Some 
 some_so P o x is holds = subst (λ q. IfSome q P) is holds
 
 -- a whole record is no longer than it may be, and ends within the disk
-ends_within : (bytes : List ℕ) (gate size : ℕ) → (get_or bytes gate 0 ≡ 1) × (is_whole (drop (gate + 1) bytes) ≡ true) × (size ≡ reported_length (drop (gate + 1) bytes)) → (size ≤ 16777216) × (gate + (5 + size) ≤ length bytes)
+ends_within : (bytes : List ℕ) (gate size : ℕ) → (get_or bytes gate 0 ≡ 1) × (is_whole (drop (gate + 1) bytes) ≡ true) × (size ≡ spelled_length (drop (gate + 1) bytes)) → (size ≤ 16777216) × (gate + (5 + size) ≤ length bytes)
 ends_within bytes gate size there =
     let whole = whole_from (drop (gate + 1) bytes) there.1 in
     (omega (arith, whole.0, there.2), omega (arith, whole.1, there.2, length-drop (gate + 1) bytes))

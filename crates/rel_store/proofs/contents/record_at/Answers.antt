@@ -1,7 +1,7 @@
 use Rattle.std.proofs.Common.{◌≡◌, ◌⊎◌, inl, inr, ℕ, ◌+◌, ◌-◌, ◌<◌, ◌≤◌, List, length, get_or, take, drop, refl, sym, ◌∙◌, ap, arith}
 use Rattle.std.specs.Prelude.{slice_range}
 use Rattle.std.proofs.lemmas.List.{get_or-take, get_or-drop}
-use Rattle.rel_store.specs.Records.{reported_length}
+use Rattle.rel_store.specs.Records.{spelled_length}
 use Rattle.rel_store.specs.declared.error.StoreError.TheVariants.{Device}
 use Rattle.rel_store.proofs.Exits.{no_value, no_ok}
 use Rattle.rel_store.proofs.OnlyReads.{read_first}
@@ -81,7 +81,7 @@ returns-in_err-read-clause-refused g c = passed_on _ _ Device c.from_residual.en
 pub returns-then-byte-eq-OPEN-clause-refused : goal.returns-then-byte-eq-OPEN-clause-refused
 returns-then-byte-eq-OPEN-clause-refused g c =
     let bytes = g.D.Disk.seen c.args.disk.now in
-    let behind = reported_length (drop (c.args.gate + 1) bytes) in (
+    let behind = spelled_length (drop (c.args.gate + 1) bytes) in (
       refl,
       sym (first_read bytes c.args.gate 1 c.read.new.buf (omega arith) c.in_ok-read.ensures.bytes) ∙ c.if-byte-eq-OPEN.true,
       broken_there bytes c.args.gate behind refl (inr (too_near bytes c.args.gate c.args.len behind c.requires.len c.if-len-gate.true)),

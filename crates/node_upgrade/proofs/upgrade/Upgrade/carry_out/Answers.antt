@@ -1,7 +1,7 @@
 use Rattle.std.proofs.Common.{inl, refl, subst}
 use Rattle.loaded_modules.specs.Loaded.{listed_in}
 use Rattle.relup_exec.specs.Outcome.{IsBroken, Start}
-use Rattle.script_progress.specs.InMemory.{cause_of}
+use Rattle.relup_exec.specs.InMemory.{cause_of}
 use Rattle.node_upgrade.specs.InMemory.{upgrade_of}
 use Rattle.node_upgrade.specs.Upgrade.{site_for}
 use Rattle.node_upgrade.proofs.upgrade.Upgrade.carry_out.Goals as goal

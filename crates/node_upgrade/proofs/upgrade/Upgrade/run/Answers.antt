@@ -1,7 +1,7 @@
 use Rattle.std.proofs.Common.{inr, ◌+◌, refl, sym, ap}
 use Rattle.std.proofs.lemmas.List.{length-map}
 use Rattle.relup_instruction.specs.Instruction.{instruction_of}
-use Rattle.script_progress.specs.Fault.Cause.{no_memory}
+use Rattle.relup_exec.specs.Fault.Cause.{no_memory}
 use Rattle.loaded_modules.specs.Loaded.{listed_in}
 use Rattle.node_upgrade.proofs.upgrade.Upgrade.run.Goals as goal
 

@@ -2,7 +2,7 @@ use Rattle.std.proofs.Common.{◌≡◌, length, is_some, map, string_bytes, ap,
 use Rattle.app_file.specs.InMemory.{specification_of}
 use Rattle.started_members.specs.Preparations.{AllBegan, preparation_of, to_begin}
 use Rattle.app_members.specs.InMemory.{new_members_of}
-use Rattle.loaded_modules.specs.Loaded.{modules_in, tables_of}
+use Rattle.app_members.specs.Loaded.{modules_in, tables_of}
 use Rattle.started_members.specs.Begins.{members_at}
 use Rattle.sup_tree.specs.Tree.{app_named}
 use Rattle.started_members.specs.Members.{pids_of}
