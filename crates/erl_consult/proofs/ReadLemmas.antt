@@ -4,7 +4,7 @@ use Rattle.std.proofs.lemmas.List.{length-append}
 use Rattle.std.specs.Prelude.{IsErrAnd, IsErrOf}
 use Rattle.std.specs.Io.KnownBytes.{Consumes, IsAtEnd}
 use Rattle.erl_term.specs.TermFault.TheVariants.{NoMemory}
-use Rattle.erl_consult.specs.Failures.{Reports}
+use Rattle.counted_io.specs.Failures.{Reports}
 use Rattle.erl_consult.specs.Listing.{HasTaken, HasRead, IsReported, TakesAtMost}
 use Rattle.erl_consult.specs.declared.error.ConsultError.{ConsultError}
 use Rattle.erl_consult.specs.declared.error.ConsultError.TheVariants.{Fault, Read, Write, TooLong}

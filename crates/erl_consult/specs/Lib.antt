@@ -1,3 +1,2 @@
 pub mod Listing
-pub mod Failures
 pub mod Exits

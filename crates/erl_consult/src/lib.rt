@@ -2,7 +2,7 @@
 //!
 //! What [`consult`] writes is a stated function of what it reads: `Lists` in `specs/Listing.antt`. A text that is too
 //! long is refused by its length, and one that is no row of terms by its fault; then nothing is written. A failed read
-//! and a failed write are reported exactly where one was (`Reports` in `specs/Failures.antt`), and nothing is tried again.
+//! and a failed write are reported exactly where one was (`Reports` of `counted_io`), and nothing is tried again.
 //! Where a write fails a prefix of the listing was written. Of a text that is too long no byte after the first too many
 //! is read.
 //!

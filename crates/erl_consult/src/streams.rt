@@ -3,7 +3,7 @@ ghost use Rattle.std.specs.Prelude.{◌≡◌, ◌≢◌, ◌⊎◌, ◌<◌, �
 ghost use Rattle.std.specs.Io.KnownBytes.{IsAtEnd};
 ghost use Rattle.counted_io.specs.Counted.{left_in, failed_reads, held_by, failed_writes};
 ghost use Rattle.erl_consult.specs.Listing.{HasTaken, HasRead, HasListed, HasBegun, IsReported, TakesAtMost};
-ghost use Rattle.erl_consult.specs.Failures.{Reports};
+ghost use Rattle.counted_io.specs.Failures.{Reports};
 
 use crate::error::ConsultError;
 use crate::listing::listing;

@@ -1,10 +1,10 @@
 -- Tests that hold of some slot.
-use Rattle.std.proofs.Common.{◌≡◌, ℕ, zero, suc, ◌+◌, ◌<◌, Bool, ◌&&◌, ◌||◌, true, false, refl, ap, ap₂, sym, subst, ◌∙◌, arith}
+use Rattle.std.proofs.Common.{◌≡◌, ℕ, zero, suc, ◌+◌, ◌<◌, Bool, ◌&&◌, ◌||◌, true, false, true≢false, refl, ap, ap₂, sym, subst, ◌∙◌, arith}
 use native.Mathlib.Decide.{ℕ_discrete}
 use mathlib.Core.Logic.{dite}
 use Rattle.held_processes.specs.Operations.{any_below}
 
-or_true : (a : Bool) → (a || true) ≡ true
+pub or_true : (a : Bool) → (a || true) ≡ true
 or_true true = refl
 or_true false = refl
 
@@ -14,6 +14,24 @@ any_found test zero p below e = absurd (omega (arith, below))
 any_found test (suc n) p below e = dite (ℕ_discrete p n)
     (λ is. ap (λ b. any_below test n || b) (subst (λ q. test q ≡ true) is e) ∙ or_true (any_below test n))
     (λ ne. ap (λ b. b || test n) (any_found test n p (omega (arith, below)) e))
+
+-- it holds of none of them
+pub not_at : (test : ℕ → Bool) (n p : ℕ) → p < n → any_below test n ≡ false → test p ≡ false
+not_at test n p below none = by (test p) refl
+  where
+    by : (b : Bool) → test p ≡ b → test p ≡ false
+    by true e = absurd (true≢false (sym (any_found test n p below e) ∙ none))
+    by false e = e
+
+-- one of which it holds, where it holds of no fewer then
+pub any_more : (f g : ℕ → Bool) (n : ℕ) → ((p : ℕ) → f p ≡ true → g p ≡ true) → any_below f n ≡ true → any_below g n ≡ true
+any_more f g zero more e = absurd (true≢false (sym e))
+any_more f g (suc n) more e = either (any_below f n) (f n) (any_below g n) (g n) (any_more f g n more) (more n) e
+  where
+    either : (a b c d : Bool) → (a ≡ true → c ≡ true) → (b ≡ true → d ≡ true) → (a || b) ≡ true → (c || d) ≡ true
+    either true b c d first second e = ap (λ x. x || d) (first refl)
+    either false true c d first second e = ap (λ x. c || x) (second refl) ∙ or_true c
+    either false false c d first second e = absurd (true≢false (sym e))
 
 -- it holds of none
 pub any_none : (test : ℕ → Bool) (n : ℕ) → ((p : ℕ) → p < n → test p ≡ false) → any_below test n ≡ false
@@ -28,6 +46,10 @@ any_alike f g (suc n) same = ap₂ (λ (a b : Bool). a || b) (any_alike f g n (�
 -- none so far, nor here
 pub one_more : (test : ℕ → Bool) (n : ℕ) → ((p : ℕ) → p < n → test p ≡ false) → test n ≡ false → (p : ℕ) → p < n + 1 → test p ≡ false
 one_more test n none here p below = dite (ℕ_discrete p n) (λ is. subst (λ q. test q ≡ false) (sym is) here) (λ ne. none p (omega (arith, below)))
+
+-- both
+pub both : (a b : Bool) → a ≡ true → b ≡ true → (a && b) ≡ true
+both a b x y = ap₂ (λ (p q : Bool). p && q) x y
 
 -- not both
 pub not_both : (a b : Bool) → (a ≡ true → b ≡ true → ⊥) → (a && b) ≡ false

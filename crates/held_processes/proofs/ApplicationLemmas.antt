@@ -25,7 +25,6 @@ use Rattle.proc_table.proofs.CountLemmas.{begins_take_one}
 use Rattle.proc_table.proofs.WaitLemmas.{held_and_released, since}
 use Rattle.mod_table.specs.Tables.{Tables}
 use Rattle.sup_tree.specs.declared.error.StartError.{StartError}
-use Rattle.sup_tree.specs.declared.error.StartError.TheVariants.{AlreadyStarted, NoTable, Unsupported, NoSlot, NoMemory}
 use Rattle.started_members.specs.declared.member.Member.{Member}
 use Rattle.started_members.specs.declared.member.StartedProcess.{StartedProcess}
 use Rattle.started_members.specs.Begins.{members_at, BeganInOrder, beginning_of}
@@ -35,7 +34,7 @@ use Rattle.sup_tree.specs.Stops.{StopsApp}
 use Rattle.sup_tree.specs.Tree.{App, app_pids, members_of}
 use Rattle.started_members.specs.Members.{pids_of, process_and, process_in, processes_among}
 use Rattle.sup_tree.specs.Walk.{Start, app_members, app_starts}
-use Rattle.held_processes.specs.Applications.{IsWhyNot, Scene, StartsIn, all_begun, all_ended, all_stopped, begun_at, ended_at, held_ended, known, match_pid, pids_for, state_ended, room_in, round_in, scene_at, taken_at, with_stopped, with_stopped_app}
+use Rattle.held_processes.specs.Applications.{StartsIn, all_begun, all_ended, all_stopped, begun_at, ended_at, held_ended, known, match_pid, pids_for, state_ended, round_in, scene_at, taken_at, with_stopped, with_stopped_app}
 use Rattle.held_processes.specs.Course.{Course, Courses, Hold, add_alone, added, course_after, if_held, let_go, add}
 use Rattle.held_processes.specs.Course.Hold.{not_held, until_point, until_resumed}
 use Rattle.held_processes.specs.Course.Operation.{give_up}
@@ -172,14 +171,6 @@ began_in_room app (s ∷ ss) v (p ∷ ps) w (u, began, is, later) =
 
 -- the start of an application
 
-why_not : (e : StartError) (name : List ℕ) (top : Option (List ℕ)) (tables : Tables) (s : Scene) (v : View) → free_count v ≡ room_in s.values s.courses → IsWhy e name top tables s.apps v
-    → IsWhyNot e name top tables s
-why_not AlreadyStarted name top tables s v room why = why
-why_not (NoTable m) name top tables s v room why = why
-why_not Unsupported name top tables s v room why = why
-why_not NoSlot name top tables s v room why = (why.0, why.1, subst (λ n. n < length (app_starts tables top)) room why.2)
-why_not NoMemory name top tables s v room why = why
-
 pub starts_in : {X : Type 0} (followed : Followed) (hs : HeldSlots) (v : View) (apps : List App) (name : List ℕ) (top : Option (List ℕ)) (tables : Tables) (r : Result X StartError) (apps' : List App) (w : View)
     → AllFollow followed.first followed.courses hs v → AllLegal v → StartsApp name top tables apps v r apps' w
     → StartsIn followed.first name top tables (scene_at followed apps) r apps' hs w
@@ -196,7 +187,7 @@ starts_in followed hs v apps name top tables (Ok x) apps' w f legal s =
       follow = began.follow;
     }
 starts_in followed hs v apps name top tables (Err e) apps' w f legal s = (
-  why_not e name top tables (scene_at followed apps) v (free_is followed.first followed.courses hs v f legal) s.0,
+  subst (IsWhy e name top tables apps) (free_is followed.first followed.courses hs v f legal) s.0,
   s.1,
   subst (AllFollow followed.first followed.courses hs) (sym s.2) f,
 )

@@ -1,5 +1,5 @@
 -- The courses of processes where applications are started and stopped (OTP: application:start/1 and stop/1).
-use Rattle.std.specs.Prelude.{◌≡◌, ℕ, zero, suc, ◌+◌, ◌<◌, ◌≤◌, ◌==◌, List, [], ◌∷◌, ◌++◌, length, reverse, is_some, IsSome, Option, Some, None, if◌then◌else◌, Result, Ok, Err}
+use Rattle.std.specs.Prelude.{◌≡◌, ℕ, zero, suc, ◌+◌, ◌<◌, ◌≤◌, ◌==◌, List, [], ◌∷◌, ◌++◌, length, reverse, is_some, Option, Some, None, if◌then◌else◌, Result, Ok, Err}
 use Rattle.std.proofs.Common.{arith}
 use Rattle.std.specs.Option.{option_map, option_or}
 use Rattle.proc_history.specs.declared.beginning.Beginning.{Beginning}
@@ -12,12 +12,11 @@ use Rattle.proc_table.specs.declared.view.View.{View}
 use Rattle.proc_table.specs.Agrees.{slots}
 use Rattle.mod_table.specs.Tables.{Tables}
 use Rattle.sup_tree.specs.declared.error.StartError.{StartError}
-use Rattle.sup_tree.specs.declared.error.StartError.TheVariants.{AlreadyStarted, NoTable, Unsupported, NoSlot, NoMemory}
 use Rattle.started_members.specs.declared.member.StartedProcess.{StartedProcess}
 use Rattle.started_members.specs.Begins.{beginning_of, members_at}
 use Rattle.started_members.specs.Ends.{stands}
 use Rattle.sup_tree.specs.Tree.{App, app_named, app_pids, without}
-use Rattle.sup_tree.specs.Walk.StartFault.{no_table, unsupported}
+use Rattle.sup_tree.specs.Starts.{IsWhy}
 use Rattle.sup_tree.specs.Walk.{Start, app_fault, app_members, app_starts}
 use Rattle.held_processes.specs.Course.{Courses, add_alone, added, if_held}
 use Rattle.held_processes.specs.Operations.{Values, give_up_at, values_seen}
@@ -137,16 +136,8 @@ pub record IsStartedIn (first : View) (name : List ℕ) (top : Option (List ℕ)
   pub tree : apps ≡ (with_started name top tables s).apps
   pub follow : AllFollow first (with_started name top tables s).courses hs w
 
--- why an application isn't started; memory is asked for only where it isn't yet
-abbrev pub IsWhyNot : StartError → List ℕ → Option (List ℕ) → Tables → Scene → Type 0
-IsWhyNot AlreadyStarted name top tables s = IsSome (app_named name s.apps)
-IsWhyNot (NoTable m) name top tables s = (app_named name s.apps ≡ None) × (app_fault tables top ≡ Some (no_table m.now))
-IsWhyNot Unsupported name top tables s = (app_named name s.apps ≡ None) × (app_fault tables top ≡ Some unsupported)
-IsWhyNot NoSlot name top tables s =
-    (app_named name s.apps ≡ None) × (app_fault tables top ≡ None) × (room_in s.values s.courses < length (app_starts tables top))
-IsWhyNot NoMemory name top tables s = app_named name s.apps ≡ None
-
 -- The application is started, or nothing was done.
 abbrev pub StartsIn : {X : Type 0} → View → List ℕ → Option (List ℕ) → Tables → Scene → Result X StartError → List App → HeldSlots → View → Type 0
 StartsIn first name top tables s (Ok x) apps hs w = IsStartedIn first name top tables s apps hs w
-StartsIn first name top tables s (Err e) apps hs w = IsWhyNot e name top tables s × (apps ≡ s.apps) × AllFollow first s.courses hs w
+StartsIn first name top tables s (Err e) apps hs w =
+    IsWhy e name top tables s.apps (room_in s.values s.courses) × (apps ≡ s.apps) × AllFollow first s.courses hs w

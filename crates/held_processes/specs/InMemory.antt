@@ -1,5 +1,5 @@
 -- What stands in memory, as definitions see it.
-use Rattle.std.specs.Prelude.{ℕ, Bool, true, false, Option}
+use Rattle.std.specs.Prelude.{◌≡◌, ◌<◌, ℕ, Bool, true, false, not, List, Option}
 use Rattle.held_processes.specs.declared.processes.Which.{Which}
 use Rattle.held_processes.specs.declared.processes.Which.TheVariants as which
 use Rattle.held_processes.specs.declared.held_process.Hold.{Hold}
@@ -7,12 +7,13 @@ use Rattle.held_processes.specs.declared.held_process.Hold.TheVariants.{UntilPoi
 use Rattle.held_processes.specs.declared.steps.Step.{Step}
 use Rattle.held_processes.specs.declared.steps.Step.TheVariants.{Suspend, Load, Stop, Start}
 use Rattle.held_processes.specs.Course as course
-use Rattle.held_processes.specs.Course.{Courses, Operation, on_all, on_module, runs}
+use Rattle.held_processes.specs.Course.{Courses, ModulesBySlot, Operation, on_all, on_module, runs}
+use Rattle.proc_table.specs.Agrees.{slots}
 use Rattle.sup_tree.specs.Tree.{module_in}
 use Rattle.std.specs.Option.{option_map_or}
 use Rattle.held_processes.specs.Following.{HeldForm}
 use Rattle.held_processes.specs.Course.Operation.{suspend, load, resume, stop, start, pass_point}
-use Rattle.held_processes.specs.Operations.{modules_by_slot}
+use Rattle.held_processes.specs.Operations.{is_held, modules_by_slot}
 use Rattle.held_processes.specs.Course.Hold.{until_point, until_resumed}
 
 abbrev pub hold_of : Hold → course.Hold
@@ -26,11 +27,15 @@ operation_of (Load alloc worker keep) = load keep worker.now
 operation_of Stop = stop
 operation_of Start = start
 
--- whether it asks for memory
-abbrev pub takes_memory : Step → Bool
-takes_memory (Suspend alloc) = true
-takes_memory (Load alloc worker keep) = true
-takes_memory s = false
+-- whether it asks for memory, for a process that is held so long
+abbrev pub takes_memory : Step → course.Hold → Bool
+takes_memory (Suspend alloc) h = not (is_held h)
+takes_memory (Load alloc worker keep) h = true
+takes_memory s h = false
+
+-- The process in this slot runs the module, and the step asks for memory for it.
+abbrev pub AsksAt : Step → ModulesBySlot → List ℕ → Courses → ℕ → Type 0
+AsksAt step users name cs slot = (slot < slots) × (runs name (users slot) ≡ true) × (takes_memory step (cs slot).hold ≡ true)
 
 -- the courses where some processes were let go
 abbrev pub behind_release : Which → Courses → Courses

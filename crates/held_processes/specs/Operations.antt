@@ -67,6 +67,14 @@ is_held_user users name cs p = runs name (users p) && is_held (cs p).hold
 abbrev pub holds_user : ModulesBySlot → List ℕ → Courses → Bool
 holds_user users name cs = any_slot (is_held_user users name cs)
 
+-- whether the process in this slot runs the module, and isn't held
+abbrev pub is_free_user : ModulesBySlot → List ℕ → Courses → ℕ → Bool
+is_free_user users name cs p = runs name (users p) && not (is_held (cs p).hold)
+
+-- whether a process of the module isn't held
+abbrev pub has_free_user : ModulesBySlot → List ℕ → Courses → Bool
+has_free_user users name cs = any_slot (is_free_user users name cs)
+
 -- whether the code of a process of the module can't be changed: it is held and up, and has no row for that
 abbrev pub lacks_row_at : OldVersion → term.Value → Values → ModulesBySlot → List ℕ → Courses → ℕ → Bool
 lacks_row_at old extra seen users name cs p = is_held_user users name cs p && not (finds_row old extra (now_in seen cs p))

@@ -1,5 +1,5 @@
 //! The processes of all slots.
-ghost use Rattle.std.specs.Prelude.{◌≡◌, ℕ, IfOk, None, OnErr, slice_index_or, true};
+ghost use Rattle.std.specs.Prelude.{◌≡◌, ℕ, IfErr, IfOk, None, OnErr, slice_index_or, true};
 ghost use Rattle.std.specs.Option.{option_map};
 ghost use Rattle.erl_term.specs.Value.{value_of};
 ghost use Rattle.worker_table.specs.InMemory.{old_of};
@@ -8,8 +8,8 @@ ghost use Rattle.proc_table.specs.Views.{seen};
 ghost use Rattle.held_processes.specs.Course.{Courses, on_all, on_module, opening};
 ghost use Rattle.held_processes.specs.Course.Operation.{suspend, load, resume, stop, start, pass_point, finish};
 ghost use Rattle.held_processes.specs.Following.{AllFollow, AreLeft, AreLonger, Followed, HoldsNothing};
-ghost use Rattle.held_processes.specs.InMemory.{behind_release, is_released, operation_of, takes_memory};
-ghost use Rattle.held_processes.specs.Operations.{Changes, IsDone, ReportsHeldUser, give_up_at, modules_by_slot, uses_up, values_seen};
+ghost use Rattle.held_processes.specs.InMemory.{AsksAt, behind_release, is_released, operation_of};
+ghost use Rattle.held_processes.specs.Operations.{Changes, IsDone, ReportsHeldUser, give_up_at, has_free_user, modules_by_slot, uses_up, values_seen};
 
 use crate::Users;
 use crate::held_process::HeldProcess;
@@ -62,7 +62,7 @@ impl HeldProcesses {
     }
 
     /// The processes of the module are held until they are resumed. It waits until no client has them. Where memory is
-    /// refused, some of them aren't held.
+    /// refused, some of them aren't held. It asks for memory only for one that isn't held yet.
     pub fn suspend<R: Wait>(
         &mut self,
         rt: &R,
@@ -77,6 +77,8 @@ impl HeldProcesses {
         ensures table { seat.new.table ≡ seat.old.table }
         ensures done { IsDone followed.first (modules_by_slot users.now.tree.now)
             users.now.module.now suspend followed.courses result self.new seat.new.view }
+        ensures asks { OnErr result (has_free_user (modules_by_slot users.now.tree.now)
+            users.now.module.now followed.courses ≡ true) }
         ensures longer { AreLonger seat.old.view seat.new.view }
     {
         self.perform(rt, table, seat, users, Step::Suspend(alloc))
@@ -309,7 +311,8 @@ impl HeldProcesses {
         ensures done { IsDone followed.first (modules_by_slot users.now.tree.now)
             users.now.module.now (operation_of step.entry) followed.courses result self.new
             seat.new.view }
-        ensures failed { OnErr result (takes_memory step.entry ≡ true) }
+        ensures failed { IfErr result (λ e. AsksAt step.entry (modules_by_slot users.now.tree.now)
+            users.now.module.now followed.courses e.slot) }
         ensures longer { AreLonger seat.old.view seat.new.view }
     {
         for slot in 0..self.places.len() {

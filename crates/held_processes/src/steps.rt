@@ -1,11 +1,12 @@
 //! What is done to the process of one slot.
-ghost use Rattle.std.specs.Prelude.{◌≡◌, OnErr, None, Some, true, is_some};
+ghost use Rattle.std.specs.Prelude.{◌≡◌, OnErr, None, Some, true, not, is_some};
 ghost use Rattle.erl_term.specs.Value.{value_of};
 ghost use Rattle.worker_table.specs.InMemory.{old_of};
 ghost use Rattle.held_processes.specs.Course.{add_alone, if_held, course_after};
 ghost use Rattle.held_processes.specs.Course.Operation.{suspend, load, resume, stop, start, give_up};
 ghost use Rattle.held_processes.specs.Following.{AreLonger};
 ghost use Rattle.held_processes.specs.InMemory.{operation_of, takes_memory};
+ghost use Rattle.held_processes.specs.Operations.{is_held};
 ghost use Rattle.held_processes.specs.Slots.{SlotPast, IsFollowed, Steps, StepsBy, ChangesAt, value_with};
 ghost use Rattle.proc_history.specs.Values.{up_at};
 ghost use Rattle.proc_table.specs.Views.{seen};
@@ -51,7 +52,7 @@ pub(crate) fn perform<R: Wait>(
     ensures table { seat.new.table ≡ seat.old.table }
     ensures done { StepsBy past pid.slot (operation_of step.entry)
         seat.old.view result place.new seat.new.view }
-    ensures failed { OnErr result (takes_memory step.entry ≡ true) }
+    ensures failed { OnErr result (takes_memory step.entry past.course.hold ≡ true) }
     ensures longer { AreLonger seat.old.view seat.new.view }
 {
     match step {
@@ -75,6 +76,7 @@ fn suspend<R: Wait>(
     requires followed { IsFollowed past pid.slot past.course seat.old.view place.old }
     ensures table { seat.new.table ≡ seat.old.table }
     ensures done { StepsBy past pid.slot suspend seat.old.view result place.new seat.new.view }
+    ensures free { OnErr result (not (is_held past.course.hold) ≡ true) }
     ensures longer { AreLonger seat.old.view seat.new.view }
 {
     match place {

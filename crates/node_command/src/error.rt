@@ -11,7 +11,8 @@ use std::alloc::{AllocError, AllocFailed};
 use std::fmt::{self, Debug, Display, Formatter};
 use thiserror::Error;
 
-/// Why a command was refused. Nothing has changed then, but after `Device`.
+/// Why a command was refused. Where a handler reports it, nothing has changed, but after `Device`. A session reports `NoMemory`
+/// also where a command was done, and there was no memory for its line.
 #[derive(Error)]
 pub enum HandlerError {
     /// The list has no release of this version.
@@ -22,7 +23,7 @@ pub enum HandlerError {
     AlreadyInstalled,
     /// The release has this status, and would need another one.
     BadStatus(Status),
-    /// The release is to be removed, and is the one that is booted.
+    /// The release is to be removed, and is the permanent one.
     Permanent,
     /// The release is to be removed, and runs.
     Running,

@@ -12,7 +12,8 @@
 //! is refused for the list and its limits; `change_size`, `made_size` and `unpacked_size` say how many bytes the body of its
 //! record has. A [`HandlerError`] is why a command is refused, by the files, the list, or the disk below.
 //!
-//! Only tested: that a call succeeds where memory is there. Trusted: the toolchain and `thiserror`.
+//! Only tested: that a call succeeds where memory is there. Trusted: `thiserror`, and the
+//! toolchain with what the crates below trust.
 #![tactic(auto)]
 
 mod error;

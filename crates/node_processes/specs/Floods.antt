@@ -1,9 +1,8 @@
 -- What a flood of a process answers and leaves: calls with one input, as many as are asked.
-use Rattle.std.specs.Prelude.{◌≡◌, ℕ, ◌-◌, List, [], ◌∷◌, ◌++◌, codes, decimal, length, slice_set, Option, Some, None}
+use Rattle.std.specs.Prelude.{◌≡◌, ◌≤◌, ℕ, ◌-◌, List, [], ◌∷◌, ◌++◌, codes, decimal, length, slice_set, Option, Some, None}
 use Rattle.proc_history.specs.declared.value.Outcome.{Outcome}
 use Rattle.proc_history.specs.declared.value.Value.{Value}
 use Rattle.proc_history.specs.Events.Event.{call}
-use Rattle.proc_history.specs.Outcomes.{after_call, outcome_in}
 use Rattle.proc_history.specs.Values.{after}
 use Rattle.proc_table.specs.declared.pid.Pid.{Pid}
 use Rattle.proc_workers.specs.Floods.{crashed_in, done_in, ended_in, outcomes_of}
@@ -46,12 +45,6 @@ flooded_at input times ps (Some p) =
 abbrev pub flooded : List ℕ → List ℕ → ℕ → ℕ → Processes → Processes
 flooded app id input times ps = flooded_at input times ps (process_named app id ps)
 
--- What calls with these inputs make of a value, one after another. One that finds no process of this round up leaves it.
-abbrev pub after_inputs : ℕ → List ℕ → Value → Value
-after_inputs round [] v = v
-after_inputs round (i ∷ is) v = after_inputs round is (after_call v i (outcome_in round i v))
-
--- Some calls of this process were made, with some inputs. Where there is no process, nothing has changed.
-abbrev pub LeftByCalls : Option Pid → Processes → Processes → Type 0
-LeftByCalls None ps qs = qs ≡ ps
-LeftByCalls (Some p) ps qs = (inputs : List ℕ) × (qs ≡ record ps { values = slice_set ps.values p.slot (after_inputs p.round inputs (value_at ps p)) })
+-- At most so many calls of the process were made with this input, and no others.
+abbrev pub LeftByCalls : List ℕ → List ℕ → ℕ → ℕ → Processes → Processes → Type 0
+LeftByCalls app id input times ps qs = (n : ℕ) × (n ≤ times) × (qs ≡ flooded app id input n ps)

@@ -4,7 +4,6 @@ ghost use Rattle.proc_table.specs.Waits.{IsAnswer};
 ghost use Rattle.node_processes.specs.Answers.{call_line, called, modules_line, peek_line, processes_line};
 ghost use Rattle.node_processes.specs.Floods.{counts_line, flood_line, flooded, LeftByCalls};
 ghost use Rattle.node_processes.specs.InMemory.{AreSound, processes_in, tried_line};
-ghost use Rattle.node_processes.specs.Processes.{process_named};
 
 use crate::Processes;
 use node_listing::{push_count, push_module};
@@ -99,8 +98,8 @@ impl Processes {
     }
 
     /// Calls a process so often with one input, from threads. The answer reports how often each outcome came, and how often the
-    /// process was down; or that the application has no such process. Where memory is refused, some calls of the process may have
-    /// been made, with some inputs.
+    /// process was down; or that the application has no such process. Where memory is refused, some of the calls may have been
+    /// made, and no others.
     pub fn flood<R: Threads + Wait + Sync>(
         &mut self,
         rt: &R,
@@ -116,8 +115,7 @@ impl Processes {
             ≡ flooded app.now id.now input times (processes_in self.old)) }
         ensures reported { IfOk result (λ text. string_bytes text
             ≡ flood_line app.now id.now input times (processes_in self.old)) }
-        ensures refused { OnErr result
-            (LeftByCalls (process_named app.now id.now (processes_in self.old))
+        ensures refused { OnErr result (LeftByCalls app.now id.now input times
             (processes_in self.old) (processes_in self.new)) }
     {
         match self.tree.find(app, id) {

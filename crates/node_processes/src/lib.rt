@@ -12,7 +12,7 @@
 //! comes to the processes (specs/Scripts).
 //!
 //! All but `list_modules` wait for slots; nobody else has any. Only tested: that they return, and succeed where memory is there.
-//! Trusted: the toolchain alone, `atomic_table` with it.
+//! Trusted: the toolchain, with what the crates below trust.
 #![tactic(auto)]
 
 mod commands;

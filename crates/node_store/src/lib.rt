@@ -11,7 +11,8 @@
 //! with a one-shot is never compacted (`may_be_compacted`): its store has room for the record of the next boot (`HasBootSpace`),
 //! and is of format 2 (`format`).
 //! What commands ask before they commit, and the boot, are `rel_handler`'s. Clauses see bytes as an image (`IsImageOf`) alone.
-//! Only tested: that a commit succeeds where memory is there. Trusted: the toolchain.
+//! Only tested: that a commit succeeds where memory is there. Trusted: the
+//! toolchain, with what the crates below trust.
 #![tactic(auto)]
 
 mod commit;

@@ -7,7 +7,8 @@
 //! that is refused before its point of no return has added nothing to any history, and one that fails behind it did what it did
 //! until then (`refused`). It waits for processes that clients have.
 //!
-//! Only tested: that a script is carried out where memory is there. Trusted: the toolchain alone.
+//! Only tested: that a script is carried out where memory is there. Trusted: the toolchain,
+//! with what the crates below trust.
 #![tactic(auto)]
 
 mod error;

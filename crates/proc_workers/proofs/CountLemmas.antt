@@ -1,16 +1,19 @@
--- What one answer more makes of the counts.
-use Rattle.std.proofs.Common.{◌≡◌, ◌<◌, ◌≤◌, ℕ, ◌+◌, List, [], ◌∷◌, ◌++◌, length, refl, ap, sym, subst, ◌∙◌, arith, append-nil, length-append}
+-- What one answer more makes of the counts, and of what the worker of a flood has done.
+use Rattle.std.proofs.Common.{◌≡◌, ◌<◌, ◌≤◌, ℕ, ◌+◌, List, [], ◌∷◌, ◌++◌, length, refl, ap, sym, subst, subst₂, ◌∙◌, inl, arith, append-nil, length-append, Some, None}
 use Rattle.proc_history.specs.declared.value.Outcome.{Outcome}
 use Rattle.proc_history.specs.declared.value.Outcome.TheVariants as outcome
 use Rattle.proc_table.specs.declared.pass.Tried.{Tried}
 use Rattle.proc_table.specs.declared.pass.Tried.TheVariants as tried
 use Rattle.proc_table.specs.declared.pid.Pid.{Pid}
-use Rattle.proc_table.specs.Waits.{IsAnswer}
+use Rattle.proc_table.specs.declared.view.View.{View}
+use Rattle.proc_table.specs.Waits.{AnswersAtLast, IsAnswer}
 use Rattle.proc_workers.specs.declared.floods.FloodCounts.{FloodCounts}
 use Rattle.proc_workers.specs.declared.note.Answer.{Answer}
-use Rattle.proc_workers.specs.Counted.{AreCounted, AreOf, HasRoomForOne, noted, outcome_before, outcomes_in}
+use Rattle.proc_workers.specs.declared.note.Job.{Job}
+use Rattle.proc_workers.specs.Counted.{AreCounted, AreOf, HasCalled, HasCounted, HasRoomForOne, noted, outcome_before, outcomes_in}
 use Rattle.proc_workers.specs.Floods.{Counts, crashed_in, done_in, ended_in}
 use Rattle.proc_workers.specs.Processes.{IsProcess}
+use Rattle.proc_workers.proofs.WorkLemmas.{answered_more, answered_nothing}
 
 before_more : (t : Tried) (os more : List Outcome) → outcome_before t (os ++ more) ≡ outcome_before t os ++ more
 before_more (tried.Done r) os more = refl
@@ -110,3 +113,40 @@ room_for_one pid input n xs f c lt =
     let d = ended_short os in
     let long = c.counts.down in
     record { done = omega (arith, a, c.counts.done, long); crashed = omega (arith, b, c.counts.crashed, long); ended = omega (arith, d, c.counts.ended, long); down = omega arith }
+
+-- ---- the worker of a flood
+pub none_counted : (pid : Pid) (input : ℕ) (v : View) → HasCounted pid input 0 v (record { done = 0; crashed = 0; ended = 0; down = 0 }) v
+none_counted pid input v = record {
+  answers = [];
+  answered = answered_nothing pid v;
+  counted = record { long = refl; are_of = tt; counts = record { done = refl; crashed = refl; ended = refl; down = refl } };
+}
+
+pub call_counted : (pid : Pid) (input n : ℕ) (v u w : View) (f : FloodCounts) (j : Job) (t : Tried) → HasCounted pid input n v f u → j.input ≡ input → IsProcess pid j.pid
+    → AnswersAtLast j.pid.slot j.pid.round j.input u t w → HasCounted pid input (n + 1) v (noted t f) w
+call_counted pid input n v u w f j t h is names at =
+    let a : Answer = record { number = j.number; pid = j.pid; input = j.input; tried = t } in
+    let here : AnswersAtLast pid.slot pid.round j.input u t w = subst₂ (λ (p round : ℕ). AnswersAtLast p round j.input u t w) names.0 names.1 at in
+    record {
+      answers = h.answers ++ a ∷ [];
+      answered = answered_more pid v h.answers u a j w h.answered refl (inl (names, here));
+      counted = one_counted pid input n h.answers f a h.counted is names at.is_answer;
+    }
+
+pub stops_early : (pid : Pid) (input n times : ℕ) (v : View) (f : FloodCounts) (w : View) → HasCounted pid input n v f w → n ≤ times → HasCalled pid input times v None w
+stops_early pid input n times v f w h le = record {
+  answers = h.answers;
+  answered = h.answered;
+  are_of = h.counted.are_of;
+  most = let long = h.counted.long in omega arith;
+  counted = tt;
+}
+
+pub all_called : (pid : Pid) (input times : ℕ) (v : View) (f : FloodCounts) (w : View) → HasCounted pid input times v f w → HasCalled pid input times v (Some f) w
+all_called pid input times v f w h = record {
+  answers = h.answers;
+  answered = h.answered;
+  are_of = h.counted.are_of;
+  most = let long = h.counted.long in omega arith;
+  counted = h.counted;
+}

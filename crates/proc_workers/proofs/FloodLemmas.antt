@@ -22,25 +22,26 @@ use Rattle.proc_table.specs.declared.view.View.{View}
 use Rattle.proc_table.specs.Alone.{ByOnePass}
 use Rattle.proc_table.specs.Calls.{Made, Joined, tried_of}
 use Rattle.proc_table.specs.Parts.{Part, part_of, longer}
+use Rattle.proc_table.specs.Together.{answered}
 use Rattle.proc_table.specs.Views.{seen, all_but}
 use Rattle.proc_table.proofs.AloneLemmas.{longer_of}
 use Rattle.proc_table.proofs.LentLemmas.{only_lent, none_left}
 use Rattle.proc_workers.specs.declared.floods.FloodCounts.{FloodCounts}
 use Rattle.proc_workers.specs.declared.note.Answer.{Answer}
-use Rattle.proc_workers.specs.Counted.{AreCounted, AreOf, outcome_before, outcomes_in}
-use Rattle.proc_workers.specs.Floods.{and_then, calls_in_turn, calls_with, Counts, IsBrokenOff, IsFlooded, outcomes_of}
-use Rattle.proc_workers.specs.Work.{calls_of, entries_of, AnswersBy, AnswersInTurn, HasAnswered}
+use Rattle.proc_workers.specs.Counted.{AreOf, HasCalled, outcome_before, outcomes_in}
+use Rattle.proc_workers.specs.Floods.{and_then, calls_with, Counts, IsBrokenOff, IsFlooded, outcomes_of}
+use Rattle.proc_workers.specs.Work.{calls_of, AnswersBy, AnswersInTurn, HasAnswered}
 
 -- ---- answers with nothing between
 -- Each answer was given by what the calls of those before it left.
 abbrev AnswersAtOnce : Pid → ℕ → List HistoryEntry → List Answer → Type 0
 AnswersAtOnce pid k h [] = Unit {0}
-AnswersAtOnce pid k h (a ∷ more) = AnswersBy pid h a × AnswersAtOnce pid k (h ++ entries_of k a.input a.tried) more
+AnswersAtOnce pid k h (a ∷ more) = AnswersBy pid h a × AnswersAtOnce pid k (h ++ answered k a.input a.tried) more
 
 turns_longer : (pid : Pid) (k : ℕ) (h : List HistoryEntry) (answers : List Answer) (g : List HistoryEntry) → AnswersInTurn pid k h answers g → IsPrefix h g
 turns_longer pid k h [] g turns = turns
 turns_longer pid k h (a ∷ more) g turns =
-    let new = entries_of k a.input a.tried in
+    let new = answered k a.input a.tried in
     prefix_trans h turns.0 g turns.1 (prefix_trans turns.0 (turns.0 ++ new) g (prefix_more turns.0 new) (turns_longer pid k (turns.0 ++ new) more g turns.3))
 
 -- what was seen at last has room for all calls
@@ -50,7 +51,7 @@ turns_within pid k h [] g turns =
     let parts = length-append h turns.0 in
     omega arith
 turns_within pid k h (a ∷ more) g turns =
-    let new = entries_of k a.input a.tried in
+    let new = answered k a.input a.tried in
     let rest = turns_within pid k (turns.0 ++ new) more g turns.3 in
     let here = length-append turns.0 new in
     let calls = length-append new (calls_of k more) in
@@ -67,7 +68,7 @@ come_at_once pid k h (a ∷ more) g turns is = (
 )
   where
     new : List HistoryEntry
-    new = entries_of k a.input a.tried
+    new = answered k a.input a.tried
 
     short : length turns.0 ≤ length h
     short =
@@ -85,7 +86,7 @@ come_at_once pid k h (a ∷ more) g turns is = (
         prefix_both turns.0 h (prefix_shorter turns.0 h g within begins short) turns.1
 
 -- what a call adds, and leaves
-entries_are : (k input : ℕ) (o : Option Outcome) → entries_of k input (tried_of o) ≡ call_entries k input o
+entries_are : (k input : ℕ) (o : Option Outcome) → answered k input (tried_of o) ≡ call_entries k input o
 entries_are k input None = refl
 entries_are k input (Some (outcome.Done r)) = refl
 entries_are k input (Some outcome.Crashed) = refl
@@ -95,42 +96,15 @@ left_behind : (k input : ℕ) (h : List HistoryEntry) (o : Option Outcome) → r
 left_behind k input h None = ap replay (append-nil h)
 left_behind k input h (Some o) = replay-append nothing h (entry k (call input o) ∷ [])
 
-answer_leaves : (k input : ℕ) (h : List HistoryEntry) (t : Tried) (o : Option Outcome) → t ≡ tried_of o → replay (h ++ entries_of k input t) ≡ after_call (replay h) input o
-answer_leaves k input h t o is = ap (λ (x : Tried). replay (h ++ entries_of k input x)) is
+answer_leaves : (k input : ℕ) (h : List HistoryEntry) (t : Tried) (o : Option Outcome) → t ≡ tried_of o → replay (h ++ answered k input t) ≡ after_call (replay h) input o
+answer_leaves k input h t o is = ap (λ (x : Tried). replay (h ++ answered k input x)) is
     ∙ (ap (λ (l : List HistoryEntry). replay (h ++ l)) (entries_are k input o) ∙ left_behind k input h o)
 
-down_leaves : (k input : ℕ) (h : List HistoryEntry) (t : Tried) → t ≡ tried.Down → replay (h ++ entries_of k input t) ≡ replay h
+down_leaves : (k input : ℕ) (h : List HistoryEntry) (t : Tried) → t ≡ tried.Down → replay (h ++ answered k input t) ≡ replay h
 down_leaves k input h t is = answer_leaves k input h t None is
 
--- ---- the calls of such answers
--- They are calls in turn, with some inputs.
-abbrev AreInTurn : Pid → ℕ → List HistoryEntry → List Answer → Type 0
-AreInTurn pid k h answers = (inputs : List ℕ) × (calls_of k answers ≡ calls_in_turn k pid.round inputs (replay h))
-
-one_called : (pid : Pid) (k : ℕ) (h : List HistoryEntry) (a : Answer) (more : List Answer) → a.tried ≡ tried_of (outcome_in pid.round a.input (replay h))
-    → AreInTurn pid k (h ++ entries_of k a.input a.tried) more → AreInTurn pid k h (a ∷ more)
-one_called pid k h a more is rest =
-    let o = outcome_in pid.round a.input (replay h) in
-    let first : entries_of k a.input a.tried ≡ call_entries k a.input o = ap (λ (t : Tried). entries_of k a.input t) is ∙ entries_are k a.input o in
-    let others = rest.1 ∙ ap (calls_in_turn k pid.round rest.0) (answer_leaves k a.input h a.tried o is) in
-    (a.input ∷ rest.0, ap (λ (l : List HistoryEntry). l ++ calls_of k more) first ∙ ap (λ (l : List HistoryEntry). call_entries k a.input o ++ l) others)
-
-one_named : (pid : Pid) (k : ℕ) (h : List HistoryEntry) (a : Answer) (more : List Answer) → a.tried ≡ tried.Down
-    → AreInTurn pid k (h ++ entries_of k a.input a.tried) more → AreInTurn pid k h (a ∷ more)
-one_named pid k h a more is rest = (
-  rest.0,
-  ap (λ (t : Tried). entries_of k a.input t ++ calls_of k more) is ∙ (rest.1 ∙ ap (calls_in_turn k pid.round rest.0) (down_leaves k a.input h a.tried is)),
-)
-
--- the inputs are those of the jobs that named the process
-are_in_turn : (pid : Pid) (k : ℕ) (h : List HistoryEntry) (answers : List Answer) → AnswersAtOnce pid k h answers → AreInTurn pid k h answers
-are_in_turn pid k h [] once = ([], refl)
-are_in_turn pid k h (a ∷ more) once =
-    let rest = are_in_turn pid k (h ++ entries_of k a.input a.tried) more once.1 in
-    ⊎_elim (λ called. one_called pid k h a more called.1 rest) (λ other. one_named pid k h a more other.1 rest) once.0
-
 -- ---- calls with one input
-call_first : (k input : ℕ) (given : ℕ) (t : Tried) (es : List HistoryEntry) (os : List Outcome) → given ≡ input → es ≡ calls_with k input os → entries_of k given t ++ es ≡ calls_with k input (outcome_before t os)
+call_first : (k input : ℕ) (given : ℕ) (t : Tried) (es : List HistoryEntry) (os : List Outcome) → given ≡ input → es ≡ calls_with k input os → answered k given t ++ es ≡ calls_with k input (outcome_before t os)
 call_first k input given (tried.Done r) es os is rest = ap (λ (n : ℕ). entry k (call n (outcome.Done r)) ∷ es) is ∙ ap (λ (l : List HistoryEntry). entry k (call input (outcome.Done r)) ∷ l) rest
 call_first k input given tried.Crashed es os is rest = ap (λ (n : ℕ). entry k (call n outcome.Crashed) ∷ es) is ∙ ap (λ (l : List HistoryEntry). entry k (call input outcome.Crashed) ∷ l) rest
 call_first k input given (tried.Ended r) es os is rest = ap (λ (n : ℕ). entry k (call n (outcome.Ended r)) ∷ es) is ∙ ap (λ (l : List HistoryEntry). entry k (call input (outcome.Ended r)) ∷ l) rest
@@ -153,7 +127,7 @@ outcome_first outcome.Crashed os = refl
 outcome_first (outcome.Ended r) os = refl
 
 one_outcome : (round k input n : ℕ) (h : List HistoryEntry) (t : Tried) (os : List Outcome) (o : Option Outcome) → outcome_in round input (replay h) ≡ o → t ≡ tried_of o
-    → outcomes_of round input n (replay (h ++ entries_of k input t)) ≡ os → outcomes_of round input (suc n) (replay h) ≡ outcome_before t os
+    → outcomes_of round input n (replay (h ++ answered k input t)) ≡ os → outcomes_of round input (suc n) (replay h) ≡ outcome_before t os
 one_outcome round k input n h t os None is tried_is rest =
     no_outcomes round input (suc n) (replay h) is
     ∙ sym (ap (λ (x : Tried). outcome_before x os) tried_is
@@ -170,9 +144,9 @@ outcomes_are pid k input zero h [] long of once = refl
 outcomes_are pid k input zero h (a ∷ more) long of once = absurd (omega arith)
 outcomes_are pid k input (suc n) h [] long of once = absurd (omega arith)
 outcomes_are pid k input (suc n) h (a ∷ more) long of once =
-    let rest = outcomes_are pid k input n (h ++ entries_of k a.input a.tried) more (omega arith) of.2 once.1 in
-    let rest' : outcomes_of pid.round input n (replay (h ++ entries_of k input a.tried)) ≡ outcomes_in more =
-    subst (λ (i : ℕ). outcomes_of pid.round input n (replay (h ++ entries_of k i a.tried)) ≡ outcomes_in more) of.0 rest in
+    let rest = outcomes_are pid k input n (h ++ answered k a.input a.tried) more (omega arith) of.2 once.1 in
+    let rest' : outcomes_of pid.round input n (replay (h ++ answered k input a.tried)) ≡ outcomes_in more =
+    subst (λ (i : ℕ). outcomes_of pid.round input n (replay (h ++ answered k i a.tried)) ≡ outcomes_in more) of.0 rest in
     ⊎_elim
     (λ called. one_outcome pid.round k input n h a.tried (outcomes_in more) (outcome_in pid.round input (replay h)) refl
     (subst (λ (i : ℕ). a.tried ≡ tried_of (outcome_in pid.round i (replay h))) of.0 called.1) rest')
@@ -264,21 +238,25 @@ taken_back pid v one pass w both answers none made h j = record {
         let begins : IsPrefix (seen v q) (seen v q) = ([], append-nil (seen v q)) in
         j.seen_is q ∙ (ap (λ (l : List HistoryEntry). longer l (seen w q)) (here q) ∙ (ap (longer (seen v q)) behind ∙ longer_of (seen v q) (seen v q) begins))
 
-pub is_flooded : (pid : Pid) (input times : ℕ) (v one pass w both : View) (answers : List Answer) (f : FloodCounts) → v.lent ≡ [] → Made v one pass → HasAnswered pid pass answers w → Joined one w both
-    → AreCounted pid input times answers f → IsFlooded pid input times v f both
-is_flooded pid input times v one pass w both answers f none made h j c =
+pub is_flooded : (pid : Pid) (input times : ℕ) (v one pass w both : View) (f : FloodCounts) → v.lent ≡ [] → Made v one pass → HasCalled pid input times pass (Some f) w → Joined one w both
+    → IsFlooded pid input times v f both
+is_flooded pid input times v one pass w both f none made h j =
     let k = v.count + 1 in
     let before = seen v pid.slot in
-    let back = taken_back pid v one pass w both answers none made h j in
-    let found : outcomes_in answers ≡ outcomes_of pid.round input times (replay before) = sym (outcomes_are pid k input times before answers c.long c.are_of back.once) in
+    let back = taken_back pid v one pass w both h.answers none made h.answered j in
+    let found : outcomes_in h.answers ≡ outcomes_of pid.round input times (replay before) = sym (outcomes_are pid k input times before h.answers h.counted.long h.are_of back.once) in
     record {
-      counts = subst (λ (l : List Outcome). Counts times l f) found c.counts;
-      seen_is = back.seen_is ∙ ap (λ (l : List HistoryEntry). before ++ l) (calls_are pid k input answers c.are_of ∙ ap (calls_with k input) found);
+      counts = subst (λ (l : List Outcome). Counts times l f) found h.counted.counts;
+      seen_is = back.seen_is ∙ ap (λ (l : List HistoryEntry). before ++ l) (calls_are pid k input h.answers h.are_of ∙ ap (calls_with k input) found);
       rest = back.rest;
     }
 
-pub is_broken_off : (pid : Pid) (v one pass w both : View) (answers : List Answer) → v.lent ≡ [] → Made v one pass → HasAnswered pid pass answers w → Joined one w both → IsBrokenOff pid v both
-is_broken_off pid v one pass w both answers none made h j =
-    let back = taken_back pid v one pass w both answers none made h j in
-    let calls = are_in_turn pid (v.count + 1) (seen v pid.slot) answers back.once in
-    inr (calls.0, back.seen_is ∙ ap (λ (l : List HistoryEntry). seen v pid.slot ++ l) calls.1, back.rest)
+pub is_broken_off : (pid : Pid) (input times : ℕ) (v one pass w both : View) (counts : Option FloodCounts) → v.lent ≡ [] → Made v one pass → HasCalled pid input times pass counts w → Joined one w both
+    → IsBrokenOff pid input times v both
+is_broken_off pid input times v one pass w both counts none made h j =
+    let k = v.count + 1 in
+    let before = seen v pid.slot in
+    let n = length h.answers in
+    let back = taken_back pid v one pass w both h.answers none made h.answered j in
+    let found : outcomes_in h.answers ≡ outcomes_of pid.round input n (replay before) = sym (outcomes_are pid k input n before h.answers refl h.are_of back.once) in
+    inr (n, h.most, back.seen_is ∙ ap (λ (l : List HistoryEntry). before ++ l) (calls_are pid k input h.answers h.are_of ∙ ap (calls_with k input) found), back.rest)

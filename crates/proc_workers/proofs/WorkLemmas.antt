@@ -17,11 +17,12 @@ use Rattle.proc_table.specs.declared.pass.Tried.TheVariants as tried
 use Rattle.proc_table.specs.Parts.{Part, part_of}
 use Rattle.proc_table.specs.Views.{seen, mine}
 use Rattle.proc_table.specs.Calls.{Elsewhere, Looked, Called, tried_of}
+use Rattle.proc_table.specs.Together.{answered}
 use Rattle.proc_table.specs.Waits.{Waited, AnswersAtLast}
 use Rattle.proc_workers.specs.declared.note.Answer.{Answer}
 use Rattle.proc_workers.specs.declared.note.Job.{Job}
 use Rattle.proc_workers.specs.Processes.{IsProcess}
-use Rattle.proc_workers.specs.Work.{job_of, entries_of, calls_of, AnswersBy, AnswersEach, AnswersInTurn, HasAnswer, HasAnswered}
+use Rattle.proc_workers.specs.Work.{job_of, calls_of, AnswersBy, AnswersEach, AnswersInTurn, HasAnswer, HasAnswered}
 
 -- ---- a call that was waited for
 -- What a call leaves, since before the waiting: it was answered by a history, and its entry stands right behind that.
@@ -84,7 +85,7 @@ looked_since p round input v u w was c down =
       elsewhere = elsewhere_since p v u w was c.rest;
     }
 
-since_call : (p round input : ℕ) (v : View) (t : Tried) (w : View) → AnswersAtLast p round input v t w → Since p round input t (entries_of v.number input t) v w
+since_call : (p round input : ℕ) (v : View) (t : Tried) (w : View) → AnswersAtLast p round input v t w → Since p round input t (answered v.number input t) v w
 since_call p round input v (tried.Done r) w a = called_since p round input (outcome.Done r) v a.before w a.waited a.answers
 since_call p round input v tried.Crashed w a = called_since p round input outcome.Crashed v a.before w a.waited a.answers
 since_call p round input v (tried.Ended r) w a = called_since p round input (outcome.Ended r) v a.before w a.waited a.answers
@@ -93,17 +94,17 @@ since_call p round input v tried.Busy w a = absurd a.is_answer
 since_call p round input v tried.Held w a = absurd a.is_answer
 
 -- ---- one answer more
-calls_more : (n : ℕ) (answers : List Answer) (a : Answer) → calls_of n (answers ++ a ∷ []) ≡ calls_of n answers ++ entries_of n a.input a.tried
-calls_more n [] a = append-nil (entries_of n a.input a.tried)
-calls_more n (x ∷ more) a = ap (λ (l : List HistoryEntry). entries_of n x.input x.tried ++ l) (calls_more n more a)
-    ∙ sym (append_assoc (entries_of n x.input x.tried) (calls_of n more) (entries_of n a.input a.tried))
+calls_more : (n : ℕ) (answers : List Answer) (a : Answer) → calls_of n (answers ++ a ∷ []) ≡ calls_of n answers ++ answered n a.input a.tried
+calls_more n [] a = append-nil (answered n a.input a.tried)
+calls_more n (x ∷ more) a = ap (λ (l : List HistoryEntry). answered n x.input x.tried ++ l) (calls_more n more a)
+    ∙ sym (append_assoc (answered n x.input x.tried) (calls_of n more) (answered n a.input a.tried))
 
 -- answers in turn, and one by a later history
 turn_more : (pid : Pid) (n : ℕ) (h : List HistoryEntry) (answers : List Answer) (a : Answer) (g now later : List HistoryEntry) → AnswersInTurn pid n h answers g → IsPrefix g now → AnswersBy pid now a
-    → IsPrefix (now ++ entries_of n a.input a.tried) later → AnswersInTurn pid n h (answers ++ a ∷ []) later
+    → IsPrefix (now ++ answered n a.input a.tried) later → AnswersInTurn pid n h (answers ++ a ∷ []) later
 turn_more pid n h [] a g now later turns longer by more = (now, prefix_trans h g now turns longer, by, more)
 turn_more pid n h (x ∷ xs) a g now later turns longer by more =
-    (turns.0, turns.1, turns.2, turn_more pid n (turns.0 ++ entries_of n x.input x.tried) xs a g now later turns.3 longer by more)
+    (turns.0, turns.1, turns.2, turn_more pid n (turns.0 ++ answered n x.input x.tried) xs a g now later turns.3 longer by more)
 
 each_more : (pid : Pid) (v : View) (answers : List Answer) (u : View) (a : Answer) (w : View) → AnswersEach pid v answers u → HasAnswer pid u (job_of a) a.tried w → AnswersEach pid v (answers ++ a ∷ []) w
 each_more pid v [] u a w same now = (w, subst (λ (z : View). HasAnswer pid z (job_of a) a.tried w) same now, refl)
@@ -126,13 +127,13 @@ by_call pid v answers u a w h is at =
     let p = pid.slot in
     let s = since_call p pid.round a.input u a.tried w at in
     let number = h.elsewhere.number in
-    let behind : s.now ++ entries_of v.number a.input a.tried ≡ seen w p = sym (s.seen_is ∙ ap (λ (n : ℕ). s.now ++ entries_of n a.input a.tried) number) in
+    let behind : s.now ++ answered v.number a.input a.tried ≡ seen w p = sym (s.seen_is ∙ ap (λ (n : ℕ). s.now ++ answered n a.input a.tried) number) in
     record {
       each = each_more pid v answers u a w h.each (inl (is, at));
       in_turn = turn_more pid v.number (seen v p) answers a (seen u p) s.now (seen w p) h.in_turn s.longer (inl (is, s.tried_is))
           (subst (λ (l : List HistoryEntry). IsPrefix l (seen w p)) (sym behind) (prefix_self (seen w p)));
-      mine_is = s.mine_is ∙ (ap (λ (l : List HistoryEntry). l ++ entries_of u.number a.input a.tried) h.mine_is ∙ (append_assoc (mine v p) (calls_of v.number answers) (entries_of u.number a.input a.tried)
-          ∙ ap (λ (l : List HistoryEntry). mine v p ++ l) (ap (λ (n : ℕ). calls_of v.number answers ++ entries_of n a.input a.tried) number ∙ sym (calls_more v.number answers a))));
+      mine_is = s.mine_is ∙ (ap (λ (l : List HistoryEntry). l ++ answered u.number a.input a.tried) h.mine_is ∙ (append_assoc (mine v p) (calls_of v.number answers) (answered u.number a.input a.tried)
+          ∙ ap (λ (l : List HistoryEntry). mine v p ++ l) (ap (λ (n : ℕ). calls_of v.number answers ++ answered n a.input a.tried) number ∙ sym (calls_more v.number answers a))));
       once = λ before. subst (λ (n : ℕ). own n (seen w p) ≡ mine w p) number s.once;
       legal = λ before. s.legal;
       elsewhere = record {
@@ -146,8 +147,8 @@ by_call pid v answers u a w h is at =
 by_name : (pid : Pid) (v : View) (answers : List Answer) (u : View) (a : Answer) → HasAnswered pid v answers u → (¬ IsProcess pid a.pid) → a.tried ≡ tried.Down → HasAnswered pid v (answers ++ a ∷ []) u
 by_name pid v answers u a h other down =
     let p = pid.slot in
-    let none : entries_of v.number a.input a.tried ≡ [] = ap (λ (t : Tried). entries_of v.number a.input t) down in
-    let behind : seen u p ++ entries_of v.number a.input a.tried ≡ seen u p = ap (λ (l : List HistoryEntry). seen u p ++ l) none ∙ append-nil (seen u p) in
+    let none : answered v.number a.input a.tried ≡ [] = ap (λ (t : Tried). answered v.number a.input t) down in
+    let behind : seen u p ++ answered v.number a.input a.tried ≡ seen u p = ap (λ (l : List HistoryEntry). seen u p ++ l) none ∙ append-nil (seen u p) in
     record {
       each = each_more pid v answers u a u h.each (inr (other, down, refl));
       in_turn = turn_more pid v.number (seen v p) answers a (seen u p) (seen u p) (seen u p) h.in_turn (prefix_self (seen u p)) (inr (other, down))

@@ -1,14 +1,16 @@
 -- Answers that are counted.
-use Rattle.std.specs.Prelude.{◌≡◌, ◌<◌, ℕ, ◌+◌, List, [], ◌∷◌, length}
+use Rattle.std.specs.Prelude.{◌≡◌, ◌<◌, ◌≤◌, ℕ, ◌+◌, List, [], ◌∷◌, length, Option, IfSome}
 use Rattle.proc_history.specs.declared.value.Outcome.{Outcome}
 use Rattle.proc_history.specs.declared.value.Outcome.TheVariants as outcome
 use Rattle.proc_table.specs.declared.pass.Tried.{Tried}
 use Rattle.proc_table.specs.declared.pass.Tried.TheVariants as tried
 use Rattle.proc_table.specs.declared.pid.Pid.{Pid}
+use Rattle.proc_table.specs.declared.view.View.{View}
 use Rattle.proc_workers.specs.declared.floods.FloodCounts.{FloodCounts}
 use Rattle.proc_workers.specs.declared.note.Answer.{Answer}
 use Rattle.proc_workers.specs.Floods.{Counts}
 use Rattle.proc_workers.specs.Processes.{IsProcess}
+use Rattle.proc_workers.specs.Work.{HasAnswered}
 
 -- this answer as an outcome, if it is one, and those behind it
 abbrev pub outcome_before : Tried → List Outcome → List Outcome
@@ -32,6 +34,21 @@ pub record AreCounted (pid : Pid) (input times : ℕ) (answers : List Answer) (f
   pub long : length answers ≡ times
   pub are_of : AreOf pid input answers
   pub counts : Counts times (outcomes_in answers) f
+
+-- So many answers were given one after another, each by a call of this process with this input.
+pub record HasCounted (pid : Pid) (input n : ℕ) (v : View) (f : FloodCounts) (w : View) : Type 0 where
+  pub answers : List Answer
+  pub answered : HasAnswered pid v answers w
+  pub counted : AreCounted pid input n answers f
+
+-- What the worker of a flood has done: it answered at most so many calls of this process with this input, one after another, and
+-- made no others. Where it counted them, it answered all.
+pub record HasCalled (pid : Pid) (input times : ℕ) (v : View) (counts : Option FloodCounts) (w : View) : Type 0 where
+  pub answers : List Answer
+  pub answered : HasAnswered pid v answers w
+  pub are_of : AreOf pid input answers
+  pub most : length answers ≤ times
+  pub counted : IfSome counts (λ f. AreCounted pid input times answers f)
 
 -- what is counted behind this answer
 abbrev pub noted : Tried → FloodCounts → FloodCounts

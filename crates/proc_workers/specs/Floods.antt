@@ -1,12 +1,12 @@
 -- What a process answers to many calls with one input.
-use Rattle.std.specs.Prelude.{◌≡◌, ◌⊎◌, ℕ, zero, suc, ◌+◌, List, [], ◌∷◌, ◌++◌, length, Option, Some, None}
+use Rattle.std.specs.Prelude.{◌≡◌, ◌⊎◌, ◌≤◌, ℕ, zero, suc, ◌+◌, List, [], ◌∷◌, ◌++◌, length, Option, Some, None}
 use Rattle.proc_history.specs.declared.value.Outcome.{Outcome}
 use Rattle.proc_history.specs.declared.value.Outcome.TheVariants as outcome
 use Rattle.proc_history.specs.declared.value.Value.{Value}
 use Rattle.proc_history.specs.Events.{HistoryEntry, entry}
 use Rattle.proc_history.specs.Events.Event.{call}
 use Rattle.proc_history.specs.Histories.{replay}
-use Rattle.proc_history.specs.Outcomes.{after_call, call_entries, outcome_in}
+use Rattle.proc_history.specs.Outcomes.{outcome_in}
 use Rattle.proc_history.specs.Values.{after}
 use Rattle.proc_table.specs.declared.pid.Pid.{Pid}
 use Rattle.proc_table.specs.declared.view.View.{View}
@@ -57,14 +57,8 @@ pub record IsFlooded (pid : Pid) (input times : ℕ) (v : View) (f : FloodCounts
   pub seen_is : seen w pid.slot ≡ seen v pid.slot ++ calls_with (v.count + 1) input (outcomes_of pid.round input times (replay (seen v pid.slot)))
   pub rest : ByOnePass pid.slot v w
 
--- The entries of calls of a pass with these inputs, one after another, each with the outcome of its process. A call that finds
--- no process of this round up has none.
-abbrev pub calls_in_turn : ℕ → ℕ → List ℕ → Value → List HistoryEntry
-calls_in_turn number round [] v = []
-calls_in_turn number round (i ∷ is) v = call_entries number i (outcome_in round i v) ++ calls_in_turn number round is (after_call v i (outcome_in round i v))
-
--- Nothing was done, or some calls of one pass were made, with some inputs and with nothing between. They stand right behind what
--- the handler had seen.
-abbrev pub IsBrokenOff : Pid → View → View → Type 0
-IsBrokenOff pid v w = (w ≡ v)
-    ⊎ ((inputs : List ℕ) × (seen w pid.slot ≡ seen v pid.slot ++ calls_in_turn (v.count + 1) pid.round inputs (replay (seen v pid.slot))) × ByOnePass pid.slot v w)
+-- Nothing was done, or the process was called with this input, at most so often, by one pass and with nothing between. The calls
+-- stand right behind what the handler had seen.
+abbrev pub IsBrokenOff : Pid → ℕ → ℕ → View → View → Type 0
+IsBrokenOff pid input times v w = (w ≡ v)
+    ⊎ ((n : ℕ) × (n ≤ times) × (seen w pid.slot ≡ seen v pid.slot ++ calls_with (v.count + 1) input (outcomes_of pid.round input n (replay (seen v pid.slot)))) × ByOnePass pid.slot v w)

@@ -1,9 +1,7 @@
 -- What a worker has done with the jobs that it took.
 use Rattle.std.specs.Prelude.{◌≡◌, ◌⊎◌, ℕ, List, [], ◌∷◌, ◌++◌, map}
 use mathlib.Core.List.{IsPrefix}
-use Rattle.proc_history.specs.declared.value.Outcome.TheVariants as outcome
-use Rattle.proc_history.specs.Events.{HistoryEntry, entry, own}
-use Rattle.proc_history.specs.Events.Event.{call}
+use Rattle.proc_history.specs.Events.{HistoryEntry, own}
 use Rattle.proc_history.specs.Histories.{replay, IsLegal}
 use Rattle.proc_history.specs.Outcomes.{outcome_in}
 use Rattle.proc_table.specs.declared.view.View.{View}
@@ -11,6 +9,7 @@ use Rattle.proc_table.specs.declared.pid.Pid.{Pid}
 use Rattle.proc_table.specs.declared.pass.Tried.{Tried}
 use Rattle.proc_table.specs.declared.pass.Tried.TheVariants as tried
 use Rattle.proc_table.specs.Calls.{Elsewhere, tried_of}
+use Rattle.proc_table.specs.Together.{answered}
 use Rattle.proc_table.specs.Views.{seen, mine}
 use Rattle.proc_table.specs.Waits.{AnswersAtLast}
 use Rattle.proc_workers.specs.declared.note.Answer.{Answer}
@@ -25,17 +24,10 @@ use Rattle.proc_workers.specs.Notes.{jobs_in, kept, EndsBy}
 abbrev pub job_of : Answer → Job
 job_of a = record { number = a.number; pid = a.pid; input = a.input }
 
--- what a call with this answer adds to a history
-abbrev pub entries_of : ℕ → ℕ → Tried → List HistoryEntry
-entries_of n input (tried.Done r) = entry n (call input (outcome.Done r)) ∷ []
-entries_of n input tried.Crashed = entry n (call input outcome.Crashed) ∷ []
-entries_of n input (tried.Ended r) = entry n (call input (outcome.Ended r)) ∷ []
-entries_of n input t = []
-
 -- the calls of a pass that gave these answers, in order
 abbrev pub calls_of : ℕ → List Answer → List HistoryEntry
 calls_of n [] = []
-calls_of n (a ∷ more) = entries_of n a.input a.tried ++ calls_of n more
+calls_of n (a ∷ more) = answered n a.input a.tried ++ calls_of n more
 
 -- What a worker of this process answers by this history. To a job that names the process: what a call behind the history
 -- answers, so Down where no process of that round is up. To any other job: Down.
@@ -47,7 +39,7 @@ AnswersBy pid h a = (IsProcess pid a.pid × (a.tried ≡ tried_of (outcome_in pi
 abbrev pub AnswersInTurn : Pid → ℕ → List HistoryEntry → List Answer → List HistoryEntry → Type 0
 AnswersInTurn pid number h [] g = IsPrefix h g
 AnswersInTurn pid number h (a ∷ more) g =
-    (now : List HistoryEntry) × IsPrefix h now × AnswersBy pid now a × AnswersInTurn pid number (now ++ entries_of number a.input a.tried) more g
+    (now : List HistoryEntry) × IsPrefix h now × AnswersBy pid now a × AnswersInTurn pid number (now ++ answered number a.input a.tried) more g
 
 -- the job was answered, by a call of the process that it names or by Down
 abbrev pub HasAnswer : Pid → View → Job → Tried → View → Type 0

@@ -19,6 +19,13 @@ impl Job {
     {
         self.pid.slot == pid.slot && self.pid.round == pid.round
     }
+
+    /// Whether it is a call of this process with this input.
+    pub fn is_of(&self, pid: Pid, input: u32) -> bool
+        ensures { IsTrue result ↔ ((self.now.input ≡ input) × IsProcess pid self.now.pid) }
+    {
+        self.input == input && self.names(pid)
+    }
 }
 
 /// What a mailbox holds.
@@ -40,13 +47,4 @@ pub struct Answer {
     pub pid: Pid,
     pub input: u32,
     pub tried: Tried,
-}
-
-impl Answer {
-    /// Whether it answers a call of this process with this input.
-    pub fn is_of(&self, pid: Pid, input: u32) -> bool
-        ensures { IsTrue result ↔ ((self.now.input ≡ input) × IsProcess pid self.now.pid) }
-    {
-        self.input == input && self.pid.slot == pid.slot && self.pid.round == pid.round
-    }
 }

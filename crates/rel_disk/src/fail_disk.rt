@@ -100,6 +100,7 @@ impl<D: Disk> Disk for FailDisk<D> {
 
     fn len(&mut self) -> Result<u64, DeviceFault>
         ensures turn { TakesTurn D.failures self.old self.new (IsErr result) }
+        ensures nothing { self.old.fault.left ≡ 1 → self.new.disk ≡ self.old.disk }
 
         // As of every disk.
         ensures value { IfOk result (λ n. n ≡ length (D.seen self.old.disk)) }
@@ -120,6 +121,7 @@ impl<D: Disk> Disk for FailDisk<D> {
     fn read(&mut self, at: u64, buf: &mut [u8]) -> Result<(), DeviceFault>
         requires { at + length buf.old ≤ length (D.seen self.old.disk) }
         ensures turn { TakesTurn D.failures self.old self.new (IsErr result) }
+        ensures nothing { self.old.fault.left ≡ 1 → self.new.disk ≡ self.old.disk }
 
         // As of every disk.
         ensures bytes { OnOk result

@@ -57,7 +57,7 @@ abbrev pub HasDistinctVersions : Releases → Type 0
 HasDistinctVersions [] = Unit {0}
 HasDistinctVersions (e ∷ es) = (status_of e.release.vsn es ≡ None) × HasDistinctVersions es
 
--- the release that the node boots
+-- the permanent release: a boot starts it, unless the list has a one-shot
 abbrev pub permanent : Releases → Option Release
 permanent es = option_map (λ (e : Entry). e.release) (find (λ e. is_permanent e.status) es)
 

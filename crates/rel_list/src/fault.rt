@@ -20,7 +20,7 @@ pub enum ListError {
     AlreadyInstalled,
     /// The release has this status, and would need another one.
     BadStatus(Status),
-    /// The release is to be removed, and is the one that is booted.
+    /// The release is to be removed, and is the permanent one.
     Permanent,
     /// The release is to be removed, and runs.
     Running,

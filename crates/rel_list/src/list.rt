@@ -153,7 +153,7 @@ impl ReleaseList {
         }
     }
 
-    /// The release that is booted.
+    /// The permanent release: a boot starts it, unless the list has a one-shot.
     pub fn permanent(&self) -> Option<&Rel>
         ensures { option_map release_of (option_copied result) ≡ permanent self.now }
     {

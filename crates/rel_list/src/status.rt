@@ -10,7 +10,7 @@ pub enum Status {
     Current,
     /// It was current or permanent.
     Old,
-    /// It is the one that is booted.
+    /// A boot starts it, unless the list has a one-shot.
     Permanent,
     /// It was installed by a script that ends with a restart: the next boot starts it, once.
     OneShot,
@@ -40,7 +40,7 @@ impl Status {
         matches!(self, Status::Current)
     }
 
-    /// Whether it is the status of the release that is booted.
+    /// Whether it is the status of the permanent release.
     pub fn is_permanent(self) -> bool
         ensures { result ≡ is_permanent self }
     {

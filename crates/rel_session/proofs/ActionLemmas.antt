@@ -56,19 +56,23 @@ kind_of (closed s) = at_rest
 kind_of (running events extent ps) = runs
 kind_of (dead s) = fails
 
-on_node : (P : Action → Type 0) (x y : Action) (p q : Place) → kind_of p ≡ kind_of q → (P x → P y → x ≡ y) → OnNode p P x → OnNode q P y → x ≡ y
+-- a node runs at a place of this kind
+abbrev pub runs_node : Kind → Bool
+runs_node runs = true
+runs_node kind = false
+
+on_node : (P : Action → Type 0) (x y : Action) (p q : Place) → runs_node (kind_of p) ≡ runs_node (kind_of q) → (P x → P y → x ≡ y) → OnNode p P x → OnNode q P y → x ≡ y
 on_node P x y (running events extent ps) (running others stop qs) kinds one is also = one is also
-on_node P x y (raw b) (raw c) kinds one is also = is ∙ sym also
-on_node P x y (closed s) (closed t) kinds one is also = is ∙ sym also
-on_node P x y (dead s) (dead t) kinds one is also = is ∙ sym also
-on_node P x y p q kinds one is also = absurd cc
+on_node P x y (running events extent ps) q kinds one is also = absurd cc
+on_node P x y p (running others stop qs) kinds one is also = absurd cc
+on_node P x y p q kinds one is also = is ∙ sym also
 
 -- what a node is asked is answered by its releases and its processes
 abbrev pub AreReported : Place → Place → Action → Action → Type 0
 AreReported p q x y = (says : Releases → Processes → List ℕ) × (x ≡ answers (reported says p)) × (y ≡ answers (reported says q))
 
--- At places of one kind a command comes to one action, but where it asks the node.
-pub one_action : (source : Source) → GivesOne source → (p q : Place) (c : Command) (x y : Action) → kind_of p ≡ kind_of q → ComesTo source p c x → ComesTo source q c y
+-- Where a node runs at both places or at neither, a command comes to one action, but where it asks the node.
+pub one_action : (source : Source) → GivesOne source → (p q : Place) (c : Command) (x y : Action) → runs_node (kind_of p) ≡ runs_node (kind_of q) → ComesTo source p c x → ComesTo source q c y
     → (x ≡ y) ⊎ AreReported p q x y
 one_action source one p q (file path f) x y kinds is also = inl (is ∙ sym also)
 one_action source one p q (create path) x y kinds (found, there, is) (again, there_too, also) = inl (is ∙ ap creation (one_brought source one path found again there there_too) ∙ sym also)

@@ -36,7 +36,7 @@ use Rattle.rel_session.specs.Booting.{boot_line}
 use Rattle.node_answer.specs.Refusals.NodeRefusal.{device}
 use Rattle.rel_session.specs.Transition
 use Rattle.rel_session.specs.Transition.Action.{answers, makes_node, changes_node, installs, reboots_node, boots_node, reports_start, calls}
-use Rattle.rel_session.proofs.ActionLemmas.{Kind, kind_of, AreReported, one_action}
+use Rattle.rel_session.proofs.ActionLemmas.{Kind, kind_of, AreReported, one_action, runs_node}
 use Rattle.rel_session.proofs.ActionLemmas.Kind.{of_bytes, at_rest, runs, fails}
 use Rattle.rel_handler.specs.Installing.{install_size, installation_event}
 use Rattle.node_processes.specs.Scripts.{behind_run}
@@ -362,7 +362,7 @@ same_effects k (calls c) a b is also alike same = same_effect (acted k (calls c)
 
 pub one_effect : (source : Source) → GivesOne source → (p q : Place) (c : Command) (a b : Reply) → kind_of p ≡ kind_of q → have_restart (events_of a.outcome) ≡ have_restart (events_of b.outcome) → a.answer ≡ b.answer
     → Transition.Transition source p c a → Transition.Transition source q c b → effect_of a ≡ effect_of b
-one_effect source one p q c a b kinds alike same (x, comes, is) (y, comes_too, also) = go (one_action source one p q c x y kinds comes comes_too)
+one_effect source one p q c a b kinds alike same (x, comes, is) (y, comes_too, also) = go (one_action source one p q c x y (ap runs_node kinds) comes comes_too)
   where
     go : (x ≡ y) ⊎ AreReported p q x y → effect_of a ≡ effect_of b
     go (inl one) =

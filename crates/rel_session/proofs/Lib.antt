@@ -28,6 +28,7 @@ pub mod SourceLemmas
 pub mod ActionLemmas
 pub mod InstallationLemmas
 pub mod InstallLines
+pub mod IdlePlaces
 pub mod OneAnswer
 pub mod EachAnswer
 pub mod AnswerEvents
@@ -36,3 +37,4 @@ pub mod ProcessVersions
 pub mod OneRun
 pub mod LinePaths
 pub mod OneText
+pub mod OneList

@@ -1,5 +1,5 @@
 -- A session's loop: whatever run the commands that are left have, it completes the run of all.
-use Rattle.std.proofs.Common.{◌≡◌, ◌⊎◌, inl, inr, ℕ, List, [], ◌∷◌, ◌++◌, Option, Some, None, Ok, Err, refl, sym, ap, ◌∙◌, subst, append_assoc, append-nil, arith}
+use Rattle.std.proofs.Common.{◌≡◌, ◌⊎◌, inl, inr, ℕ, List, [], ◌∷◌, ◌++◌, Option, Some, None, Result, Ok, Err, refl, sym, ap, ◌∙◌, subst, append_assoc, append-nil, arith}
 use Rattle.std.specs.Prelude.{IsErrOf, String, string_bytes}
 use Rattle.std.specs.Option.{option_map}
 use Rattle.std.specs.Io.KnownBytes.{Appends, prepend_known}
@@ -14,21 +14,21 @@ use Rattle.rel_session.specs.declared.place.Place.TheVariants as memory
 use Rattle.session_input.specs.Commands.{Command, commands_of}
 use Rattle.session_input.specs.Commands.Command.{quit}
 use Rattle.rel_session.specs.Device.{Device}
-use Rattle.rel_session.specs.Session.{AreCommands, IsSession}
+use Rattle.rel_session.specs.Session.{AllowsItsAnswers, AreCommands, IsSession, ending_of}
 use Rattle.session_input.specs.Feed.{Feed, Gives, EndsAs, IsNext, bytes_within}
 use Rattle.session_input.specs.Feed.Feed.{over, cut, next}
 use Rattle.rel_unpack.specs.Source.{Source}
 use Rattle.rel_session.specs.Files.{Files, no_files, files_of, files_behind, source_of}
 use Rattle.rel_session.specs.InMemory.{IsAt, Leads, NothingDone, FollowsCommand, disk_at, disk_of}
 use Rattle.session_input.specs.Input.{IsFresh, HasCause, commands_left, failed_reads, taken, most_bytes}
-use Rattle.counted_io.specs.Failures.{HasRisen}
+use Rattle.counted_io.specs.Failures.{HasRisen, Reports}
 use Rattle.session_input.specs.Lines.{lines_of}
 use Rattle.rel_session.specs.Node.{Place, Reply}
 use Rattle.rel_session.specs.Node.Place.{raw, closed, running, dead}
 use Rattle.counted_io.specs.Prefixes.{AppendsPrefix}
-use Rattle.rel_session.specs.Output.{Writes}
+use Rattle.rel_session.specs.Output.{MayAdd, Writes}
 use Rattle.rel_session.specs.Run.{Starts, Executes, MayLeave, IsReply, Replies, Ending, IsTextOf, IsRun, answers_of, commands_in}
-use Rattle.rel_session.specs.Run.Ending.{ended, cut_off, unread, early}
+use Rattle.rel_session.specs.Run.Ending.{ended, cut_off, unread, unwritten, out_of_memory}
 use Rattle.rel_session.specs.Transition.{Transition}
 use Rattle.rel_session.proofs.DeviceLemmas.{IsDevice, still}
 use Rattle.rel_session.proofs.Replies.{held}
@@ -75,8 +75,9 @@ is_reply : (source : Source) (p : Place) (c : Command) (ending : Ending) (a : Re
 is_reply source p c ended a more is = is
 is_reply source p c cut_off a more is = is
 is_reply source p c unread a more is = is
-is_reply source p c early a [] is = inl is
-is_reply source p c early a (b ∷ more) is = is
+is_reply source p c unwritten a more is = is
+is_reply source p c out_of_memory a [] is = inl is
+is_reply source p c out_of_memory a (b ∷ more) is = is
 
 -- a reply to the first of these commands
 pub replies_next : (base : Source) (files : Files) (p : Place) (c : Command) (rest : Feed Command) (ending : Ending) (a : Reply) (more : List Reply) → Transition (source_of base files) p c a
@@ -84,24 +85,31 @@ pub replies_next : (base : Source) (files : Files) (p : Place) (c : Command) (re
 replies_next base files p c rest ending a more is right = (is_reply (source_of base files) p c ending a more is, right)
 
 -- none of them has one
-replies_none : (base : Source) (files : Files) (p : Place) (commands : Feed Command) → Replies base files p commands early []
-replies_none base files p over = tt
-replies_none base files p cut = tt
-replies_none base files p (next c rest) = tt
-
 replies_unread : (base : Source) (files : Files) (p : Place) (commands : Feed Command) → Replies base files p commands unread []
 replies_unread base files p over = tt
 replies_unread base files p cut = tt
 replies_unread base files p (next c rest) = tt
+
+replies_unwritten : (base : Source) (files : Files) (p : Place) (commands : Feed Command) → Replies base files p commands unwritten []
+replies_unwritten base files p over = tt
+replies_unwritten base files p cut = tt
+replies_unwritten base files p (next c rest) = tt
+
+replies_none : (base : Source) (files : Files) (p : Place) (commands : Feed Command) → Replies base files p commands out_of_memory []
+replies_none base files p over = tt
+replies_none base files p cut = tt
+replies_none base files p (next c rest) = tt
 
 -- the text of one more reply in front
 written_next : (ending : Ending) (a : Reply) (more : List Reply) (text : List ℕ) → IsTextOf ending more text → IsTextOf ending (a ∷ more) (a.answer ++ text)
 written_next ended a more text is = ap (λ (l : List ℕ). a.answer ++ l) is
 written_next cut_off a more text is = ap (λ (l : List ℕ). a.answer ++ l) is
 written_next unread a more text is = ap (λ (l : List ℕ). a.answer ++ l) is
-written_next early a more text (inl is) = inl (ap (λ (l : List ℕ). a.answer ++ l) is)
-written_next early a more text (inr (first, last, part, left, are, parts, is)) =
-    inr (a ∷ first, last, part, left, ap (λ (l : List Reply). a ∷ l) are, parts, ap (λ (l : List ℕ). a.answer ++ l) is ∙ sym (append_assoc a.answer (answers_of first) part))
+written_next unwritten a more text (first, last, part, left, are, parts, is) =
+    (a ∷ first, last, part, left, ap (λ (l : List Reply). a ∷ l) are, parts, ap (λ (l : List ℕ). a.answer ++ l) is ∙ sym (append_assoc a.answer (answers_of first) part))
+written_next out_of_memory a more text (inl is) = inl (ap (λ (l : List ℕ). a.answer ++ l) is)
+written_next out_of_memory a more text (inr (first, last, are, is)) =
+    inr (a ∷ first, last, ap (λ (l : List Reply). a ∷ l) are, ap (λ (l : List ℕ). a.answer ++ l) is)
 
 module _ {D : Type 0} (v : Device D) (base : Source) where
   -- Where the node stands, what was written, and how a run of the commands that are left completes that of all.
@@ -187,9 +195,17 @@ module _ {D : Type 0} (v : Device D) (laws : IsDevice v) (base : Source) where
         → (commands : Feed Command) × AreLeft all commands × Writes old mid (λ text. IsRun v base no_files start commands unread disk final text)
     ends_unread final is = ends_with unread (some_left now) final (are_some now) is (λ files p. replies_unread base files p (some_left now)) refl
 
-    pub ends_early : (final : D) → final ≡ disk_of node → (start : Place) → Starts v start disk
-        → (commands : Feed Command) × AreLeft all commands × Writes old mid (λ text. IsRun v base no_files start commands early disk final text)
-    ends_early final is = ends_with early (some_left now) final (are_some now) is (λ files p. replies_none base files p (some_left now)) (inl refl)
+    pub ends_without_memory : (final : D) → final ≡ disk_of node → (start : Place) → Starts v start disk
+        → (commands : Feed Command) × AreLeft all commands × Writes old mid (λ text. IsRun v base no_files start commands out_of_memory disk final text)
+    ends_without_memory final is = ends_with out_of_memory (some_left now) final (are_some now) is (λ files p. replies_none base files p (some_left now)) (inl refl)
+
+    -- with this error of the input
+    pub ends_for : {R : Type 0} (Shows : CommandInMemory → Command → Type 0) (e : SessionError) (i j : Input R) (final : D) → final ≡ disk_of node → HasCause {V = Option CommandInMemory} (Err e) i j → IsNext Shows (Err e) now new
+        → (start : Place) → Starts v start disk → (commands : Feed Command) × AreLeft all commands × Writes old mid (λ text. IsRun v base no_files start commands (ending_of (Err e)) disk final text)
+    ends_for Shows Read i j final is cause gone = ends_unread final is
+    ends_for Shows Write i j final is cause gone = absurd cause
+    ends_for Shows Limit i j final is cause gone = ends_cut final is gone
+    ends_for Shows NoMemory i j final is cause gone = ends_without_memory final is
 
     -- at `quit`
     pub quits : (c : Command) (later : Node D) (final : D) → final ≡ disk_of later → Gives now new (λ d. c ≡ d) → FollowsCommand v base c (Ok None) node later → (start : Place) → Starts v start disk
@@ -200,33 +216,33 @@ module _ {D : Type 0} (v : Device D) (laws : IsDevice v) (base : Source) where
     -- a command's answer was not written whole
     pub stops_within : (c : Command) (text : String Global) (later : Node D) (final : D) (mid' : Option (List ℕ)) → final ≡ disk_of later → Gives now new (λ d. c ≡ d) → FollowsCommand v base c (Ok (Some text)) node later
         → AppendsPrefix mid mid' (string_bytes text) → (start : Place) → Starts v start disk
-        → (commands : Feed Command) × AreLeft all commands × Writes old mid' (λ t. IsRun v base no_files start commands early disk final t)
+        → (commands : Feed Command) × AreLeft all commands × Writes old mid' (λ t. IsRun v base no_files start commands unwritten disk final t)
     stops_within c text later final mid' is gives (files, follows) (part, left, parts, appended) start starts =
         let r = goes start starts in
         let a = follows r.here r.at in
-        let whole = r.completes early (next c (some_left new)) (a.given ∷ []) (disk_of later) part (are_next now new c (some_left new) gives (are_some new))
-        (replies_next base (files_of node.files) r.here c (some_left new) early a.given [] a.right.0 (replies_none base (files_behind (files_of node.files) c) a.given.after (some_left new)))
-        (disk_of later, a.happens, nothing_more a.given.after later a.at) (inr ([], a.given, part, left, refl, parts ∙ sym a.right.1, refl)) in
-        (whole.0, whole.1, (r.written ++ part, Appends-twice old mid mid' r.written part r.appended appended, subst (λ d. IsRun v base no_files start whole.0 early disk d (r.written ++ part)) (sym is) whole.2))
+        let whole = r.completes unwritten (next c (some_left new)) (a.given ∷ []) (disk_of later) part (are_next now new c (some_left new) gives (are_some new))
+        (replies_next base (files_of node.files) r.here c (some_left new) unwritten a.given [] a.right.0 (replies_unwritten base (files_behind (files_of node.files) c) a.given.after (some_left new)))
+        (disk_of later, a.happens, nothing_more a.given.after later a.at) ([], a.given, part, left, refl, parts ∙ sym a.right.1, refl) in
+        (whole.0, whole.1, (r.written ++ part, Appends-twice old mid mid' r.written part r.appended appended, subst (λ d. IsRun v base no_files start whole.0 unwritten disk d (r.written ++ part)) (sym is) whole.2))
 
     -- or not at all, since memory was refused
     pub stops_before : (c : Command) (e : SessionError) (later : Node D) (final : D) → final ≡ disk_of later → Gives now new (λ d. c ≡ d) → FollowsCommand v base c (Err e) node later → (start : Place) → Starts v start disk
-        → (commands : Feed Command) × AreLeft all commands × Writes old mid (λ t. IsRun v base no_files start commands early disk final t)
+        → (commands : Feed Command) × AreLeft all commands × Writes old mid (λ t. IsRun v base no_files start commands out_of_memory disk final t)
     stops_before c e later final is gives follows start starts = by_outcome (follows r.here r.at)
       where
         r : Reached v base start all now disk node old mid
         r = goes start starts
 
         by_outcome : Leads v r.here (MayLeave (source_of base (files_of node.files)) r.here c) node.place later.place ⊎ NothingDone v r.here node.place later.place
-            → (commands : Feed Command) × AreLeft all commands × Writes old mid (λ t. IsRun v base no_files start commands early disk final t)
+            → (commands : Feed Command) × AreLeft all commands × Writes old mid (λ t. IsRun v base no_files start commands out_of_memory disk final t)
         by_outcome (inl a) =
-            let whole = r.completes early (next c (some_left new)) (a.given ∷ []) (disk_of later) [] (are_next now new c (some_left new) gives (are_some new))
+            let whole = r.completes out_of_memory (next c (some_left new)) (a.given ∷ []) (disk_of later) [] (are_next now new c (some_left new) gives (are_some new))
             (a.right, replies_none base (files_behind (files_of node.files) c) a.given.after (some_left new))
-            (disk_of later, a.happens, (still v laws (disk_of later), a.happens.holds, omega arith)) (inr ([], a.given, [], a.given.answer, refl, refl, refl)) in
-            (whole.0, whole.1, (r.written, r.appended, subst (λ t. IsRun v base no_files start whole.0 early disk final t) (append-nil r.written) (subst (λ d. IsRun v base no_files start whole.0 early disk d (r.written ++ [])) (sym is) whole.2)))
+            (disk_of later, a.happens, (still v laws (disk_of later), a.happens.holds, omega arith)) (inr ([], a.given, refl, refl)) in
+            (whole.0, whole.1, (r.written, r.appended, subst (λ t. IsRun v base no_files start whole.0 out_of_memory disk final t) (append-nil r.written) (subst (λ d. IsRun v base no_files start whole.0 out_of_memory disk d (r.written ++ [])) (sym is) whole.2)))
         by_outcome (inr lapsed) =
-            let whole = r.completes early (some_left now) [] (disk_of later) [] (are_some now) (replies_none base (files_of node.files) r.here (some_left now)) (lapsed.nothing_new, lapsed.holds, lapsed.counted) (inl refl) in
-            (whole.0, whole.1, (r.written, r.appended, subst (λ t. IsRun v base no_files start whole.0 early disk final t) (append-nil r.written) (subst (λ d. IsRun v base no_files start whole.0 early disk d (r.written ++ [])) (sym is) whole.2)))
+            let whole = r.completes out_of_memory (some_left now) [] (disk_of later) [] (are_some now) (replies_none base (files_of node.files) r.here (some_left now)) (lapsed.nothing_new, lapsed.holds, lapsed.counted) (inl refl) in
+            (whole.0, whole.1, (r.written, r.appended, subst (λ t. IsRun v base no_files start whole.0 out_of_memory disk final t) (append-nil r.written) (subst (λ d. IsRun v base no_files start whole.0 out_of_memory disk d (r.written ++ [])) (sym is) whole.2)))
 
   -- of the commands that were left at first, to those of the input
   pub sessions : (known : Option (List ℕ)) (all : Option (Feed Command)) (ending : Ending) (disk final : D) (old now : Option (List ℕ)) → all ≡ option_map commands_in known
@@ -236,10 +252,18 @@ module _ {D : Type 0} (v : Device D) (laws : IsDevice v) (base : Source) where
       let (commands, are, text) = run start starts in
       (commands, are_all known commands (subst (λ l. AreLeft l commands) same are), text)
 
--- the error that is reported was that of the input
-pub cut_reported : {V : Type 0} (Shows : V → Command → Type 0) (e : SessionError) (now new : Option (Feed Command))
-    → IsErrOf {T = Unit {0}} (Err e) Limit → IsNext Shows (Err e) now new → EndsAs cut now new
-cut_reported {V} Shows e now new is n = subst (λ x. IsNext {V = V} Shows (Err x) now new) (let same : e ≡ Limit = cc in same) n
+  -- an answer may be written behind its command, on the disk to which that has led
+  pub may_write : (known : Option (List ℕ)) (all now new : Option (Feed Command)) (disk : D) (node : Node D) (old mid : Option (List ℕ)) → all ≡ option_map commands_in known → Goes v base all now disk node old mid
+      → (c : Command) (text : String Global) (later : Node D) → Gives now new (λ d. c ≡ d) → FollowsCommand v base c (Ok (Some text)) node later
+      → (Allowed : D → Option (List ℕ) → Type 0) → AllowsItsAnswers v base known disk old Allowed → MayAdd (Allowed (disk_of later)) mid (string_bytes text)
+  may_write known all now new disk node old mid same goes c text later gives follows Allowed allowed then appended =
+      let behind = goes_on all now new disk node old mid goes c text later then gives follows appended in
+      allowed (disk_of later) then (sessions known all unread disk (disk_of later) old then same (ends_unread all new new disk later old then behind (disk_of later) refl))
+
+  -- the error is this one
+  pub by_error : (known : Option (List ℕ)) (e given : SessionError) (disk final : D) (old now : Option (List ℕ)) → given ≡ e
+      → IsSession v base no_files (ending_of (Err e)) known disk final old now → IsSession v base no_files (ending_of (Err given)) known disk final old now
+  by_error known e given disk final old now same session = subst (λ x. IsSession v base no_files (ending_of (Err x)) known disk final old now) (sym same) session
 
 -- no error is reported where there is none
 pub no_error : (e : SessionError) → IsErrOf (Ok (tt {0})) e → ⊥
@@ -264,13 +288,24 @@ NoMemory≢Write is = cc is
 pub NoMemory≢Limit : NoMemory ≡ Limit → ⊥
 NoMemory≢Limit is = cc is
 
--- the error of the input has its cause
-pub read_reported : {R : Type 0} (e : SessionError) (first : ℕ) (old new : Input R) → failed_reads old ≡ first → HasCause {V = Option CommandInMemory} (Err e) old new → IsErrOf {T = Unit {0}} (Err e) Read → HasRisen first (failed_reads new)
-read_reported e first old new same cause is =
-    subst (λ n. HasRisen n (failed_reads new)) same (subst (λ x. HasCause {V = Option CommandInMemory} (Err x) old new) (let known : e ≡ Read = cc in known) cause)
+-- a failure that is not reported was not counted
+pub not_reported : {E : Type 0} (e : E) (r : Result (Unit {0}) E) (old new : ℕ) → (IsErrOf r e → ⊥) → new ≡ old → Reports e r old new
+not_reported e r old new absent same = ((λ is. absurd (absent is)), (λ none. same))
 
-pub write_reported : {R : Type 0} (e : SessionError) (old new : Input R) → HasCause {V = Option CommandInMemory} (Err e) old new → IsErrOf {T = Unit {0}} (Err e) Write → ⊥
-write_reported e old new cause is = subst (λ x. HasCause {V = Option CommandInMemory} (Err x) old new) (let known : e ≡ Write = cc in known) cause
+-- one that is reported was
+pub is_reported : {E : Type 0} (e given : E) (old new : ℕ) → given ≡ e → HasRisen old new → Reports {V = Unit {0}} e (Err given) old new
+is_reported e given old new is rose = ((λ also. rose), (λ none. absurd (none (ap (λ x. Err x) is))))
+
+-- the error of the input has its cause
+pub read_reported : {R : Type 0} (e : SessionError) (first : ℕ) (old new : Input R) → failed_reads old ≡ first → HasCause {V = Option CommandInMemory} (Err e) old new
+    → Reports {V = Unit {0}} Read (Err e) first (failed_reads new)
+read_reported Read first old new same cause = is_reported Read Read first (failed_reads new) refl (subst (λ n. HasRisen n (failed_reads new)) same cause)
+read_reported Write first old new same cause = absurd cause
+read_reported Limit first old new same cause = not_reported Read (Err Limit) first (failed_reads new) (λ is. cc is) (cause.1 ∙ same)
+read_reported NoMemory first old new same cause = not_reported Read (Err NoMemory) first (failed_reads new) (λ is. cc is) (cause ∙ same)
+
+pub never_written : {R : Type 0} (e : SessionError) (old new : Input R) → HasCause {V = Option CommandInMemory} (Err e) old new → IsErrOf {T = Unit {0}} (Err e) Write → ⊥
+never_written e old new cause is = subst (λ x. HasCause {V = Option CommandInMemory} (Err x) old new) (let known : e ≡ Write = cc in known) cause
 
 pub limit_reported : {R : Type 0} (e : SessionError) (old new : Input R) → HasCause {V = Option CommandInMemory} (Err e) old new → IsErrOf {T = Unit {0}} (Err e) Limit → taken new ≡ most_bytes
-limit_reported e old new cause is = subst (λ x. HasCause {V = Option CommandInMemory} (Err x) old new) (let known : e ≡ Limit = cc in known) cause
+limit_reported e old new cause is = (subst (λ x. HasCause {V = Option CommandInMemory} (Err x) old new) (let known : e ≡ Limit = cc in known) cause).0

@@ -13,7 +13,7 @@ use Rattle.rel_session.specs.Transition.Action.{answers, makes_node, changes_nod
 use Rattle.rel_session.proofs.AcknowledgedEvents.{next_answered, none_left}
 use Rattle.rel_session.proofs.OneAnswer.{ends, one_end, never_goes_on}
 use Rattle.rel_session.proofs.SourceLemmas.{gives_one}
-use Rattle.rel_session.proofs.ActionLemmas.{AreReported, kind_of, one_action}
+use Rattle.rel_session.proofs.ActionLemmas.{AreReported, kind_of, one_action, runs_node}
 use Rattle.rel_session.proofs.AnswerEvents.{Effect, one_effect}
 use Rattle.rel_session.proofs.ProcessVersions.{keeps_versions_of_modules}
 use Rattle.rel_session.proofs.InstallLines.{append_left, same_front}
@@ -34,7 +34,7 @@ same_answer (calls c) r s of of_too alike x y same = one_front r.answer s.answer
 -- So do two replies to one command, from places of one kind.
 one_answer : (source : Source) → GivesOne source → (p q : Place) (c : Command) (does again : Action) (r s : Reply) → kind_of p ≡ kind_of q → ComesTo source p c does → ComesTo source q c again → LinesOf does r → LinesOf again s
     → have_restart (events_of r.outcome) ≡ have_restart (events_of s.outcome) → (x y : List ℕ) → r.answer ++ x ≡ s.answer ++ y → r.answer ≡ s.answer
-one_answer source single p q c does again r s kinds comes comes_too of of_too alike x y same = go (one_action source single p q c does again kinds comes comes_too)
+one_answer source single p q c does again r s kinds comes comes_too of of_too alike x y same = go (one_action source single p q c does again (ap runs_node kinds) comes comes_too)
   where
     go : (does ≡ again) ⊎ AreReported p q does again → r.answer ≡ s.answer
     go (inl one) = same_answer again r s (subst (λ d. LinesOf d r) one of) of_too alike x y same

@@ -6,22 +6,21 @@ use Rattle.rel_session.specs.Device.{Device}
 use Rattle.rel_session.specs.LawsBelow.{BootLaws}
 use Rattle.rel_session.specs.Node.{Reply}
 use Rattle.rel_session.specs.Run.{EndsInFull, Ending, IsTextOf, answers_of}
-use Rattle.rel_session.specs.Run.Ending.{ended, cut_off, unread, early}
+use Rattle.rel_session.specs.Run.Ending.{ended, cut_off}
 use Rattle.rel_session.proofs.Failures.{fails_only_with_the_device}
 use Rattle.rel_session.proofs.OneAnswer.{have_one_answer}
 
-same_text : (first second : List Reply) → AreSame first second → answers_of first ≡ answers_of second
+pub same_text : (first second : List Reply) → AreSame first second → answers_of first ≡ answers_of second
 same_text [] [] same = refl
 same_text (a ∷ first) (b ∷ second) (answer, outcome, same) = λ k. answer k ++ same_text first second same k
 same_text [] (b ∷ second) same = absurd same
 same_text (a ∷ first) [] same = absurd same
 
--- a session that is not ended early has written all its answers
-whole_text : (ending : Ending) (replies : List Reply) (text : List ℕ) → EndsInFull ending → IsTextOf ending replies text → text ≡ answers_of replies
+-- a session that did not end early has written all its answers
+pub whole_text : (ending : Ending) (replies : List Reply) (text : List ℕ) → EndsInFull ending → IsTextOf ending replies text → text ≡ answers_of replies
 whole_text ended replies text whole is = is
 whole_text cut_off replies text whole is = is
-whole_text unread replies text whole is = absurd whole
-whole_text early replies text whole is = absurd whole
+whole_text ending replies text whole is = absurd whole
 
 pub have_one_text : BootLaws → {D : Type 0} (v : Device D) (base : Source) → HaveOneText v base
 have_one_text laws v base single files p commands a b old new other later text written sure not_a not_b works works_too one two small small_too =

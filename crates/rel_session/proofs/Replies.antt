@@ -31,7 +31,7 @@ use Rattle.session_input.specs.Commands.{Command}
 use Rattle.session_input.specs.Commands.Command.{file, create, set_unpacked, check, install, permanent, remove, reboot_old, boot, start, releases, procs, modules, peek, call, flood, relup, quit, bad}
 use Rattle.rel_session.specs.Device.{Device, LeavesOnly, HasFailed}
 use Rattle.rel_unpack.specs.Source.{Source}
-use Rattle.rel_session.specs.InMemory.{disk_at, IsAt, Replied, Leads, NothingDone, Answers, ReportsReply, ReportsOrStops, AnswersOrStops, IsNodeStarted, NeedsNode}
+use Rattle.rel_session.specs.InMemory.{disk_at, IsAt, Replied, Leads, NothingDone, Answers, ReportsOrStops, AnswersOrStops, IsNodeStarted, NeedsNode}
 use Rattle.rel_session.specs.Node.{Place, just_booted, at_rest, list_or_none, CommandOutcome, Reply, reply, refused, failed, nothing, done, failed_with}
 use Rattle.rel_session.specs.Node.Place.{raw, closed, running, dead}
 use Rattle.node_answer.specs.Refusals.{refusal_of, refusal_line}
@@ -46,6 +46,13 @@ use Rattle.rel_session.proofs.DeviceLemmas.{IsDevice, weakened, still}
 use Rattle.rel_session.proofs.Histories.{events_of_image}
 use Rattle.rel_session.proofs.ListLemmas.{list_after-push}
 use Rattle.rel_session.proofs.Prefixes.{reached, reached_booting, stored}
+
+-- A command gave this line; where memory is refused, it may have been done.
+abbrev pub ReportsReply : {D : Type 0} → Device D → (Place → Reply → Type 0) → Result (String Global) AllocError
+    → PlaceInMemory D → PlaceInMemory D → Type 0
+ReportsReply v P (Ok text) old new =
+    (p : Place) → IsAt v old p → Replied v p (λ a. P p a × (a.answer ≡ string_bytes text)) old new
+ReportsReply v P (Err e) old new = (p : Place) → IsAt v old p → Replied v p (P p) old new ⊎ NothingDone v p old new
 
 -- what an error became is the refusal
 pub reported_so : (r : Result (String Global) HandlerError) (why : HandlerError) → IsErrAnd r (λ e. e ≡ why) → r ≡ Err why

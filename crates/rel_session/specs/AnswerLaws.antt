@@ -1,15 +1,18 @@
 -- What is so of the answers of whole sessions.
-use Rattle.std.specs.Prelude.{◌≡◌, ◌⊎◌, Bool, true, false, ℕ, List, [], ◌∷◌, ◌++◌, None, Some}
+use Rattle.std.specs.Prelude.{◌≡◌, ◌≢◌, ◌⊎◌, Bool, true, false, ℕ, List, [], ◌∷◌, ◌++◌, None, Some}
 use Rattle.std.specs.List.{AllByRecursion}
 use Rattle.erl_term.specs.Lines.{is_one_line}
 use Rattle.erl_term.specs.Value.{Value}
 use Rattle.rel_files.specs.File.{HasVersions}
 use Rattle.library.specs.Library.{IsLibrary}
 use Rattle.rel_list.specs.Releases.{Bundle, Entry, Releases, bundle_in, has_current}
-use Rattle.rel_list.specs.Event.{Event, list_after}
+use Rattle.rel_list.specs.Event.{Event, booted, list_after}
 use Rattle.rel_list.specs.Event.Event.{restart_installed, boot as booting}
 use Rattle.node_processes.specs.ModuleVersions.{HaveModuleVersions}
 use Rattle.node_store.specs.Compaction.{compacted}
+use Rattle.node_store.specs.Image.{holds_a_store, IsImageOf}
+use Rattle.rel_handler.specs.Refusals.{IsBootRefusal}
+use Rattle.rel_handler.specs.declared.error.BootError.{BootError}
 use Rattle.rel_handler.specs.declared.error.BootError.TheVariants as boot_error
 use Rattle.node_store.specs.Events.{Events, Stored, at_rest_since, BeginWith}
 use Rattle.session_input.specs.Commands.{Command}
@@ -25,7 +28,7 @@ use Rattle.rel_session.specs.Node.{Place, Reply, releases_after}
 use Rattle.rel_session.specs.Node.Place.{raw, closed, running, dead}
 use Rattle.node_answer.specs.Refusals.{refusal_line}
 use Rattle.rel_session.specs.Booting.{boot_line}
-use Rattle.node_answer.specs.Refusals.NodeRefusal.{device}
+use Rattle.node_answer.specs.Refusals.NodeRefusal.{device, full}
 use Rattle.rel_session.specs.Run.{EndsInFull, Starts, Holds, Executes, Replies, Ending, answers_of, commands_in, events_of, IsRun}
 use Rattle.rel_session.specs.RunLaws.{MayBe, NoneFails}
 use Rattle.rel_session.specs.Transition.{Transition}
@@ -119,6 +122,58 @@ HaveOneText {D} v base =
     → IsCertain p → EndsInFull a → EndsInFull b → (HasFailed v old new → ⊥) → (HasFailed v other later → ⊥)
     → (run : IsRun v base files p commands a old new text) (again : IsRun v base files p commands b other later written)
     → LeaveCompactStores run.replies → LeaveCompactStores again.replies
+    → (a ≡ b) × (text ≡ written)
+
+-- A store with nothing in doubt, whose list a boot leads to this one.
+abbrev pub StoreBootsTo : Stored → Releases → Type 0
+StoreBootsTo s list =
+    HasNoDoubt s × ((before : Releases) × (list_after s.known.acknowledged ≡ Some before) × (booted before ≡ list))
+
+-- No node runs there, and a boot leads to this list.
+abbrev pub BootsTo : Place → Releases → Type 0
+BootsTo (raw bytes) list = (before : Releases) × IsImageOf bytes before × (booted before ≡ list)
+BootsTo (closed s) list = StoreBootsTo s list
+BootsTo (running events extent ps) list = ⊥
+BootsTo (dead s) list = StoreBootsTo s list
+
+-- A boot refuses the bytes of both disks by the same line, and a node may be made on both or on neither.
+abbrev pub AreRefusedAlike : Place → Place → Type 0
+AreRefusedAlike (raw x) (raw y) =
+    (why other : BootError) × IsBootRefusal x why × IsBootRefusal y other × (boot_line why ≡ boot_line other)
+    × (holds_a_store x ≡ holds_a_store y)
+AreRefusedAlike p q = ⊥
+
+-- No node runs there, and a boot leads to one list on both disks, or is refused alike. Their bytes, their events and how far their
+-- stores reach may differ.
+abbrev pub HaveOneList : Place → Place → Type 0
+HaveOneList p q = ((list : Releases) × BootsTo p list × BootsTo q list) ⊎ AreRefusedAlike p q
+
+-- none of the answers is that a record does not fit
+abbrev pub NoneIsFull : List Reply → Type 0
+NoneIsFull [] = Unit {0}
+NoneIsFull (a ∷ more) = (a.answer ≢ refusal_line full) × NoneIsFull more
+
+-- Where the device does not fail, no record is too large for what is left of a store, and a read of a file has one answer, the
+-- list of a disk decides what is answered, with which events, and how the session ends.
+abbrev pub ListDecidesAnswers : Source → Type 0
+ListDecidesAnswers base =
+    GivesOne base → (files : Files) (p q : Place) (commands : Feed Command) (a b : Ending) (first second : List Reply)
+    → HaveOneList p q → EndsInFull a → EndsInFull b → NoneFails first → NoneFails second → NoneIsFull first → NoneIsFull second
+    → Replies base files p commands a first → Replies base files q commands b second → (a ≡ b) × AreSame first second
+
+-- the line that reports that a record does not fit stands nowhere in the text
+abbrev pub HasNoFull : List ℕ → Type 0
+HasNoFull text = (front back : List ℕ) → text ≢ front ++ (refusal_line full ++ back)
+
+-- So two sessions over the same commands on disks with one list, of whatever kinds, have written the same text, where neither text
+-- has that line.
+abbrev pub ListDecidesText : {D E : Type 0} → Device D → Device E → Source → Type 0
+ListDecidesText {D} {E} v w base =
+    GivesOne base → (files : Files) (p q : Place) (commands : Feed Command) (a b : Ending) (old new : D) (other later : E)
+    (text written : List ℕ)
+    → HaveOneList p q → EndsInFull a → EndsInFull b → (HasFailed v old new → ⊥) → (HasFailed w other later → ⊥)
+    → HasNoFull text → HasNoFull written
+    → IsRun v base files p commands a old new text → IsRun w base files q commands b other later written
     → (a ≡ b) × (text ≡ written)
 
 -- the events of the place have a list

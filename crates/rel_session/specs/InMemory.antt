@@ -101,15 +101,8 @@ Answers v P (Err why) old new =
     → Replied v p (λ a. P p a × (a.answer ≡ refusal_line (refusal_of why))) old new
     ⊎ ((why ≡ handler_error.NoMemory) × (Replied v p (P p) old new ⊎ NothingDone v p old new))
 
--- A command gave this line; where memory is refused, it may have been done.
-abbrev pub ReportsReply : {D : Type 0} → Device D → (Place → Reply → Type 0) → Result (String Global) AllocError
-    → PlaceInMemory D → PlaceInMemory D → Type 0
-ReportsReply v P (Ok text) old new =
-    (p : Place) → IsAt v old p → Replied v p (λ a. P p a × (a.answer ≡ string_bytes text)) old new
-ReportsReply v P (Err e) old new = (p : Place) → IsAt v old p → Replied v p (P p) old new ⊎ NothingDone v p old new
-
--- It gave this line. Where memory is refused, it may have been done, or stopped within: Q says what stands in place of the reply
--- then.
+-- A command gave this line. Where memory is refused, it may have been done, or stopped within: Q says what stands in place of the
+-- reply then.
 abbrev pub ReportsOrStops : {D : Type 0} → Device D → (P Q : Place → Reply → Type 0) → Result (String Global) AllocError
     → PlaceInMemory D → PlaceInMemory D → Type 0
 ReportsOrStops v P Q (Ok text) old new =

@@ -84,12 +84,14 @@ abbrev pub Executes : {D : Type 0} → Device D → Place → List Reply → D �
 Executes v p [] old new = LeavesOnly v old new (v.may_leave old) × Holds v p new × (v.failures old ≤ v.failures new)
 Executes {D} v p (a ∷ more) old new = (mid : D) × Happens v p a old mid × Executes v a.after more mid new
 
--- how a session ends: at the end of its input or `quit`, where its input is cut off, where a read of it failed, or early
+-- How a session ends: at the end of its input or `quit`, or where its input is cut off; or early, where a read of it failed, an
+-- answer was not written, or memory was refused.
 pub data Ending : Type 0 where
   ended : Ending
   cut_off : Ending
   unread : Ending
-  early : Ending
+  unwritten : Ending
+  out_of_memory : Ending
 
 -- It came to the end of what it may take.
 abbrev pub EndsInFull : Ending → Type 0
@@ -101,18 +103,19 @@ EndsInFull ending = ⊥
 abbrev pub MayLeave : Source → Place → Command → Reply → Type 0
 MayLeave source p c a = Transition source p c a ⊎ IsStopped source p c a
 
--- This is the reply to a command, which these follow. The last one before an early end may be stopped within.
+-- This is the reply to a command, which these follow. The last one before memory was refused may be stopped within.
 abbrev pub IsReply : Source → Place → Command → Ending → List Reply → Reply → Type 0
-IsReply source p c early [] a = MayLeave source p c a
+IsReply source p c out_of_memory [] a = MayLeave source p c a
 IsReply source p c ending more a = Transition source p c a
 
 -- These are the replies to the commands, in order, over a source of files: to each up to the end or `quit`, or to the first of
--- them, where a read failed or the session ended early.
+-- them, where the session ended early.
 abbrev pub Replies : Source → Files → Place → Feed Command → Ending → List Reply → Type 0
 Replies base files p (next c commands) ending (a ∷ more) =
     IsReply (source_of base files) p c ending more a × Replies base (files_behind files c) a.after commands ending more
-Replies base files p commands early [] = Unit {0}
 Replies base files p commands unread [] = Unit {0}
+Replies base files p commands unwritten [] = Unit {0}
+Replies base files p commands out_of_memory [] = Unit {0}
 Replies base files p over ending [] = ending ≡ ended
 Replies base files p cut ending [] = ending ≡ cut_off
 Replies base files p (next c commands) ending [] = (c ≡ quit) × (ending ≡ ended)
@@ -123,11 +126,13 @@ abbrev pub answers_of : List Reply → List ℕ
 answers_of [] = []
 answers_of (a ∷ more) = a.answer ++ answers_of more
 
--- What is written for these replies: their answers, one after another. Of a session that ended early the last one may not
--- be written whole.
+-- What is written for these replies: their answers, one after another. Where an answer was not written, that is the last one, and
+-- a part of it stands there. Where memory was refused, the last one may have none.
 abbrev pub IsTextOf : Ending → List Reply → List ℕ → Type 0
-IsTextOf early replies text = (text ≡ answers_of replies) ⊎ ((first : List Reply) × (last : Reply) × (part left : List ℕ)
-    × (replies ≡ first ++ last ∷ []) × (part ++ left ≡ last.answer) × (text ≡ answers_of first ++ part))
+IsTextOf unwritten replies text = (first : List Reply) × (last : Reply) × (part left : List ℕ)
+    × (replies ≡ first ++ last ∷ []) × (part ++ left ≡ last.answer) × (text ≡ answers_of first ++ part)
+IsTextOf out_of_memory replies text = (text ≡ answers_of replies)
+    ⊎ ((first : List Reply) × (last : Reply) × (replies ≡ first ++ last ∷ []) × (text ≡ answers_of first))
 IsTextOf ending replies text = text ≡ answers_of replies
 
 -- the commands of an input

@@ -13,8 +13,7 @@ use Rattle.rel_unpack.specs.Source.{Source}
 use Rattle.rel_session.specs.Files.{Files}
 use Rattle.rel_session.specs.Node.{Place, at_rest, Reply}
 use Rattle.rel_session.specs.Node.Place.{raw, closed, running, dead}
-use Rattle.rel_session.specs.Run.{Starts, Holds, Executes, Replies, Ending, events_of}
-use Rattle.rel_session.specs.Transition.{Transition}
+use Rattle.rel_session.specs.Run.{Starts, Holds, Executes, MayLeave, Replies, Ending, events_of}
 
 -- the acknowledged events where the disk stands; of bytes that are no known store there are none
 abbrev pub acknowledged_at : Place → Events
@@ -57,9 +56,9 @@ pub record KeepsEvents (p : Place) (a : Reply) : Type 0 where
   pub known : IsKnown p ⊎ (a.outcome.acknowledged ≢ []) → IsKnown a.after
   pub ran : BeginWith (ran_at p) (ran_at a.after)
 
--- Each reply keeps the acknowledged events.
+-- Each reply keeps the acknowledged events, also one that is stopped within.
 abbrev pub EachKeeps : Source → Type 0
-EachKeeps source = (p : Place) (c : Command) (a : Reply) → Transition source p c a → KeepsEvents p a
+EachKeeps source = (p : Place) (c : Command) (a : Reply) → MayLeave source p c a → KeepsEvents p a
 
 -- where the disk stands behind these replies
 abbrev pub place_after : Place → List Reply → Place

@@ -1,18 +1,29 @@
 -- What a session has done once it has ended.
-use Rattle.std.specs.Prelude.{◌≡◌, ℕ, List, Option, None, Some}
+use Rattle.std.specs.Prelude.{◌≡◌, ℕ, List, Option, None, Some, Result, Ok, Err}
 use Rattle.session_input.specs.Commands.{Command}
 use Rattle.rel_session.specs.Device.{Device}
 use Rattle.session_input.specs.Feed.{Feed}
+use Rattle.session_input.specs.declared.error.SessionError.{SessionError}
+use Rattle.session_input.specs.declared.error.SessionError.TheVariants.{Read, Write, Limit, NoMemory}
 use Rattle.rel_unpack.specs.Source.{Source}
-use Rattle.rel_session.specs.Files.{Files}
+use Rattle.rel_session.specs.Files.{Files, no_files}
 use Rattle.rel_session.specs.Node.{Place}
 use Rattle.rel_session.specs.Output.{Writes}
 use Rattle.rel_session.specs.Run.{Starts, Ending, IsRun, commands_in}
+use Rattle.rel_session.specs.Run.Ending.{ended, cut_off, unread, unwritten, out_of_memory}
 
 -- These are the commands of an input. Of an input whose bytes no contract can name they may be any.
 abbrev pub AreCommands : Option (List ℕ) → Feed Command → Type 0
 AreCommands None commands = Unit {0}
 AreCommands (Some input) commands = commands ≡ commands_in input
+
+-- how a session ends, by its result
+abbrev pub ending_of : Result (Unit {0}) SessionError → Ending
+ending_of (Ok v) = ended
+ending_of (Err Read) = unread
+ending_of (Err Write) = unwritten
+ending_of (Err Limit) = cut_off
+ending_of (Err NoMemory) = out_of_memory
 
 -- Wherever the disk stood, a session with these commands, over a source of files and with these given before it, led from
 -- the one disk to the other, and this was written.
@@ -22,3 +33,10 @@ IsSession v base files ending input old new written written_then =
     (p : Place) → Starts v p old
     → (commands : Feed Command) × AreCommands input commands
     × Writes written written_then (λ text. IsRun v base files p commands ending old new text)
+
+-- What a session has written is allowed on each disk to which it has led by then: the answers of the commands that are done, each
+-- whole, whatever is left of its input.
+abbrev pub AllowsItsAnswers : {D : Type 0} → Device D → Source → Option (List ℕ) → D → Option (List ℕ)
+    → (D → Option (List ℕ) → Type 0) → Type 0
+AllowsItsAnswers {D} v base input old written Allowed =
+    (disk : D) (text : Option (List ℕ)) → IsSession v base no_files unread input old disk written text → Allowed disk text

@@ -1,66 +1,55 @@
 //! A session of a node.
 //!
-//! The commands come from `session_input`. A failed read, a failed write and an input that is too long are reported only where one
-//! was. At most 16,777,216 bytes of the input are taken. Each answer is written once its command is done, and before the next is
-//! read. Where memory is refused to the processes, or behind a commit to a boot or to the answer, the session ends without an
+//! The commands come from `session_input`. A failed read and a failed write are reported exactly where one was, and an input that
+//! is too long only where it is. At most 16,777,216 bytes of the input are taken. Each answer is written once its command is done
+//! (`allowed`), and before the next is read. Where memory is refused to the processes, or behind a commit to a boot or to the answer, the session ends without an
 //! answer, and what the command has committed is on the disk.
-ghost use Rattle.std.specs.Prelude.{◌≡◌, ◌≤◌, None, IsErrOf, OnOk, OnErr};
-ghost use Rattle.counted_io.specs.Counted.{held_by, failed_writes};
-ghost use Rattle.counted_io.specs.Failures.{HasRisen};
-ghost use Rattle.rel_session.specs.Session.{IsSession};
+ghost use Rattle.std.specs.Prelude.{◌≡◌, ◌≤◌, IsErrOf};
+ghost use Rattle.counted_io.specs.Failures.{Reports};
+ghost use Rattle.rel_session.specs.Session.{AllowsItsAnswers, IsSession, ending_of};
 ghost use Rattle.rel_session.specs.Files.{no_files};
 ghost use Rattle.session_input.specs.Input.{IsFresh, left_in, taken, failed_reads, most_bytes};
-ghost use Rattle.rel_session.specs.Run.Ending.{ended, cut_off, unread, early};
 
+use crate::answer_writer::AnswerWriter;
 use crate::node::Node;
-use counted_io::CountedWriter;
 use file_source::Files;
 use rel_disk::Disk;
 use session_input::{Input, SessionError};
 use std::alloc::Global;
-use std::io::{Read, Write};
+use std::io::Read;
 use std::sync::Wait;
 use std::thread::Threads;
 
 /// Follows the commands of an input on a disk, and writes each answer once its command is done. A file that isn't given in the
 /// session is read from `files`. The disk comes back with the result.
-pub fn session<H: Threads + Wait + Sync, D: Disk, F: Files, R: Read + Drop, W: Write + Drop>(
+pub fn session<H: Threads + Wait + Sync, D: Disk, F: Files, R: Read + Drop, A: AnswerWriter<D>>(
     rt: &H,
     alloc: Global,
     disk: D,
     files: &F,
     input: &mut Input<R>,
-    output: &mut CountedWriter<W>,
+    output: &mut A,
 ) -> (D, Result<(), SessionError>)
-    requires { IsFresh input.old }
+    requires fresh { IsFresh input.old }
 
-    // The session is a run of transitions over the commands of its input, from the disk that it took to the one that it
-    // hands back. What it wrote are the answers: all of them at the end of the input or at `quit`, and where more of the
-    // input was needed than may be taken.
-    ensures ended { OnOk result.1 (IsSession D.Disk (F.gives files.now) no_files ended
-        (left_in R.remaining input.old) disk result.0
-        (held_by W.contents output.old) (held_by W.contents output.new)) }
-    ensures cut { IsErrOf result.1 SessionError.Limit
-        → IsSession D.Disk (F.gives files.now) no_files cut_off
-        (left_in R.remaining input.old) disk result.0
-        (held_by W.contents output.old) (held_by W.contents output.new) }
+    // Leave is asked for no more than the answers of a session that led to the disk as it stands when they are written: of the
+    // commands that are done, and of none that is to come.
+    requires allowed { AllowsItsAnswers D.Disk (F.gives files.now) (left_in R.remaining input.old)
+        disk (A.written output.old) (A.allows output.old) }
 
-    // After a failed read it is such a run up to some command, and all answers are written.
-    ensures unread { IsErrOf result.1 SessionError.Read
-        → IsSession D.Disk (F.gives files.now) no_files unread
+    // The session is a run of transitions over the commands of its input, from the disk that it took to the one that it hands
+    // back, and what it wrote are the answers. By its result it came to the end of its input, to `quit` or to the end of what
+    // may be taken; or a read failed and all answers are written; or an answer was written in part; or memory was refused, to a
+    // command or to its answer.
+    ensures session { IsSession D.Disk (F.gives files.now) no_files (ending_of result.1)
         (left_in R.remaining input.old) disk result.0
-        (held_by W.contents output.old) (held_by W.contents output.new) }
+        (A.written output.old) (A.written output.new) }
 
-    // After any error it is such a run up to some command, whose answer may not be written whole.
-    ensures broken { OnErr result.1 (IsSession D.Disk (F.gives files.now) no_files early
-        (left_in R.remaining input.old) disk result.0
-        (held_by W.contents output.old) (held_by W.contents output.new)) }
-
-    // Each error but out of memory has its cause in this call.
-    ensures read { IsErrOf result.1 SessionError.Read
-        → HasRisen (failed_reads input.old) (failed_reads input.new) }
-    ensures write { IsErrOf result.1 SessionError.Write
-        → HasRisen (failed_writes output.old) (failed_writes output.new) }
+    // A failed read and a failed write are reported exactly where one was, and Limit only at the limit.
+    ensures read { Reports SessionError.Read result.1
+        (failed_reads input.old) (failed_reads input.new) }
+    ensures write { Reports SessionError.Write result.1
+        (A.failed output.old) (A.failed output.new) }
     ensures limit { IsErrOf result.1 SessionError.Limit → taken input.new ≡ most_bytes }
 
     // No byte past the limit is taken.
@@ -77,7 +66,7 @@ pub fn session<H: Threads + Wait + Sync, D: Disk, F: Files, R: Read + Drop, W: W
         node = next;
         match text {
             Ok(Some(text)) => {
-                if let Err(error) = output.write(text.as_bytes()) {
+                if let Err(error) = output.write_answer(&node, text.as_str()) {
                     return (node.into_disk(), Err(SessionError::from(error)));
                 }
             }

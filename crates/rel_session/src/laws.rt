@@ -1,20 +1,24 @@
 //! Laws of sessions. Each function does nothing: its contract is the law, and the laws that it calls are what it rests on.
-ghost use Rattle.rel_session.specs.AnswerLaws.{FailsOnlyWithTheDevice, ReportsDoubt, HaveOneAnswer, HaveOneText, EachHasAnAnswer, DeterminesOneRun, ReadsLinePaths, KeepsVersions, RepliesKeepVersions};
+ghost use Rattle.std.specs.Prelude.{[]};
+ghost use Rattle.rel_session.specs.AnswerLaws.{FailsOnlyWithTheDevice, ReportsDoubt, HaveOneAnswer, HaveOneText, EachHasAnAnswer, HaveOneList, ListDecidesAnswers, ListDecidesText, DeterminesOneRun, ReadsLinePaths, KeepsVersions, RepliesKeepVersions};
 ghost use Rattle.rel_session.specs.LawsBelow.{BootLaws};
+ghost use Rattle.rel_session.specs.Node.Place.{raw};
 ghost use Rattle.rel_session.specs.RunLaws.{EachKeeps, IsOfAccepted, LosesNothing, BeginsWhereOneEnded, BeginsBehindACrash, LosesNothingEver, BeginsWithAMaking};
 
 use file_source::Files;
 use rel_disk::Disk;
-use rel_handler::laws::a_disk_boots_or_is_refused;
+use rel_handler::laws::{a_disk_boots_or_is_refused, a_disk_with_a_list_holds_a_store};
 
-/// A disk stands for one list, or a boot refuses it.
+/// A disk stands for one list, and holds a store then, or a boot refuses it.
 fn a_disk_stands_for_one_list()
     ensures { BootLaws }
 {
     a_disk_boots_or_is_refused();
+    a_disk_with_a_list_holds_a_store();
 }
 
-/// Each reply keeps the acknowledged events, and adds only its own. At each moment of a session, ended or broken off, a crash
+/// Each reply keeps the acknowledged events, and adds only its own, also where its command is stopped within for want of memory. At
+/// each moment of a session, ended or broken off, a crash
 /// leaves the list of events that begin with all those acknowledged before that moment. Behind these stand only the one that was in
 /// doubt, if there was one, and what later commands add, in order. And it leaves a start record that is no older than the last of
 /// the acknowledged events behind which it was right, as it is where a node runs.
@@ -50,6 +54,20 @@ pub fn an_input_has_one_answer<D: Disk, F: Files>()
     ensures one { (files : F) → HaveOneAnswer (F.gives files) }
     ensures written { (files : F) → HaveOneText D.Disk (F.gives files) }
     ensures some { (files : F) → EachHasAnAnswer (F.gives files) }
+{
+    a_disk_stands_for_one_list();
+}
+
+/// Where the device does not fail, and no answer is that a record does not fit, the list of a disk decides what a session answers
+/// that comes to the end of its input, or of what is taken of it: whatever the bytes of the disk, the events of its store and how
+/// far it reaches, and whether memory was refused to a compaction. So it is of two disks without a list too, where a boot refuses
+/// both alike. A read of a file has to have one answer.
+pub fn a_list_decides_what_is_answered<D: Disk, E: Disk, F: Files>()
+    ensures answered { (files : F) → ListDecidesAnswers (F.gives files) }
+    ensures written { (files : F) → ListDecidesText D.Disk E.Disk (F.gives files) }
+
+    // Empty disks are alike so.
+    ensures empty { HaveOneList (raw []) (raw []) }
 {
     a_disk_stands_for_one_list();
 }

@@ -26,7 +26,7 @@ impl<D: Disk> Node<D> {
     ghost use Rattle.rel_session.specs.InMemory.{disk_of, IsSoundPlace, FollowsCommand};
 
     /// No node was made or booted on the disk yet, and no file was given.
-    pub fn new(alloc: Global, disk: D) -> Node<D>
+    pub(crate) fn new(alloc: Global, disk: D) -> Node<D>
         ensures place { result.place ≡ Idle disk }
         ensures files { files_of result.files ≡ no_files }
     {
@@ -37,7 +37,7 @@ impl<D: Disk> Node<D> {
     }
 
     /// The disk.
-    pub fn into_disk(self) -> D
+    pub(crate) fn into_disk(self) -> D
         ensures { result ≡ disk_of self }
     {
         let Node { place, files: _ } = self;
@@ -46,7 +46,7 @@ impl<D: Disk> Node<D> {
 
     /// Does what the command says. A file that wasn't given is read from `base`. The answer is its text, or none where the
     /// session ends.
-    pub fn follow<R: Threads + Wait + Sync, F: Files>(
+    pub(crate) fn follow<R: Threads + Wait + Sync, F: Files>(
         self,
         rt: &R,
         alloc: Global,

@@ -2,7 +2,7 @@
 use Rattle.std.proofs.Common.{◌≡◌, refl, ap, sym, subst, ◌∙◌, ℕ, true, false, List, [], ◌∷◌, ◌++◌, map, reverse, filter, filter_map, flat_map, Some, IsPermutation, if◌then◌else◌}
 use Rattle.std.proofs.lemmas.List.{append_assoc, append-nil, map-append}
 use Rattle.std.proofs.lemmas.Grind.{flat_map-append as of_both}
-use Rattle.std.proofs.lemmas.List.Sorted.{IsPermutation-refl, IsPermutation-trans, IsPermutation-map, IsPermutation-filter_both}
+use Rattle.std.proofs.lemmas.List.Sorted.{IsPermutation-refl, IsPermutation-map}
 use Rattle.relup_instruction.specs.declared.instruction.Direction.{Direction}
 use Rattle.relup_instruction.specs.declared.instruction.Direction.TheVariants.{Up, Down}
 use Rattle.relup_instruction.specs.Instruction.{SuspensionForm, PurgingForm, ChangeForm, ConversionForm, Instruction}
@@ -11,7 +11,8 @@ use Rattle.relup_block.specs.declared.order.ChoiceRule.TheVariants.{DependentsFi
 use Rattle.relup_block.specs.Order.{BlockItemForm, order}
 use Rattle.relup_block.specs.Order.BlockItemForm.{updated, loaded}
 use Rattle.relup_block.specs.Block.{suspension, resumption, change, purging, is_of_kind, over, suspending, loading, changing, resuming, updating, in_orders, block}
-use Rattle.relup_block.specs.Laws.{load_by, changed_by, suspended_by, resumed_by, Loads, LoadsEachOnce, ChangesEachOnce, SuspendsEachOnce, ResumesSuspended, LoadsBeforeChange, ChangesBeforeLoad, is_change, SuspendsMeanwhile}
+use Rattle.relup_block.specs.Laws.{load_by, changed_by, suspended_by, resumed_by, OrdersUp, OrdersDown, ResumesSuspended, LoadsBeforeChange, ChangesBeforeLoad, is_change, SuspendsMeanwhile}
+use Rattle.relup_block.proofs.DependencyLemmas.{makes_orders}
 use Rattle.relup_block.proofs.PermutationLemmas.{order_same, order_has_items, order_filter}
 
 -- A block is in two orders.
@@ -75,26 +76,17 @@ loads_of (x ∷ xs) = ap (λ (ps : List PurgingForm). purging x ∷ ps) (loads_o
 pub no_loads : (d : Direction) (xs : List BlockItemForm) → flat_map load_by (changing d xs) ≡ []
 no_loads d xs = of_none load_by (conversion d) (λ cs. refl) (filter_map change xs)
 
-loads_updating : (d : Direction) (xs : List BlockItemForm) → IsPermutation (map purging xs) (flat_map load_by (updating d xs))
-loads_updating Up xs =
-    subst (IsPermutation (map purging xs))
-    (sym (of_both load_by (loading xs) (changing Up xs) ∙ ((λ j. loads_of xs j ++ no_loads Up xs j) ∙ append-nil (map purging xs))))
-    (IsPermutation-refl (map purging xs))
-loads_updating Down xs =
-    let both = IsPermutation-map purging _ _ (IsPermutation-filter_both (is_of_kind true) (is_of_kind false) (λ x. refl) xs) in
-    subst (IsPermutation (map purging xs))
-    (map-append purging (filter (is_of_kind true) xs) (filter (is_of_kind false) xs)
-    ∙ sym (of_down load_by xs ∙ (λ j. loads_of (filter (is_of_kind true) xs) j ++ (no_loads Down xs j ++ loads_of (filter (is_of_kind false) xs) j))))
-    both
+loaded_up : (ss xs : List BlockItemForm) → flat_map load_by (in_orders Up ss xs) ≡ map purging xs
+loaded_up ss xs =
+    of_updates load_by (λ ss'. refl) (λ names. refl) Up ss xs
+    ∙ (of_both load_by (loading xs) (changing Up xs) ∙ ((λ j. loads_of xs j ++ no_loads Up xs j) ∙ append-nil (map purging xs)))
 
-loads_in_orders : (d : Direction) (ss xs ys : List BlockItemForm) → IsPermutation xs ys → Loads xs (in_orders d ss ys)
-loads_in_orders d ss xs ys h =
-    subst (IsPermutation (map purging xs)) (sym (of_updates load_by (λ ss'. refl) (λ names. refl) d ss ys))
-    (IsPermutation-trans _ _ _ (IsPermutation-map purging xs ys h) (loads_updating d ys))
-
-pub loads_each_once : LoadsEachOnce
-loads_each_once Up xs = loads_in_orders Up (order DependentsFirst xs) xs _ (order_has_items DependenciesFirst xs)
-loads_each_once Down xs = loads_in_orders Down (order DependenciesFirst xs) xs _ (order_has_items DependentsFirst xs)
+loaded_down : (ss xs : List BlockItemForm) → flat_map load_by (in_orders Down ss xs) ≡ map purging (filter (is_of_kind true) xs ++ filter (is_of_kind false) xs)
+loaded_down ss xs =
+    let static = filter (is_of_kind true) xs in
+    let others = filter (is_of_kind false) xs in
+    of_updates load_by (λ ss'. refl) (λ names. refl) Down ss xs
+    ∙ (of_down load_by xs ∙ ((λ j. loads_of static j ++ (no_loads Down xs j ++ loads_of others j)) ∙ sym (map-append purging static others)))
 
 -- What is changed.
 changes_updating : (d : Direction) (xs : List BlockItemForm) → flat_map changed_by (updating d xs) ≡ filter_map change xs
@@ -110,24 +102,18 @@ changes_updating Down xs =
 changes_in_orders : (d : Direction) (ss ys : List BlockItemForm) → flat_map changed_by (in_orders d ss ys) ≡ filter_map change ys
 changes_in_orders d ss ys = of_updates changed_by (λ ss'. refl) (λ names. refl) d ss ys ∙ changes_updating d ys
 
-pub changes_each_once : ChangesEachOnce
-changes_each_once Up xs =
-    subst (IsPermutation (filter_map change xs)) (sym (changes_in_orders Up (order DependentsFirst xs) (order DependenciesFirst xs))) (order_same change DependenciesFirst xs)
-changes_each_once Down xs =
-    subst (IsPermutation (filter_map change xs)) (sym (changes_in_orders Down (order DependenciesFirst xs) (order DependentsFirst xs))) (order_same change DependentsFirst xs)
-
 -- What is suspended and resumed.
 same_names : (xs : List BlockItemForm) → map (λ (s : SuspensionForm). s.name) (filter_map suspension xs) ≡ filter_map resumption xs
 same_names [] = refl
 same_names (updated u ∷ xs) = ap (λ (names : List (List ℕ)). u.name ∷ names) (same_names xs)
 same_names (loaded l ∷ xs) = same_names xs
 
-suspended_in : (d : Direction) (ss xs : List BlockItemForm) → flat_map suspended_by (in_orders d ss xs) ≡ filter_map resumption ss
+suspended_in : (d : Direction) (ss xs : List BlockItemForm) → flat_map suspended_by (in_orders d ss xs) ≡ filter_map suspension ss
 suspended_in d ss xs =
     of_block suspended_by d ss xs
-    ∙ ((λ j. of_one suspended_by suspend (map (λ (s : SuspensionForm). s.name)) refl (λ ss'. refl) (filter_map suspension ss) j
+    ∙ ((λ j. of_one suspended_by suspend (λ ss'. ss') refl (λ ss'. refl) (filter_map suspension ss) j
     ++ (of_no_updates suspended_by (λ p. refl) (λ e cs. refl) d xs j ++ of_none suspended_by resume (λ names. refl) (reverse (filter_map resumption ss)) j))
-    ∙ (append-nil (map (λ (s : SuspensionForm). s.name) (filter_map suspension ss)) ∙ same_names ss))
+    ∙ append-nil (filter_map suspension ss))
 
 resumed_in : (d : Direction) (ss xs : List BlockItemForm) → flat_map resumed_by (in_orders d ss xs) ≡ reverse (filter_map resumption ss)
 resumed_in d ss xs =
@@ -135,15 +121,42 @@ resumed_in d ss xs =
     ∙ (λ j. of_none resumed_by suspend (λ ss'. refl) (filter_map suspension ss) j
     ++ (of_no_updates resumed_by (λ p. refl) (λ e cs. refl) d xs j ++ of_one resumed_by resume (λ names. names) refl (λ names. refl) (reverse (filter_map resumption ss)) j))
 
-pub suspends_each_once : SuspendsEachOnce
-suspends_each_once Up xs =
-    subst (IsPermutation (filter_map resumption xs)) (sym (suspended_in Up (order DependentsFirst xs) (order DependenciesFirst xs))) (order_same resumption DependentsFirst xs)
-suspends_each_once Down xs =
-    subst (IsPermutation (filter_map resumption xs)) (sym (suspended_in Down (order DependenciesFirst xs) (order DependentsFirst xs))) (order_same resumption DependenciesFirst xs)
-
 pub resumes_suspended : ResumesSuspended
-resumes_suspended Up xs = resumed_in Up (order DependentsFirst xs) (order DependenciesFirst xs) ∙ ap reverse (sym (suspended_in Up (order DependentsFirst xs) (order DependenciesFirst xs)))
-resumes_suspended Down xs = resumed_in Down (order DependenciesFirst xs) (order DependentsFirst xs) ∙ ap reverse (sym (suspended_in Down (order DependenciesFirst xs) (order DependentsFirst xs)))
+resumes_suspended d xs =
+    let orders = in_two_orders d xs in
+    let ss = orders.0 in
+    let ys = orders.1 in
+    subst (λ (is : List Instruction). flat_map resumed_by is ≡ reverse (map (λ (s : SuspensionForm). s.name) (flat_map suspended_by is))) (sym orders.2)
+    (resumed_in d ss ys ∙ ap reverse (sym (same_names ss) ∙ ap (map (λ (s : SuspensionForm). s.name)) (sym (suspended_in d ss ys))))
+
+-- So a block goes by its two orders.
+pub orders_up : OrdersUp
+orders_up xs =
+    let ss = order DependentsFirst xs in
+    let ys = order DependenciesFirst xs in
+    record {
+      suspended = ss;
+      loaded = ys;
+      suspending = makes_orders DependentsFirst xs;
+      loading = makes_orders DependenciesFirst xs;
+      suspends = suspended_in Up ss ys;
+      loads = loaded_up ss ys;
+      changes = changes_in_orders Up ss ys;
+    }
+
+pub orders_down : OrdersDown
+orders_down xs =
+    let ss = order DependenciesFirst xs in
+    let ys = order DependentsFirst xs in
+    record {
+      suspended = ss;
+      loaded = ys;
+      suspending = makes_orders DependenciesFirst xs;
+      loading = makes_orders DependentsFirst xs;
+      suspends = suspended_in Down ss ys;
+      loads = loaded_down ss ys;
+      changes = changes_in_orders Down ss ys;
+    }
 
 -- Where states are changed.
 abbrev conversion_by : Instruction → List ConversionForm
@@ -185,7 +198,7 @@ only_one (i ∷ before) after (j ∷ front) rest c d p q e =
 at_change : (d : Direction) (a b e z front rest : List Instruction) (cs : List ChangeForm) (c : ConversionForm)
     → flat_map conversion_by a ≡ [] → flat_map conversion_by b ≡ [] → flat_map conversion_by e ≡ [] → flat_map conversion_by z ≡ []
     → a ++ ((b ++ (over (conversion d) cs ++ e)) ++ z) ≡ front ++ (code_change c ∷ rest)
-    → (a ++ b ≡ front) × (cs ≡ c.changes) × (e ++ z ≡ rest)
+    → (a ++ b ≡ front) × (cs ≡ c.changes) × (e ++ z ≡ rest) × (c.mode ≡ Some d)
 at_change d a b e z front rest [] c p q r s is =
     let quiet : flat_map conversion_by (a ++ ((b ++ e) ++ z)) ≡ [] =
     of_both conversion_by a ((b ++ e) ++ z)
@@ -197,7 +210,7 @@ at_change d a b e z front rest (k ∷ ks) c p q r s is =
     append_assoc a b (conversion d (k ∷ ks) ∷ (e ++ z))
     ∙ (ap (λ (is' : List Instruction). a ++ is') (sym (append_assoc b (conversion d (k ∷ ks) ∷ e) z)) ∙ is) in
     let there = only_one (a ++ b) (e ++ z) front rest c (record { mode = Some d; changes = k ∷ ks }) (of_both conversion_by a b ∙ (λ j. p j ++ q j)) (of_both conversion_by e z ∙ (λ j. r j ++ s j)) shape in
-    (there.0, ap (λ (g : ConversionForm). g.changes) there.1, there.2)
+    (there.0, ap (λ (g : ConversionForm). g.changes) there.1, there.2, sym (ap (λ (g : ConversionForm). g.mode) there.1))
 
 no_conversion_first : (ss : List BlockItemForm) → flat_map conversion_by (suspending ss) ≡ []
 no_conversion_first ss = of_none conversion_by suspend (λ ss'. refl) (filter_map suspension ss)
@@ -224,6 +237,7 @@ loads_before_change xs front rest c is =
       subst (IsPermutation (map purging xs)) (sym (loads_first ss ys) ∙ ap (flat_map load_by) there.0) (IsPermutation-map purging xs ys (order_has_items DependenciesFirst xs)),
       subst (IsPermutation (filter_map change xs)) there.1 (order_same change DependenciesFirst xs),
       subst (IsPermutation []) (sym (loads_last ss []) ∙ ap (flat_map load_by) there.2) (IsPermutation-refl []),
+      there.3,
     )
 
 pub changes_before_load : ChangesBeforeLoad
@@ -239,6 +253,7 @@ changes_before_load xs front rest c is =
       subst (IsPermutation (filter_map change xs)) there.1 (order_same change DependentsFirst xs),
       subst (IsPermutation (map purging (filter (is_of_kind false) xs))) (sym (loads_last ss others) ∙ ap (flat_map load_by) there.2)
           (IsPermutation-map purging _ _ (order_filter (is_of_kind false) DependentsFirst xs)),
+      there.3,
     )
 
 -- Meanwhile the modules of all updates are suspended.

@@ -1,12 +1,12 @@
 -- An order follows dependencies that have no cycle.
-use Rattle.std.proofs.Common.{◌≡◌, refl, ap, sym, subst, ◌∙◌, ℕ, zero, suc, ◌+◌, ◌≤◌, Bool, true, false, not, ◌&&◌, ◌||◌, List, [], ◌∷◌, ◌++◌, length, Option, None, Some, ◌⊎◌, inl, inr, if◌then◌else◌, arith}
+use Rattle.std.proofs.Common.{◌≡◌, refl, ap, sym, subst, ◌∙◌, ℕ, zero, suc, ◌≤◌, Bool, true, false, not, ◌&&◌, ◌||◌, List, [], ◌∷◌, ◌++◌, length, Option, None, Some, ◌⊎◌, inl, inr, if◌then◌else◌, arith}
 use Rattle.std.specs.List.{AllByRecursion, list_any}
 use Rattle.std.proofs.lemmas.List.{append_assoc}
 use Rattle.std.proofs.lemmas.List.Folds.{list_any-append}
 use Rattle.std.proofs.lemmas.List.Sorted.{list_any-IsPermutation}
 use Rattle.relup_block.specs.declared.order.ChoiceRule.{ChoiceRule}
 use Rattle.relup_block.specs.Order.{BlockItemForm, must_wait_for, is_free, first_free, or_first, choice, choose_then, choices, order}
-use Rattle.relup_block.specs.Laws.{IsLower, HaveNoCycle, StandBehind}
+use Rattle.relup_block.specs.Laws.{IsLower, HaveNoCycle, StandBehind, MakesOrders}
 use Rattle.relup_block.proofs.PermutationLemmas.{choice_length, order_has_items}
 
 module _ (rule : ChoiceRule) (number : BlockItemForm → ℕ) where
@@ -182,5 +182,5 @@ choices_follow rule number (suc n) xs long h = go (λ ys l none. choices_follow 
         ∙ ap (λ (m : ℕ). list_any (must_wait_for rule p.0) (choices rule m p.1)) rest in
         (ap not (sym same) ∙ there.free, more p.1 rest none)
 
-pub follows_dependencies : (rule : ChoiceRule) (number : BlockItemForm → ℕ) (xs : List BlockItemForm) → HaveNoCycle rule number xs → StandBehind rule (order rule xs)
-follows_dependencies rule number xs h = choices_follow rule number (length xs) xs refl h
+pub makes_orders : MakesOrders
+makes_orders rule xs = record { same = order_has_items rule xs; behind = λ number h. choices_follow rule number (length xs) xs refl h }

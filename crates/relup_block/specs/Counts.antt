@@ -1,5 +1,5 @@
 -- How many others each item waits for, by which the orders are made.
-use Rattle.std.specs.Prelude.{ℕ, zero, suc, ◌+◌, ◌-◌, ◌<◌, ◌≤◌, nat_eq, Bool, true, false, List, [], ◌∷◌, ◌≡◌, ◌++◌, length, map, filter, Option, None, Some, if◌then◌else◌}
+use Rattle.std.specs.Prelude.{ℕ, ◌+◌, ◌-◌, ◌<◌, ◌≤◌, nat_eq, Bool, true, false, List, [], ◌∷◌, ◌≡◌, ◌++◌, length, map, filter, Option, None, Some, if◌then◌else◌}
 use Rattle.relup_block.specs.declared.order.ChoiceRule.{ChoiceRule}
 use Rattle.relup_block.specs.declared.order.BlockItem.{BlockItem}
 use Rattle.relup_block.specs.declared.order.Waiting.{Waiting}

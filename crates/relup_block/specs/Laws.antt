@@ -1,13 +1,14 @@
 -- Laws of blocks, above the definition of their instructions.
-use Rattle.std.specs.Prelude.{◌≡◌, ℕ, ◌<◌, Bool, true, false, List, [], ◌∷◌, ◌++◌, map, reverse, filter, IsPermutation}
+use Rattle.std.specs.Prelude.{◌≡◌, ℕ, ◌<◌, Bool, true, false, List, [], ◌∷◌, ◌++◌, map, reverse, filter, Some, IsPermutation}
 use Rattle.relup_instruction.specs.declared.instruction.Direction.{Direction}
 use Rattle.relup_instruction.specs.declared.instruction.Direction.TheVariants.{Up, Down}
 use Rattle.relup_instruction.specs.Instruction.{SuspensionForm, PurgingForm, ChangeForm, ConversionForm, Instruction}
 use Rattle.relup_instruction.specs.Instruction.Instruction.{suspend, load, code_change, resume}
 use Rattle.std.specs.List.{AllByRecursion, filter_map, flat_map}
 use Rattle.relup_block.specs.declared.order.ChoiceRule.{ChoiceRule}
+use Rattle.relup_block.specs.declared.order.ChoiceRule.TheVariants.{DependentsFirst, DependenciesFirst}
 use Rattle.relup_block.specs.Order.{BlockItemForm, must_wait_for, is_free, order}
-use Rattle.relup_block.specs.Block.{resumption, change, purging, is_of_kind, block}
+use Rattle.relup_block.specs.Block.{suspension, change, purging, is_of_kind, block}
 
 -- what an instruction loads,
 abbrev pub load_by : Instruction → List PurgingForm
@@ -19,9 +20,9 @@ abbrev pub changed_by : Instruction → List ChangeForm
 changed_by (code_change c) = c.changes
 changed_by i = []
 
--- the modules that it suspends,
-abbrev pub suspended_by : Instruction → List (List ℕ)
-suspended_by (suspend ss) = map (λ (s : SuspensionForm). s.name) ss
+-- the modules that it suspends, with how long it waits for each,
+abbrev pub suspended_by : Instruction → List SuspensionForm
+suspended_by (suspend ss) = ss
 suspended_by i = []
 
 -- and those that it resumes
@@ -36,10 +37,6 @@ Loads xs is = IsPermutation (map purging xs) (flat_map load_by is)
 -- The states of these updates are changed, each once.
 abbrev pub Changes : List BlockItemForm → List ChangeForm → Type 0
 Changes xs cs = IsPermutation (filter_map change xs) cs
-
--- An order of a block has its items, each once.
-abbrev pub OrderHasItems : Type 0
-OrderHasItems = (rule : ChoiceRule) (xs : List BlockItemForm) → IsPermutation xs (order rule xs)
 
 -- The one item has the lower number if the other waits for it.
 abbrev pub IsLower : ChoiceRule → (BlockItemForm → ℕ) → BlockItemForm → BlockItemForm → Type 0
@@ -56,40 +53,53 @@ abbrev pub StandBehind : ChoiceRule → List BlockItemForm → Type 0
 StandBehind rule [] = Unit {0}
 StandBehind rule (x ∷ xs) = (is_free rule x xs ≡ true) × StandBehind rule xs
 
--- Where the dependencies have no cycle, an order follows them.
-abbrev pub FollowsDependencies : Type 0
-FollowsDependencies = (rule : ChoiceRule) (number : BlockItemForm → ℕ) (xs : List BlockItemForm)
-    → HaveNoCycle rule number xs → StandBehind rule (order rule xs)
+-- The second row is an order of the first: it has its items, each once, and where the dependencies have no cycle, each stands
+-- behind all those that it waits for.
+pub record IsOrder (rule : ChoiceRule) (xs ys : List BlockItemForm) : Type 0 where
+  pub same : IsPermutation xs ys
+  pub behind : (number : BlockItemForm → ℕ) → HaveNoCycle rule number xs → StandBehind rule ys
 
--- The module of each item of a block is loaded exactly once for it; a module named twice is two items.
-abbrev pub LoadsEachOnce : Type 0
-LoadsEachOnce = (d : Direction) (xs : List BlockItemForm) → Loads xs (block d xs)
+-- The choices of a rule make an order.
+abbrev pub MakesOrders : Type 0
+MakesOrders = (rule : ChoiceRule) (xs : List BlockItemForm) → IsOrder rule xs (order rule xs)
 
--- The state of each advanced update is changed exactly once.
-abbrev pub ChangesEachOnce : Type 0
-ChangesEachOnce = (d : Direction) (xs : List BlockItemForm) → Changes xs (flat_map changed_by (block d xs))
+-- The updates are suspended in an order of the one rule. Modules are loaded and states changed in an order of the other, but
+-- for what comes first of the loads: each item once, with its own words. A module named twice is two items.
+pub record GoesInOrders (first then : ChoiceRule) (arranged : List BlockItemForm → List BlockItemForm) (xs : List BlockItemForm)
+    (is : List Instruction) : Type 0 where
+  pub suspended : List BlockItemForm
+  pub loaded : List BlockItemForm
+  pub suspending : IsOrder first xs suspended
+  pub loading : IsOrder then xs loaded
+  pub suspends : flat_map suspended_by is ≡ filter_map suspension suspended
+  pub loads : flat_map load_by is ≡ map purging (arranged loaded)
+  pub changes : flat_map changed_by is ≡ filter_map change loaded
 
--- The module of each update is suspended, exactly once for it.
-abbrev pub SuspendsEachOnce : Type 0
-SuspendsEachOnce = (d : Direction) (xs : List BlockItemForm)
-    → IsPermutation (filter_map resumption xs) (flat_map suspended_by (block d xs))
+-- Going up, what depends on others is suspended first, and loaded and changed last.
+abbrev pub OrdersUp : Type 0
+OrdersUp = (xs : List BlockItemForm) → GoesInOrders DependentsFirst DependenciesFirst (λ ls. ls) xs (block Up xs)
+
+-- Going down it is the other way round, and static updates are loaded before all else.
+abbrev pub OrdersDown : Type 0
+OrdersDown = (xs : List BlockItemForm)
+    → GoesInOrders DependenciesFirst DependentsFirst (λ ls. filter (is_of_kind true) ls ++ filter (is_of_kind false) ls) xs (block Down xs)
 
 -- Those that are suspended are resumed, the last first.
 abbrev pub ResumesSuspended : Type 0
 ResumesSuspended = (d : Direction) (xs : List BlockItemForm)
-    → flat_map resumed_by (block d xs) ≡ reverse (flat_map suspended_by (block d xs))
+    → flat_map resumed_by (block d xs) ≡ reverse (map (λ (s : SuspensionForm). s.name) (flat_map suspended_by (block d xs)))
 
--- Going up, all modules are loaded before states are changed.
+-- Going up, all modules are loaded before states are changed, which are changed as for an upgrade.
 abbrev pub LoadsBeforeChange : Type 0
 LoadsBeforeChange = (xs : List BlockItemForm) (front rest : List Instruction) (c : ConversionForm)
     → block Up xs ≡ front ++ (code_change c ∷ rest)
-    → Loads xs front × Changes xs c.changes × Loads [] rest
+    → Loads xs front × Changes xs c.changes × Loads [] rest × (c.mode ≡ Some Up)
 
--- Going down, states are changed before their modules are loaded, but for those of static updates.
+-- Going down, states are changed, as for a downgrade, before their modules are loaded, but for those of static updates.
 abbrev pub ChangesBeforeLoad : Type 0
 ChangesBeforeLoad = (xs : List BlockItemForm) (front rest : List Instruction) (c : ConversionForm)
     → block Down xs ≡ front ++ (code_change c ∷ rest)
-    → Loads (filter (is_of_kind true) xs) front × Changes xs c.changes × Loads (filter (is_of_kind false) xs) rest
+    → Loads (filter (is_of_kind true) xs) front × Changes xs c.changes × Loads (filter (is_of_kind false) xs) rest × (c.mode ≡ Some Down)
 
 -- The instruction loads a module or changes states.
 abbrev pub is_change : Instruction → Bool

@@ -1,30 +1,21 @@
 //! Laws of blocks, above their definition. Each function does nothing: its contract is the law.
-ghost use Rattle.relup_block.specs.Laws.{OrderHasItems, FollowsDependencies, LoadsEachOnce, ChangesEachOnce, SuspendsEachOnce, ResumesSuspended, LoadsBeforeChange, ChangesBeforeLoad, SuspendsMeanwhile};
+ghost use Rattle.relup_block.specs.Laws.{MakesOrders, OrdersUp, OrdersDown, ResumesSuspended, LoadsBeforeChange, ChangesBeforeLoad, SuspendsMeanwhile};
 
-/// An order of a block has its items, each once.
-pub fn an_order_has_each_item_once()
-    ensures { OrderHasItems }
-{}
-
-/// Where the dependencies among the items of a block have no cycle, each item of an order stands behind all those that it
-/// waits for.
+/// An order of a block has its items, each once. Where the dependencies among them have no cycle, each item stands behind all
+/// those that it waits for.
 pub fn an_order_follows_dependencies_without_a_cycle()
-    ensures { FollowsDependencies }
+    ensures { MakesOrders }
 {}
 
-/// The module of each item of a block is loaded exactly once for it.
-pub fn each_item_is_loaded_once()
-    ensures { LoadsEachOnce }
+/// Going up, what depends on others is suspended first, and loaded and changed last. Each update is suspended once, the module
+/// of each item loaded once, and the state of each advanced update changed once.
+pub fn going_up_dependents_are_suspended_first_and_loaded_last()
+    ensures { OrdersUp }
 {}
 
-/// The state of each advanced update is changed exactly once.
-pub fn each_state_is_changed_once()
-    ensures { ChangesEachOnce }
-{}
-
-/// The module of each update is suspended, exactly once for it.
-pub fn each_update_is_suspended_once()
-    ensures { SuspendsEachOnce }
+/// Going down, what depends on others is suspended last, and loaded and changed first: static updates first of all loads.
+pub fn going_down_dependents_are_suspended_last_and_loaded_first()
+    ensures { OrdersDown }
 {}
 
 /// Those that are suspended are resumed, the last first.
@@ -32,12 +23,12 @@ pub fn the_suspended_are_resumed()
     ensures { ResumesSuspended }
 {}
 
-/// Going up, all modules are loaded before states are changed.
+/// Going up, all modules are loaded before states are changed, as for an upgrade.
 pub fn going_up_loads_before_it_changes()
     ensures { LoadsBeforeChange }
 {}
 
-/// Going down, states are changed before modules are loaded; those of static updates alone are loaded before.
+/// Going down, states are changed, as for a downgrade, before modules are loaded; those of static updates alone are loaded before.
 pub fn going_down_changes_before_it_loads()
     ensures { ChangesBeforeLoad }
 {}

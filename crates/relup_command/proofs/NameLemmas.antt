@@ -23,7 +23,7 @@ use Rattle.rel_unpack.proofs.FileNames.{application_names}
 use Rattle.relup_row.specs.Release.{RelupAppForm, RelupReleaseForm}
 use Rattle.relup_translate.specs.WellFormed.{IsWellFormedApp, IsWellFormedRelease, IsWellFormedAppup, HasWellFormedAppups}
 use Rattle.relup_translate.proofs.NameLemmas as translation
-use Rattle.relup_translate.proofs.ListLemmas.{trivially}
+use Rattle.relup_row.proofs.ListLemmas.{trivially}
 use Rattle.relup_command.specs.Appups.{AppupAt, WithAppup, with_appup}
 use Rattle.relup_command.specs.Laws.{MadeRelupsAreNamed}
 use Rattle.relup_command.specs.Releases.{Releases, RelupAppAt, RelupReleaseAt, WithAppups, relup_app, relup_release}

@@ -1,5 +1,5 @@
 -- What comes of a script, by what comes of its instructions.
-use Rattle.std.proofs.Common.{◌≡◌, ℕ, ◌≤◌, Bool, true, false, List, [], ◌∷◌, ◌++◌, length, refl, sym, ap, subst, ◌∙◌, append_assoc, append-nil}
+use Rattle.std.proofs.Common.{◌≡◌, ℕ, ◌≤◌, Bool, true, false, List, [], ◌∷◌, ◌++◌, length, refl, sym, ap, subst, ◌∙◌, inl, inr, append_assoc, append-nil}
 use Rattle.std.specs.List.{AllByRecursion}
 use Rattle.proc_history.specs.Histories.{replay}
 use Rattle.proc_table.specs.Parts.{part_of}
@@ -19,6 +19,7 @@ use Rattle.script_progress.specs.Fault.{Cause, fault}
 use Rattle.script_progress.specs.Fault.Cause.{no_memory}
 use Rattle.relup_exec.specs.Outcome.{ArmedForm, IsArmed, IsPointAt, IsRefused, Ran, Start, began_at, past_behind, run_behind, still_early}
 use Rattle.script_progress.specs.Steps.{HasDone, IsCarriedOut, IsEarly, IsFault, ProgressForm}
+use Rattle.script_progress.specs.Stops.{takes_memory}
 use Rattle.relup_exec.specs.Stepwise.{IsStopped, start_at}
 use Rattle.script_steps.proofs.RowLemmas.{all_front}
 use Rattle.script_steps.proofs.CourseLemmas.{within_adds_no_block}
@@ -61,16 +62,17 @@ point_passed s start script a hs v w armed follow longer =
           (record { follow = follow; fetched = armed.fetched; next = armed.next; apps = armed.apps; values = values }),
     )
 
+-- where the same is seen, the same is left
+values_kept : (v w : View) → ((p : ℕ) → seen w p ≡ seen v p) → values_seen w ≡ values_seen v
+values_kept v w same = λ j p. replay (same p j)
+
 -- what is seen stays
 pub fault_later : (first : View) (s : Site) (v w : View) (r : Run) (i : Instruction) (c : Cause) → ((p : ℕ) → seen w p ≡ seen v p) → IsFault first s v r i c → IsFault first s w r i c
 fault_later first s v w r i no_memory same fails = tt
 fault_later first s v w r i c same fails = (
-  ap (λ (x : Values). fault s x r i) values ∙ fails.0,
+  ap (λ (x : Values). fault s x r i) (values_kept v w same) ∙ fails.0,
   λ p inside. subst (Stand first.lent (seen first p) (r.courses p).blocks) (sym (same p)) (fails.1 p inside),
 )
-  where
-    values : values_seen w ≡ values_seen v
-    values = λ j p. replay (same p j)
 
 -- All before the point was carried out.
 pub armed_well : (s : Site) (start : Start) (script : List Instruction) (place room : ℕ) (reported : List Bool) (is : List Instruction) (a : ProgressForm) (tree : List App) (v : View) (point : IsPointAt script place)
@@ -108,6 +110,7 @@ refused_well s start script place is number c hs v w point same stopped kept lef
       early = early;
       ran = ran_later s start.first start.first v w true [] stopped.front (began_at s start) (λ p. ([], append-nil (seen v p) ∙ sym (kept p))) stopped.ran;
       fails = fault_later start.first s v w (run_behind s start [] stopped.front) stopped.instruction c kept stopped.fails;
+      asks = λ memory. inr (ap (λ (x : Values). takes_memory s x (run_behind s start [] stopped.front) stopped.instruction) (values_kept v w kept) ∙ stopped.asks memory);
       untouched = no_block_is_nothing start.first (courses_within s true stopped.instruction stopped.modules stopped.slot (run_behind s start [] stopped.front)) w left
           (λ p _. within_adds_no_block s stopped.instruction stopped.modules stopped.slot (run_behind s start [] stopped.front) p ∙ early_quiet s start stopped.front early p);
     }
@@ -137,6 +140,7 @@ refused_at_first s apps script v runnable free = go runnable.before runnable.is
       early = tt;
       ran = (refl, longer_still v);
       fails = tt;
+      asks = λ _. inl refl;
       untouched = nothing_held v free;
     }
     go (b ∷ bs) e = record {
@@ -146,5 +150,6 @@ refused_at_first s apps script v runnable free = go runnable.before runnable.is
       early = tt;
       ran = (refl, longer_still v);
       fails = tt;
+      asks = λ _. inl refl;
       untouched = nothing_held v free;
     }

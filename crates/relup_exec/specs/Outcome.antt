@@ -1,5 +1,5 @@
 -- What comes of a script: up to its point of no return, and behind it.
-use Rattle.std.specs.Prelude.{◌≡◌, ℕ, ◌+◌, ◌≤◌, Bool, true, false, ◌&&◌, not, List, [], ◌∷◌, ◌++◌, length}
+use Rattle.std.specs.Prelude.{◌≡◌, ℕ, ◌+◌, ◌≤◌, Bool, true, false, ◌&&◌, ◌⊎◌, not, List, [], ◌∷◌, ◌++◌, length}
 use Rattle.std.specs.List.{AllByRecursion}
 use Rattle.proc_table.specs.declared.view.View.{View}
 use Rattle.relup_instruction.specs.Instruction.{Instruction}
@@ -15,7 +15,7 @@ use Rattle.script_progress.specs.Script.{Site, Run, began, courses_within, run_a
 use Rattle.script_progress.specs.Fault.{Cause}
 use Rattle.script_progress.specs.Steps.{IsLate}
 use Rattle.script_progress.specs.Steps.{IsEarly, IsFault, HasNoFaultAt, Past}
-use Rattle.script_progress.specs.Stops.{StopsAt}
+use Rattle.script_progress.specs.Stops.{StopsAt, is_memory, takes_memory}
 
 -- What the handler had seen when a script began, and which applications were started then.
 pub record Start : Type 0 where
@@ -111,8 +111,8 @@ pub record IsInstructionAt (script : List Instruction) (number : ℕ) (front : L
   pub is : script ≡ front ++ (i ∷ rest)
   pub counted : number ≡ length front + 1
 
--- An instruction before the point is the first that fails, or the point itself, where memory was refused; and nothing was added
--- to any history.
+-- An instruction before the point is the first that fails; and nothing was added to any history. Out of memory is reported only of
+-- one that asks for memory, or of the first instruction of the script, whatever it is: then the script could not begin.
 pub record IsRefused (s : Site) (start : Start) (script : List Instruction) (number : ℕ) (c : Cause) (v : View) : Type 0 where
   pub front : List Instruction
   pub instruction : Instruction
@@ -120,6 +120,7 @@ pub record IsRefused (s : Site) (start : Start) (script : List Instruction) (num
   pub early : AllByRecursion IsEarly front
   pub ran : Ran s start v [] front
   pub fails : IsFault start.first s v (run_behind s start [] front) instruction c
+  pub asks : is_memory c ≡ true → (number ≡ 1) ⊎ (takes_memory s (values_seen v) (run_behind s start [] front) instruction ≡ true)
   pub untouched : AreUntouched start.first v
 
 -- The whole script was carried out: its blocks stand in the histories, and this is loaded and started.

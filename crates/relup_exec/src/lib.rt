@@ -1,8 +1,8 @@
 //! Scripts of relups, carried out on the processes of a node (OTP: release_handler(3), appup(4)).
 //!
 //! [`run_before`] carries out a script up to its point of no return, one instruction after another (`script_steps`). It answers
-//! an [`Armed`] script exactly where no instruction before the point fails (`armed`), and else the number of the first one that
-//! fails, and why (`refused`). A script that was refused has added nothing to any history, and holds nothing.
+//! an [`Armed`] script exactly where no instruction before the point fails (`armed`), unless memory is refused, and else the number
+//! of the first one that fails, and why (`refused`). A script that was refused has added nothing to any history, and holds nothing.
 //! [`Armed::roll_back`] gives all processes back as they were. [`Armed::run_after`] carries out what stands behind the point, and
 //! judges no instruction by an earlier view: where all is done, the blocks of the script stand in the histories, each whole, and
 //! what is loaded and started is what the script says (`finished`); else the first instruction that fails is reported, and what was

@@ -5,3 +5,6 @@ pub mod NameLemmas
 pub mod WalkLemmas
 pub mod FetchLemmas
 pub mod OnceLemmas
+pub mod ListLemmas
+pub mod TargetLemmas
+pub mod CutLemmas

@@ -78,7 +78,7 @@ module _ (key : MentionForm → List ℕ) where
       either false c = refl
 
   -- What holds of all mentions holds of the first ones.
-  of_firsts : (P : MentionForm → Type 0) (ms : List MentionForm) → All P ms → All P (firsts key ms)
+  pub of_firsts : (P : MentionForm → Type 0) (ms : List MentionForm) → All P ms → All P (firsts key ms)
   of_firsts P [] h = h
   of_firsts P (m ∷ ms) h = All-cons P m _ (All-head P m ms h) (All-filter (differs key m) P (firsts key ms) (of_firsts P ms (All-tail P m ms h)))
 

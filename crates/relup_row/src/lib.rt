@@ -8,7 +8,8 @@
 //! whether a `restart_emulator` has to be the last instruction. Each equals its definition in specs/Script or specs/Fetches.
 //! A module is found among n of an application in log n comparisons ([`ModuleNames`]).
 //!
-//! The functions of `laws` say that the modules that are mentioned are fetched, each once for it, and no others.
+//! The functions of `laws` say that the modules that are mentioned are fetched, each once for it, and no others, from the target
+//! and in its versions; and that a row is cut into blocks, each as long as can be, and single instructions.
 //!
 //! Only tested: that they are written where memory is there. Trusted: the toolchain alone.
 #![tactic(auto)]

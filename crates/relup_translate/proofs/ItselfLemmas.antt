@@ -1,8 +1,7 @@
 -- From a release to itself nothing changes.
 use Rattle.std.proofs.Common.{◌≡◌, refl, ap, ◌∙◌, ℕ, Bool, true, false, cond, List, [], ◌∷◌, ◌++◌, map, reverse, filter_map, find, Option, None, Some, is_some, if◌then◌else◌, bytes_eq}
 use Rattle.std.proofs.lemmas.Slice.Eq.{bytes_eq-Decides}
-use Rattle.std.proofs.lemmas.Map.Keys.{IsDistinct-head, IsDistinct-tail}
-use Rattle.std.specs.List.{AllByRecursion, IsDistinct, cons_option}
+use Rattle.std.specs.List.{AllByRecursion, cons_option}
 use Rattle.std.specs.Option.{option_and_then, option_or}
 use Rattle.std.specs.Result.{result_ok}
 use Rattle.erl_term.specs.Value.Value.{list}
@@ -13,40 +12,19 @@ use Rattle.relup_instruction.specs.Instruction.Instruction.{point_of_no_return}
 use Rattle.appup_file.specs.Instruction.AppupInstruction.{add_application, remove_application}
 use Rattle.relup_row.specs.Release.{RelupAppForm, RelupReleaseForm, WayForm, app_named}
 use Rattle.relup_row.specs.Script.{script}
-use Rattle.relup_translate.specs.Fault.{FaultForm}
+use Rattle.relup_row.proofs.TargetLemmas.{IsFoundIn, all_found}
 use Rattle.relup_translate.specs.Fault.FaultForm.{needs_new_emulator}
 use Rattle.relup_translate.specs.Translation.{first_fault, if_other, row_fault, between_versions, app_fault, way_fault, coming_row, changing_row, going_row, rows, way_script, unless_fault}
 use Rattle.relup_translate.specs.Laws.{StaysItself}
+use Rattle.relup_translate.proofs.OutcomeLemmas.{no_fault}
 
 same_bytes : (xs : List ℕ) → bytes_eq xs xs ≡ true
 same_bytes xs = (bytes_eq-Decides xs xs).1 refl
 
--- Each application is found by its name.
-abbrev IsFoundIn : List RelupAppForm → RelupAppForm → Type 0
-IsFoundIn apps a = find (λ (b : RelupAppForm). bytes_eq b.name a.name) apps ≡ Some a
-
-behind : (x : RelupAppForm) (all xs : List RelupAppForm) → AllByRecursion (λ name. bytes_eq x.name name ≡ false) (map (λ (a : RelupAppForm). a.name) xs)
-    → AllByRecursion (IsFoundIn all) xs → AllByRecursion (IsFoundIn (x ∷ all)) xs
-behind x all [] other h = tt
-behind x all (y ∷ ys) other h =
-    (ap (λ (b : Bool). cond b (Some x) (find (λ (b : RelupAppForm). bytes_eq b.name y.name) all)) other.0 ∙ h.0, behind x all ys other.1 h.1)
-
-all_found : (apps : List RelupAppForm) → IsDistinct bytes_eq (map (λ (a : RelupAppForm). a.name) apps) → AllByRecursion (IsFoundIn apps) apps
-all_found [] h = tt
-all_found (x ∷ xs) h =
-    let names : List (List ℕ) = map (λ (a : RelupAppForm). a.name) xs in (
-      ap (λ (b : Bool). cond b (Some x) (find (λ (b : RelupAppForm). bytes_eq b.name x.name) xs)) (same_bytes x.name),
-      behind x xs xs (IsDistinct-head bytes_eq x.name names h) (all_found xs (IsDistinct-tail bytes_eq x.name names h)),
-    )
-
--- So nothing comes, changes or goes.
+-- Where each application is found by its name, nothing comes, changes or goes.
 nothing : {A B : Type 0} (P : A → Type 0) (f : A → Option B) → ((a : A) → P a → f a ≡ None) → (xs : List A) → AllByRecursion P xs → filter_map f xs ≡ []
 nothing P f none [] h = refl
 nothing P f none (x ∷ xs) h = (λ j. cons_option (none x h.0 j) (nothing P f none xs h.1 j))
-
-no_fault : {A : Type 0} (P : A → Type 0) (f : A → Option FaultForm) → ((a : A) → P a → f a ≡ None) → (xs : List A) → AllByRecursion P xs → first_fault f xs ≡ None
-no_fault P f none [] h = refl
-no_fault P f none (x ∷ xs) h = (λ j. option_or (none x h.0 j) (no_fault P f none xs h.1 j))
 
 module _ (d : Direction) (r : RelupReleaseForm) where
   abbrev way : WayForm

@@ -1,5 +1,6 @@
-pub mod ListLemmas
 pub mod OutcomeLemmas
+pub mod WholeLemmas
+pub mod ChangeLemmas
 pub mod RowLemmas
 pub mod WayLemmas
 pub mod ScriptLemmas

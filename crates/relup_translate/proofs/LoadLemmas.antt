@@ -20,7 +20,7 @@ use Rattle.relup_row.proofs.OnceLemmas.{fetches_mentioned}
 use Rattle.relup_translate.specs.Fault.FaultForm.{unknown_module}
 use Rattle.relup_translate.specs.Translation.{known, target_has_module, instruction_fault, way_fault, rows, way_script}
 use Rattle.relup_translate.specs.Laws.{fetched_modules, LoadsAmong, FetchesItsLoads, WritesNoLoad, AppupsWriteNoLoad, FetchesLoads}
-use Rattle.relup_translate.proofs.ListLemmas.{of_both, of_each, of_parts, of_found, trivially}
+use Rattle.relup_row.proofs.ListLemmas.{of_both, of_each, of_parts, of_found, trivially}
 use Rattle.relup_translate.proofs.RowLemmas.{HoldsOfMade, written, of_rows}
 use Rattle.relup_translate.proofs.WayLemmas.{InHigher, of_changing, of_sound, of_all_rows}
 use Rattle.relup_translate.proofs.ScriptLemmas.{of_made}

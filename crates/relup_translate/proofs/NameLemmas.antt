@@ -29,7 +29,7 @@ use Rattle.relup_translate.specs.Translation.{rows, entry}
 use Rattle.relup_translate.specs.WellFormed.{IsWellFormedApp, IsWellFormedRelease, HasWellFormedAppups}
 use Rattle.relup_translate.specs.Laws.{MadeRelupsAreNamed}
 use Rattle.relup_translate.proofs.OutcomeLemmas.{sound_where_made}
-use Rattle.relup_translate.proofs.ListLemmas.{of_both, of_map, of_parts, of_options, of_filter, of_permutation, of_reverse, of_found}
+use Rattle.relup_row.proofs.ListLemmas.{of_both, of_map, of_parts, of_options, of_filter, of_permutation, of_reverse, of_found}
 use Rattle.relup_translate.proofs.WayLemmas.{InHigher, of_changing, of_all_rows}
 
 -- The names of these instructions are names, and their versions are versions.

@@ -1,5 +1,5 @@
 -- The outcome of a translation: a relup where no way has a fault, or the first fault.
-use Rattle.std.proofs.Common.{◌≡◌, ◌⊎◌, inl, inr, refl, ap, sym, ◌∙◌, List, [], ◌∷◌, ◌++◌, map, Option, None, Some, Ok, Err}
+use Rattle.std.proofs.Common.{◌≡◌, refl, ap, sym, ◌∙◌, ℕ, List, [], ◌∷◌, ◌++◌, map, Option, None, Some, Ok, Err}
 use Rattle.std.specs.List.{AllByRecursion}
 use Rattle.std.specs.Option.{option_or}
 use Rattle.relup_instruction.specs.declared.instruction.Direction.{Direction}
@@ -7,8 +7,8 @@ use Rattle.relup_instruction.specs.declared.instruction.Direction.TheVariants.{U
 use Rattle.relup_file.specs.Relup.{RelupForm}
 use Rattle.relup_row.specs.Release.{RelupReleaseForm, WayForm, way_between}
 use Rattle.relup_translate.specs.Fault.{FaultForm}
-use Rattle.relup_translate.specs.Translation.{first_fault, way_fault, release_fault, fault_between, relup_between, unless_fault, translation}
-use Rattle.relup_translate.specs.Laws.{ways, AreSound, IsFirstFault, MakesSoundWays, RefusesFirstFault, HaveOneFirstFault, NeverBoth, AreSoundOrFail}
+use Rattle.relup_translate.specs.Translation.{first_fault, way_fault, release_fault, fault_between, entry, relup_between, unless_fault, translation}
+use Rattle.relup_translate.specs.Laws.{ways, AreSound, IsFirstFault, entry_versions, versions, MakesSoundWays, RefusesFirstFault, HasEachEntry}
 
 -- The first fault of a list.
 pub all_sound : {A : Type 0} (f : A → Option FaultForm) (xs : List A) → first_fault f xs ≡ None → AllByRecursion (λ x. f x ≡ None) xs
@@ -20,9 +20,12 @@ all_sound f (x ∷ xs) e = go (all_sound f xs) (f x) refl e
     go more None p q = (p, more q)
     go more (Some g) p q = absurd cc
 
+pub no_fault : {A : Type 0} (P : A → Type 0) (f : A → Option FaultForm) → ((a : A) → P a → f a ≡ None) → (xs : List A) → AllByRecursion P xs → first_fault f xs ≡ None
+no_fault P f none [] h = refl
+no_fault P f none (x ∷ xs) h = (λ j. option_or (none x h.0 j) (no_fault P f none xs h.1 j))
+
 none_first : (ws : List WayForm) → AreSound ws → first_fault way_fault ws ≡ None
-none_first [] h = refl
-none_first (w ∷ ws) h = ap (λ (o : Option FaultForm). option_or o (first_fault way_fault ws)) h.0 ∙ none_first ws h.1
+none_first ws h = no_fault (λ w. way_fault w ≡ None) way_fault (λ w e. e) ws h
 
 some_first : (before : List WayForm) (wrong : WayForm) (after : List WayForm) (f : FaultForm) → AreSound before → way_fault wrong ≡ Some f
     → first_fault way_fault (before ++ (wrong ∷ after)) ≡ Some f
@@ -107,15 +110,15 @@ refuses_first_fault new ups downs f = (
   λ h. ap (unless_fault (relup_between new ups downs)) (sym (of_ways new ups downs) ∙ is_some_first (ways new ups downs) f h),
 )
 
-pub have_one_first_fault : HaveOneFirstFault
-have_one_first_fault ws f g h k = let same : Some f ≡ Some g = sym (is_some_first ws f h) ∙ is_some_first ws g k in cc
+-- What is made has an entry for each of the other releases.
+same_versions : (d : Direction) (new : RelupReleaseForm) (others : List RelupReleaseForm) → entry_versions (map (entry d new) others) ≡ versions others
+same_versions d new [] = refl
+same_versions d new (r ∷ rs) = ap (λ (vs : List (List ℕ)). r.vsn ∷ vs) (same_versions d new rs)
 
-pub never_both : NeverBoth
-never_both ws f sound h = let same : None ≡ Some f = sym (none_first ws sound) ∙ is_some_first ws f h in absurd cc
-
-pub are_sound_or_fail : AreSoundOrFail
-are_sound_or_fail ws = go (first_fault way_fault ws) refl
-  where
-    go : (o : Option FaultForm) → first_fault way_fault ws ≡ o → AreSound ws ⊎ ((f : FaultForm) × IsFirstFault ws f)
-    go None e = inl (all_sound way_fault ws e)
-    go (Some f) e = inr (f, first_is ws f e)
+pub has_each_entry : HasEachEntry
+has_each_entry new ups downs r e =
+    let is = (made new ups downs r e).1 in (
+      ap (λ (s : RelupForm). s.vsn) is,
+      ap (λ (s : RelupForm). entry_versions s.ups) is ∙ same_versions Up new ups,
+      ap (λ (s : RelupForm). entry_versions s.downs) is ∙ same_versions Down new downs,
+    )

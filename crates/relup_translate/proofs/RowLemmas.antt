@@ -16,7 +16,7 @@ use Rattle.relup_block.proofs.PermutationLemmas.{order_has_items}
 use Rattle.relup_row.specs.Release.{RelupAppForm, WayForm, app_named}
 use Rattle.relup_row.specs.Script.{load_plainly, remove_plainly, starting, coming, stopping, going, of_app, in_place, single, block_item, PartForm, put_item, put, parts, part_script, row_script, loaded_by}
 use Rattle.relup_row.specs.Script.PartForm.{a_block, a_single}
-use Rattle.relup_translate.proofs.ListLemmas.{of_both, of_first, of_last, of_each, of_map, of_parts, of_filter, of_permutation}
+use Rattle.relup_row.proofs.ListLemmas.{of_both, of_first, of_last, of_each, of_map, of_parts, of_filter, of_permutation}
 
 -- It holds of each instruction that is made, of a `load` where this holds of the module.
 pub record HoldsOfMade (P : Instruction → Type 0) (Q : List ℕ → Type 0) : Type 0 where

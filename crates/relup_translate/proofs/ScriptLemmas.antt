@@ -17,7 +17,7 @@ use Rattle.relup_row.specs.Script.{in_place, row_script, mentions, written_fetch
 use Rattle.relup_translate.specs.Translation.{instruction_fault, way_fault, rows, way_script, entry, translation}
 use Rattle.relup_translate.specs.Laws.{AreSound, Fetches, IsParted, PartsScripts, HasOnlyUnsupported, StandsRight}
 use Rattle.relup_translate.proofs.OutcomeLemmas.{sound_where_made}
-use Rattle.relup_translate.proofs.ListLemmas.{of_both, of_first, of_last, of_each, of_parts, trivially}
+use Rattle.relup_row.proofs.ListLemmas.{of_both, of_first, of_last, of_each, of_parts, trivially}
 use Rattle.relup_translate.proofs.RowLemmas.{HoldsOfMade, written, of_rows}
 use Rattle.relup_translate.proofs.WayLemmas.{of_sound, of_all_rows}
 

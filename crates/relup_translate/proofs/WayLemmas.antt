@@ -15,7 +15,7 @@ use Rattle.relup_translate.specs.Fault.{FaultForm}
 use Rattle.relup_translate.specs.Fault.FaultForm.{needs_new_emulator}
 use Rattle.relup_translate.specs.Translation.{first_fault, instruction_fault, counting, counting_appup, found, searched, by_appup, between_versions, if_other, other_version, row_fault, app_fault, way_fault, coming_row, changing_row, going_row, rows}
 use Rattle.relup_translate.proofs.OutcomeLemmas.{all_sound}
-use Rattle.relup_translate.proofs.ListLemmas.{of_both, of_some, of_options, of_reverse, of_found, of_next, trivially}
+use Rattle.relup_row.proofs.ListLemmas.{of_both, of_some, of_options, of_reverse, of_found, of_next, trivially}
 
 module _ (R : AppupInstruction → Type 0) where
   -- It holds of an appup's instructions,

@@ -1,8 +1,9 @@
 -- Laws of the translation, above its definition.
-use Rattle.std.specs.Prelude.{◌≡◌, ◌⊎◌, ◌↔◌, ℕ, ◌&&◌, ◌||◌, not, IsTrue, List, [], ◌∷◌, ◌++◌, map, None, Some, IfSome, Ok, Err, bytes_eq}
+use Rattle.std.specs.Prelude.{◌≡◌, ◌↔◌, ℕ, ◌&&◌, ◌||◌, not, IsTrue, List, [], ◌∷◌, ◌++◌, map, None, Some, IfSome, Ok, Err, bytes_eq}
 use Rattle.std.specs.List.{AllByRecursion, IsDistinct, flat_map}
 use Rattle.erl_term.specs.Value.Value.{list}
 use Rattle.erl_term.specs.Value.Values.{no_values}
+use Rattle.relup_instruction.specs.declared.instruction.Direction.{Direction}
 use Rattle.relup_instruction.specs.declared.instruction.Direction.TheVariants.{Up, Down}
 use Rattle.relup_instruction.specs.Instruction.{FetchForm, Instruction}
 use Rattle.relup_instruction.specs.Instruction.Instruction.{load_object_code, point_of_no_return, load}
@@ -12,11 +13,14 @@ use Rattle.relup_script.specs.declared.fault.ScriptFault.{ScriptFault}
 use Rattle.relup_script.specs.declared.fault.ScriptFault.TheVariants.{Unsupported}
 use Rattle.relup_script.specs.Script.{may_follow, is_restart, is_end, IsScriptFault}
 use Rattle.appup_file.specs.Instruction.{AppupInstruction, AppupEntryForm, AppupForm}
-use Rattle.appup_file.specs.Instruction.AppupInstruction.{low_level}
+use Rattle.appup_file.specs.Instruction.AppupInstruction.{add_application, remove_application, low_level}
+use Rattle.appup_file.specs.Search.{entries_of, entry_for}
 use Rattle.relup_block.specs.Order.{is_among}
-use Rattle.relup_row.specs.Release.{RelupAppForm, RelupReleaseForm, WayForm, way_between}
+use Rattle.relup_row.specs.Release.{RelupAppForm, RelupReleaseForm, WayForm, way_between, app_named}
+use Rattle.relup_row.specs.Script.{row_script}
+use Rattle.relup_row.specs.Laws.{app_names}
 use Rattle.relup_translate.specs.Fault.{FaultForm}
-use Rattle.relup_translate.specs.Translation.{way_fault, relup_between, translation}
+use Rattle.relup_translate.specs.Translation.{instruction_fault, way_fault, way_script, relup_between, translation}
 use Rattle.relup_translate.specs.WellFormed.{IsWellFormedRelease, HasWellFormedAppups}
 
 -- the ways of a relup: its upgrades, then its downgrades
@@ -36,6 +40,13 @@ pub record IsFirstFault (ws : List WayForm) (f : FaultForm) : Type 0 where
   pub sound : AreSound before
   pub fault : way_fault wrong ≡ Some f
 
+-- the versions of releases, and those of a relup's entries
+abbrev pub versions : List RelupReleaseForm → List (List ℕ)
+versions = map (λ (r : RelupReleaseForm). r.vsn)
+
+abbrev pub entry_versions : List EntryForm → List (List ℕ)
+entry_versions = map (λ (e : EntryForm). e.vsn)
+
 -- A relup is made exactly where no way has a fault, and it is this one.
 abbrev pub MakesSoundWays : Type 0
 MakesSoundWays = (new : RelupReleaseForm) (ups downs : List RelupReleaseForm) (r : RelupForm)
@@ -46,17 +57,59 @@ abbrev pub RefusesFirstFault : Type 0
 RefusesFirstFault = (new : RelupReleaseForm) (ups downs : List RelupReleaseForm) (f : FaultForm)
     → (translation new ups downs ≡ Err f) ↔ IsFirstFault (ways new ups downs) f
 
--- Ways have one first fault at most,
-abbrev pub HaveOneFirstFault : Type 0
-HaveOneFirstFault = (ws : List WayForm) (f g : FaultForm) → IsFirstFault ws f → IsFirstFault ws g → f ≡ g
+-- the one of the higher release, of two versions of an application, and the other one
+abbrev pub higher : Direction → RelupAppForm → RelupAppForm → RelupAppForm
+higher Up left target = target
+higher Down left target = left
 
--- they have none where none has a fault,
-abbrev pub NeverBoth : Type 0
-NeverBoth = (ws : List WayForm) (f : FaultForm) → AreSound ws → IsFirstFault ws f → ⊥
+abbrev pub lower : Direction → RelupAppForm → RelupAppForm → RelupAppForm
+lower Up left target = left
+lower Down left target = target
 
--- and one elsewhere.
-abbrev pub AreSoundOrFail : Type 0
-AreSoundOrFail = (ws : List WayForm) → AreSound ws ⊎ ((f : FaultForm) × IsFirstFault ws f)
+-- An application goes from one version to another by the appup of the higher one. It is of that version, and has instructions
+-- for the lower one, in which there is no fault.
+pub record GoesOver (w : WayForm) (left target : RelupAppForm) : Type 0 where
+  pub appup : AppupForm
+  pub instrs : List AppupInstruction
+  pub has : (higher w.direction left target).appup ≡ Some appup
+  pub counts : appup.vsn ≡ (higher w.direction left target).vsn
+  pub entry : entry_for (lower w.direction left target).vsn (entries_of w.direction appup) ≡ Ok instrs
+  pub sound : AllByRecursion (λ (i : AppupInstruction). instruction_fault w left i ≡ None) instrs
+
+-- The runtime system stays as it is, and each application that the target has in another version goes over to it.
+pub record IsWhole (w : WayForm) : Type 0 where
+  pub erts : w.left.erts ≡ w.target.erts
+  pub each : AllByRecursion (λ (a : RelupAppForm). (b : RelupAppForm) → app_named a.name w.left ≡ Some b → (b.vsn ≡ a.vsn → ⊥) → GoesOver w b a) w.target.apps
+
+-- Such ways have no fault, and no others.
+abbrev pub SoundIsWhole : Type 0
+SoundIsWhole = (w : WayForm) → (way_fault w ≡ None) ↔ IsWhole w
+
+-- These instructions stand in the script behind its point of no return, one right behind another.
+pub record StandsBehindPoint (script part : List Instruction) : Type 0 where
+  pub front : List Instruction
+  pub between : List Instruction
+  pub rest : List Instruction
+  pub is : script ≡ front ++ (point_of_no_return ∷ (between ++ (part ++ rest)))
+
+-- The script of a way has all that its changes become: of an application that the target alone has, of one that goes over to its
+-- version, and of one that the target hasn't.
+pub record ChangesAll (w : WayForm) : Type 0 where
+  pub comes : AllByRecursion (λ (a : RelupAppForm). app_named a.name w.left ≡ None
+      → StandsBehindPoint (way_script w) (row_script w (add_application (record { name = a.name; start = a.start }) ∷ []))) w.target.apps
+  pub changes : AllByRecursion (λ (a : RelupAppForm). (b : RelupAppForm) → app_named a.name w.left ≡ Some b → (b.vsn ≡ a.vsn → ⊥)
+      → (g : GoesOver w b a) → StandsBehindPoint (way_script w) (row_script w g.instrs)) w.target.apps
+  pub goes : AllByRecursion (λ (b : RelupAppForm). app_named b.name w.target ≡ None
+      → StandsBehindPoint (way_script w) (row_script w (remove_application b.name ∷ []))) w.left.apps
+
+abbrev pub ScriptsChangeAll : Type 0
+ScriptsChangeAll = (w : WayForm) → ChangesAll w
+
+-- A made relup is of the higher release's version, with an entry for each of the others, in their order, under its version.
+abbrev pub HasEachEntry : Type 0
+HasEachEntry = (new : RelupReleaseForm) (ups downs : List RelupReleaseForm) (r : RelupForm)
+    → translation new ups downs ≡ Ok r
+    → (r.vsn ≡ new.vsn) × (entry_versions r.ups ≡ versions ups) × (entry_versions r.downs ≡ versions downs)
 
 -- The instruction fetches modules.
 abbrev pub Fetches : Instruction → Type 0
@@ -117,10 +170,6 @@ abbrev pub StandsRight : Type 0
 StandsRight = (new : RelupReleaseForm) (ups downs : List RelupReleaseForm) (r : RelupForm)
     → translation new ups downs ≡ Ok r
     → AllByRecursion (λ (e : EntryForm). HasOnlyUnsupported e.script) (r.ups ++ r.downs)
-
--- the names of a release's applications
-abbrev pub app_names : RelupReleaseForm → List (List ℕ)
-app_names r = map (λ (a : RelupAppForm). a.name) r.apps
 
 -- the entry that changes nothing
 abbrev pub idle : RelupReleaseForm → EntryForm

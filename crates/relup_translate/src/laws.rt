@@ -1,5 +1,5 @@
 //! Laws of the translation, above its definition. Each function does nothing: its contract is the law.
-ghost use Rattle.relup_translate.specs.Laws.{MakesSoundWays, RefusesFirstFault, HaveOneFirstFault, NeverBoth, AreSoundOrFail, PartsScripts, FetchesLoads, StandsRight, StaysItself, MadeRelupsAreNamed};
+ghost use Rattle.relup_translate.specs.Laws.{MakesSoundWays, RefusesFirstFault, SoundIsWhole, ScriptsChangeAll, HasEachEntry, PartsScripts, FetchesLoads, StandsRight, StaysItself, MadeRelupsAreNamed};
 
 /// A relup is made exactly where no way between the releases has a fault.
 pub fn a_relup_is_made_exactly_without_a_fault()
@@ -11,19 +11,23 @@ pub fn a_refusal_is_the_first_fault()
     ensures { RefusesFirstFault }
 {}
 
-/// Ways have one first fault at most.
-pub fn ways_have_one_first_fault()
-    ensures { HaveOneFirstFault }
+/// A way has no fault exactly where the runtime system stays as it is, and each application that changes its version goes over
+/// by the appup of the higher release: it is of that release's version, has an entry for the other one, and its instructions have
+/// no fault.
+pub fn a_way_is_sound_where_each_changed_application_has_its_entry()
+    ensures { SoundIsWhole }
 {}
 
-/// No ways are both without a fault and have a first one.
-pub fn no_ways_are_sound_and_have_a_fault()
-    ensures { NeverBoth }
+/// The script of a way has all that its changes become, behind its point: of each application that comes, of each that goes over
+/// from another version, and of each that goes.
+pub fn a_script_changes_each_application_that_differs()
+    ensures { ScriptsChangeAll }
 {}
 
-/// Ways are without a fault or have a first one.
-pub fn ways_are_sound_or_have_a_first_fault()
-    ensures { AreSoundOrFail }
+/// A relup that is made is of the higher release's version. It has an entry for each of the other releases, under its version, in
+/// the order given.
+pub fn a_made_relup_has_an_entry_for_each_release()
+    ensures { HasEachEntry }
 {}
 
 /// One point of no return parts each script that is made. Before it stand `load_object_code` alone, and behind it no instruction

@@ -5,10 +5,12 @@ use Rattle.std.specs.Option.{option_and_then}
 use Rattle.library.specs.Library.{Library}
 use Rattle.proc_table.specs.declared.view.View.{View}
 use Rattle.mod_table.specs.Tables.{Tables}
-use Rattle.held_processes.specs.Applications.{IsStartedIn, IsWhyNot, Scene, room_in, scene_at, with_started}
+use Rattle.held_processes.specs.Operations.{values_seen}
+use Rattle.held_processes.specs.Applications.{IsStartedIn, Scene, room_in, scene_at, with_started}
 use Rattle.sup_tree.specs.declared.error.StartError.{StartError}
 use Rattle.sup_tree.specs.declared.error.StartError.TheVariants.{AlreadyStarted, NoTable, Unsupported, NoSlot, NoMemory}
 use Rattle.loaded_modules.specs.Loaded.{Module, Modules, module_named, tables_of}
+use Rattle.sup_tree.specs.Starts.{IsWhy}
 use Rattle.sup_tree.specs.Tree.{App, app_named}
 use Rattle.sup_tree.specs.Walk.{StartFault, app_fault, app_starts}
 use Rattle.script_progress.specs.Apps.{StartsFrom, start_cause}
@@ -56,7 +58,8 @@ started_well past l a tree tree' v w next done listed started =
     )
 
 -- why it isn't
-why_not : (past : Past) (l : Library) (e : StartError) (c : Cause) → IsWhyNot e l.app.name l.app.top (tables_among past.run.modules) (scene_of past.run) → start_cause e ≡ Some c
+why_not : (past : Past) (l : Library) (e : StartError) (c : Cause)
+    → IsWhy e l.app.name l.app.top (tables_among past.run.modules) past.run.apps (room_in past.run.values past.run.courses) → start_cause e ≡ Some c
     → IsCause (start_fault (Some l) past.run) c
 why_not past l AlreadyStarted c why is = absurd (cc is)
 why_not past l (NoTable m) c why is =
@@ -75,20 +78,21 @@ why_not past l NoMemory c why is =
     subst (IsCause (start_fault (Some l) past.run)) same tt
 
 -- one that fails wasn't started yet
-was_new : (name : List ℕ) (top : Option (List ℕ)) (tables : Tables) (s : Scene) (e : StartError) (c : Cause) → IsWhyNot e name top tables s → start_cause e ≡ Some c → app_named name s.apps ≡ None
-was_new name top tables s AlreadyStarted c why is = absurd (cc is)
-was_new name top tables s (NoTable m) c why is = why.0
-was_new name top tables s Unsupported c why is = why.0
-was_new name top tables s NoSlot c why is = why.0
-was_new name top tables s NoMemory c why is = why
+was_new : (name : List ℕ) (top : Option (List ℕ)) (tables : Tables) (apps : List App) (room : ℕ) (e : StartError) (c : Cause) → IsWhy e name top tables apps room → start_cause e ≡ Some c
+    → app_named name apps ≡ None
+was_new name top tables apps room AlreadyStarted c why is = absurd (cc is)
+was_new name top tables apps room (NoTable m) c why is = why.0
+was_new name top tables apps room Unsupported c why is = why.0
+was_new name top tables apps room NoSlot c why is = why.0
+was_new name top tables apps room NoMemory c why is = why
 
-pub start_asks : (past : Past) (l : Library) (a : ProgressForm) (tree : List App) (v : View) (tables : Tables) (e : StartError) (c : Cause) → HasDone past a tree v
-    → IsWhyNot e l.app.name l.app.top tables (scene_at (followed_in past) tree) → start_cause e ≡ Some c → may_start (Some l) past.run ≡ true
-start_asks past l a tree v tables e c done why is =
-    ap (λ (o : Option App). not (is_some o)) (ap (app_named l.app.name) (sym done.apps) ∙ was_new l.app.name l.app.top tables (scene_at (followed_in past) tree) e c why is)
+pub start_asks : (past : Past) (l : Library) (a : ProgressForm) (tree : List App) (v : View) (tables : Tables) (room : ℕ) (e : StartError) (c : Cause) → HasDone past a tree v
+    → IsWhy e l.app.name l.app.top tables tree room → start_cause e ≡ Some c → may_start (Some l) past.run ≡ true
+start_asks past l a tree v tables room e c done why is =
+    ap (λ (o : Option App). not (is_some o)) (ap (app_named l.app.name) (sym done.apps) ∙ was_new l.app.name l.app.top tables tree room e c why is)
 
 pub start_fails : (past : Past) (l : Library) (a : ProgressForm) (tree : List App) (v : View) (next : Modules) (e : StartError) (c : Cause) → HasDone past a tree v → ((name : List ℕ) → next name ≡ module_named name a.next)
-    → IsWhyNot e l.app.name l.app.top (tables_of next) (scene_at (followed_in past) tree) → start_cause e ≡ Some c → IsCause (start_fault (Some l) past.run) c
+    → IsWhy e l.app.name l.app.top (tables_of next) tree (room_in (values_seen past.first) past.run.courses) → start_cause e ≡ Some c → IsCause (start_fault (Some l) past.run) c
 start_fails past l a tree v next e c done listed why is =
     why_not past l e c
-    (subst₂ (λ (t : Tables) (s : Scene). IsWhyNot e l.app.name l.app.top t s) (tables_are past a tree v next done listed) (scene_is past a tree v done) why) is
+    (subst₂ (λ (t : Tables) (s : Scene). IsWhy e l.app.name l.app.top t s.apps (room_in s.values s.courses)) (tables_are past a tree v next done listed) (scene_is past a tree v done) why) is

@@ -1,6 +1,10 @@
 -- How far an instruction comes that fails.
 use Rattle.std.specs.Prelude.{◌≡◌, ℕ, zero, suc, Bool, true, false, ◌&&◌, ◌||◌, not, nat_lt, List, [], ◌∷◌, is_some, Option, Some, None, Result, Ok, Err, if◌then◌else◌}
+use Rattle.std.specs.List.{list_any}
 use Rattle.std.specs.Option.{option_map_or}
+use Rattle.mod_table.specs.declared.table.Table.{Table}
+use Rattle.mod_table.specs.declared.table.Table.TheVariants.{Super}
+use Rattle.loaded_modules.specs.Loaded.{module_named}
 use Rattle.library.specs.Library.{Library}
 use Rattle.worker_table.specs.Table.{OldVersion}
 use Rattle.proc_table.specs.declared.view.View.{View}
@@ -13,16 +17,16 @@ use Rattle.sup_tree.specs.Children.{child_place, has_one_supervisor}
 use Rattle.sup_tree.specs.Tree.{app_named}
 use Rattle.sup_tree.specs.Places.{Place}
 use Rattle.held_processes.specs.Children.{AreSeen}
-use Rattle.held_processes.specs.Operations.{Values, is_lowest, lacks_row_at, values_seen}
+use Rattle.held_processes.specs.Operations.{Values, has_free_user, holds_user, is_lowest, lacks_row_at, values_seen}
 use Rattle.held_processes.specs.Restarts.{is_held_state}
 use Rattle.script_progress.specs.declared.cause.Failure.{Failure}
 use Rattle.script_progress.specs.Calls.{AppCall, ChildCall, app_call, child_call, is_on_child}
 use Rattle.script_progress.specs.Calls.AppCall.{starts}
 use Rattle.script_progress.specs.Calls.ChildCall.{restarts}
-use Rattle.script_progress.specs.Fault.{Cause, is_stuck}
+use Rattle.script_progress.specs.Fault.{Cause, is_stuck, load_fault}
 use Rattle.script_progress.specs.Fault.Cause.{no_memory, no_slot, no_super}
 use Rattle.script_progress.specs.InMemory.{cause_of}
-use Rattle.script_progress.specs.Script.{Run, Site, changed_once, child_stays_at, mode_of, old_version, target_library, modules_by_slot_in}
+use Rattle.script_progress.specs.Script.{Run, Site, changed_once, child_stays_at, library_for, mode_of, old_version, suspended_in, tables_among, target_library, modules_by_slot_in}
 
 -- A statement of each cause but out of memory, which may be reported anywhere.
 abbrev pub UnlessMemory : Cause → Type 0 → Type 0
@@ -92,12 +96,36 @@ abbrev pub call_takes_memory : Site → Values → CallForm → Run → Bool
 call_takes_memory s seen c r =
     is_error c || (if is_on_child c then child_takes_memory seen (child_call c) r else app_takes_memory s (app_call c) r)
 
--- whether an instruction asks for memory, where the histories that the handler has seen leave this
+-- whether a fetch of these modules asks for memory: the library is there, and there is a module
+abbrev pub fetch_asks : Option Library → List (List ℕ) → Bool
+fetch_asks None names = false
+fetch_asks l [] = false
+fetch_asks l (n ∷ ns) = true
+
+abbrev pub is_super : Option Table → Bool
+is_super (Some (Super t)) = true
+is_super t = false
+
+-- whether a change of code asks for memory: for the version that a process is changed from, where one is held, or for the
+-- children of supervisors
+abbrev pub change_asks : Site → Direction → ChangeForm → Run → Bool
+change_asks s mode c r =
+    is_some (old_version s mode c.name r) && holds_user (modules_by_slot_in r) c.name r.courses || is_super (tables_among r.modules c.name)
+
+-- whether one of these changes does, where those in front of it can be made
+abbrev pub changes_ask : Site → Direction → List ChangeForm → Values → Run → Bool
+changes_ask s mode [] seen r = false
+changes_ask s mode (c ∷ cs) seen r =
+    change_asks s mode c r
+    || (not (is_stuck (old_version s mode c.name r) c seen r) && changes_ask s mode cs seen (changed_once s mode c r))
+
+-- Whether an instruction asks for memory, where the histories that the handler has seen leave this. A suspend asks for a process
+-- that isn't held yet, and a load that has no fault always does.
 abbrev pub takes_memory : Site → Values → Run → Instruction → Bool
-takes_memory s seen r (load_object_code f) = true
-takes_memory s seen r (suspend ss) = true
-takes_memory s seen r (load p) = true
-takes_memory s seen r (code_change c) = true
+takes_memory s seen r (load_object_code f) = fetch_asks (library_for s f) f.modules
+takes_memory s seen r (suspend ss) = list_any (λ n. has_free_user (modules_by_slot_in r) n r.courses) (suspended_in ss)
+takes_memory s seen r (load p) = not (is_some (load_fault (module_named p.name r.fetched) (modules_by_slot_in r) p.name))
+takes_memory s seen r (code_change c) = changes_ask s (mode_of c.mode) c.changes seen r
 takes_memory s seen r (apply c) = call_takes_memory s seen c r
 takes_memory s seen r i = false
 

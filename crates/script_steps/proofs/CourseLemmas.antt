@@ -1,11 +1,13 @@
 -- What steps make of the courses of processes, and where they fail.
-use Rattle.std.proofs.Common.{◌≡◌, ℕ, zero, suc, Bool, true, List, [], ◌∷◌, ◌++◌, length, if◌then◌else◌, refl, ap, ◌∙◌, Option, Some, None, arith}
+use Rattle.std.proofs.Common.{◌≡◌, ℕ, zero, suc, Bool, true, false, true≢false, ◌&&◌, not, List, [], ◌∷◌, ◌++◌, length, if◌then◌else◌, refl, sym, ap, ◌∙◌, Option, Some, None, arith}
 use Rattle.worker_table.specs.Table.{OldVersion, WorkerTable}
 use Rattle.std.proofs.lemmas.Bool.{le-ltb}
-use Rattle.held_processes.specs.Course.{Courses, Operation, ModulesBySlot, on_module}
+use Rattle.proc_table.specs.Agrees.{slots}
+use Rattle.held_processes.specs.Course.{Course, Courses, Operation, ModulesBySlot, course_after, on_module, runs}
 use Rattle.held_processes.specs.Course.Operation.{suspend, load, change}
 use Rattle.held_processes.specs.Laws.{IsPending}
-use Rattle.held_processes.specs.Operations.{part_way}
+use Rattle.held_processes.specs.Operations.{has_free_user, is_free_user, is_held, part_way}
+use Rattle.held_processes.proofs.AnyLemmas.{any_more}
 use Rattle.held_processes.proofs.CourseLemmas.{module_adds_no_block, part_way_adds_no_block}
 use Rattle.relup_instruction.specs.declared.instruction.Direction.{Direction}
 use Rattle.relup_instruction.specs.Instruction as instruction
@@ -27,6 +29,19 @@ pub each_push : (op : Operation) (names : List (List ℕ)) (n : List ℕ) (users
     → on_each op (names ++ n ∷ []) users cs ≡ on_module users n op (on_each op names users cs)
 each_push op [] n users cs = refl
 each_push op (m ∷ ms) n users cs = each_push op ms n users (on_module users m op cs)
+
+-- a process that isn't held behind a suspension wasn't before it
+free_at : (a b : Bool) (c : Course) → (a && not (is_held (if b then course_after suspend c else c).hold)) ≡ true → (a && not (is_held c.hold)) ≡ true
+free_at true true c e = absurd (true≢false (sym e))
+free_at false true c e = absurd (true≢false (sym e))
+free_at a false c e = e
+
+-- nor before the suspension of several modules
+pub free_before : (names : List (List ℕ)) (n : List ℕ) (users : ModulesBySlot) (cs : Courses) → has_free_user users n (on_each suspend names users cs) ≡ true → has_free_user users n cs ≡ true
+free_before [] n users cs e = e
+free_before (m ∷ ms) n users cs e =
+    any_more (is_free_user users n (on_module users m suspend cs)) (is_free_user users n cs) slots (λ p. free_at (runs n (users p)) (runs m (users p)) (cs p))
+    (free_before ms n users (on_module users m suspend cs) e)
 
 -- it failed for one of the modules
 pub each_stopped : (op : Operation) (front : List (List ℕ)) (n : List ℕ) (rest : List (List ℕ)) (slot : ℕ) (users : ModulesBySlot) (cs : Courses)

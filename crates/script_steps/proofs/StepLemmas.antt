@@ -1,16 +1,20 @@
 -- What a step leaves, of what its parts leave.
-use Rattle.std.proofs.Common.{◌≡◌, ℕ, ◌<◌, ◌+◌, ◌&&◌, Bool, true, false, not, List, [], ◌∷◌, ◌++◌, map, take, drop, length, get_or, if◌then◌else◌, nat_lt, refl, sym, ap, ap₂, subst, ◌∙◌, Option, Some, None, IsSome, unwrap_or, Result, Ok, Err, IsErrAnd, arith}
+use Rattle.std.proofs.Common.{◌≡◌, ℕ, ◌<◌, ◌+◌, ◌&&◌, ◌||◌, Bool, true, false, true≢false, not, is_some, List, [], ◌∷◌, ◌++◌, map, take, drop, length, get_or, if◌then◌else◌, nat_lt, refl, sym, ap, ap₂, subst, ◌∙◌, Option, Some, None, IsSome, unwrap_or, Result, Ok, Err, IsErrAnd, arith}
 use Rattle.library.specs.Library.{Library}
-use Rattle.worker_table.specs.Table.{OldVersion}
+use Rattle.worker_table.specs.Table.{OldVersion, WorkerTable}
+use Rattle.proc_history.specs.Changes.{finds_row}
+use Rattle.proc_history.specs.Events.Event.{changed as code_changed}
 use Rattle.proc_table.specs.declared.view.View.{View}
 use Rattle.proc_table.specs.Agrees.{slots}
+use Rattle.std.specs.List.{list_any}
 use Rattle.std.proofs.lemmas.Bool.{lt-ltb}
 use Rattle.std.proofs.lemmas.List.{length-map, length-take-le}
 use Rattle.held_processes.specs.Course as course
-use Rattle.held_processes.specs.Course.{Courses, Operation, ModulesBySlot, on_module}
+use Rattle.held_processes.specs.Course.{Course, Courses, Hold, Operation, ModulesBySlot, add, if_held, on_module, runs}
+use Rattle.held_processes.specs.Course.Hold.{not_held, until_point, until_resumed}
 use Rattle.held_processes.specs.declared.steps.Undone.{Undone}
 use Rattle.held_processes.specs.Following.{AllFollow, AreLonger, HeldSlots}
-use Rattle.held_processes.specs.Operations.{Changes, FindsRows, IsDone, ReportsHeldUser, Values, any_below, holds_user, is_lowest, lacks_row, lacks_row_at, part_way, modules_by_slot, values_seen}
+use Rattle.held_processes.specs.Operations.{Changes, FindsRows, IsDone, ReportsHeldUser, Values, any_below, has_free_user, holds_user, is_held, is_held_user, is_lowest, now_in, lacks_row, lacks_row_at, part_way, modules_by_slot, values_seen}
 use Rattle.relup_instruction.specs.declared.instruction.Direction.{Direction}
 use Rattle.relup_instruction.specs.declared.instruction.Direction.TheVariants.{Up}
 use Rattle.relup_instruction.specs.declared.instruction.Suspension.{Suspension}
@@ -18,26 +22,27 @@ use Rattle.relup_instruction.specs.Instruction.{ChangeForm, ConversionForm, Fetc
 use Rattle.relup_instruction.specs.Instruction.Instruction.{load_object_code, suspend, load, code_change}
 use Rattle.loaded_modules.specs.Loaded.{Module, NamedModules, library_modules, module_named, with_loaded}
 use Rattle.script_progress.specs.Tree.{App}
+use Rattle.script_progress.specs.declared.cause.Cause as declared
 use Rattle.script_progress.specs.declared.cause.Cause.TheVariants.{NotFetched}
 use Rattle.script_progress.specs.declared.cause.Failure.{Failure}
 use Rattle.script_progress.specs.Fault.{Cause, change_fault, fetch_fault, is_stuck, load_fault, table_fault}
 use Rattle.script_progress.specs.Fault.Cause.{no_change, no_memory}
 use Rattle.script_progress.specs.InMemory.{cause_of}
-use Rattle.script_progress.specs.Script.{Run, Site, change_courses, change_within, changed, changed_once, changed_within, each_within, fetched_from, fetched_of, library_for, load_within, mode_of, old_version, on_each, processes_changed, supervisors_changed, suspended_in, tables_among, modules_by_slot_in, worker_in}
-use Rattle.script_progress.specs.Steps.{CarriesOut, HasDone, IsCause, Past, ProgressForm, followed_in}
-use Rattle.script_progress.specs.Stops.{UnlessMemory, is_first_stuck, is_stuck_at}
-use Rattle.script_steps.specs.Steps.{AreDone, ChangesOnce, ChangesProcesses, FailsToChange, GivesTable}
+use Rattle.script_progress.specs.Script.{Run, Site, change_courses, change_within, changed, changed_once, changed_within, each_within, fetched_from, fetched_of, library_for, load_courses, load_within, mode_of, old_version, on_each, processes_changed, supervisors_changed, suspended_in, tables_among, modules_by_slot_in, worker_in}
+use Rattle.script_progress.specs.Steps.{CarriesOut, HasDone, IsCause, IsCauseIn, Past, ProgressForm, followed_in}
+use Rattle.script_progress.specs.Stops.{UnlessMemory, change_asks, changes_ask, fetch_asks, is_first_stuck, is_memory, is_stuck_at, is_super}
+use Rattle.script_steps.specs.Steps.{AreSuspended, ChangesOnce, ChangesProcesses, FailsToChange, GivesTable}
 use Rattle.script_progress.proofs.CallLemmas.{left_true}
 use Rattle.script_progress.proofs.SeenLemmas.{cause_seen, memory_in, seen_in, seen_of}
-use Rattle.script_steps.proofs.CourseLemmas.{change_none_within, changed_push, changed_stopped, changed_within_same, each_push, each_stopped}
-use Rattle.held_processes.proofs.AnyLemmas.{any_found}
+use Rattle.script_steps.proofs.CourseLemmas.{change_none_within, changed_push, changed_stopped, changed_within_same, each_push, each_stopped, free_before}
+use Rattle.held_processes.proofs.AnyLemmas.{any_found, any_none, not_at, or_true}
 use Rattle.held_processes.proofs.FollowLemmas.{follow_same}
 use Rattle.held_processes.proofs.SlotLemmas.{longer_still}
 use Rattle.script_steps.proofs.RowLemmas.{more, parted}
 
 -- the processes of all modules are suspended, or memory was refused
 pub suspended : (s : Site) (past : Past) (early : Bool) (ss : List SuspensionForm) (r : Result (Unit {0}) Failure) (a : ProgressForm) (tree : List App) (hs : HeldSlots) (v w : View) → HasDone past a tree v → AreLonger v w
-    → AreDone (followed_in past) (modules_by_slot tree) course.Operation.suspend (suspended_in ss) r hs w
+    → AreSuspended (followed_in past) (modules_by_slot tree) (suspended_in ss) r hs w
     → CarriesOut s past early (suspend ss) r (record a { held = hs }) tree v w
 suspended s past early ss (Ok x) a tree hs v w done longer did = (
   (v, (seen_in past a tree v done, refl, refl), longer_still v, longer),
@@ -51,7 +56,7 @@ suspended s past early ss (Ok x) a tree hs v w done longer did = (
 )
 suspended s past early ss (Err e) a tree hs v w done longer did = (
   memory_in past.first w past.run None (cause_of e.cause) did.0,
-  (λ _. refl, tt),
+  (λ _. ap (λ (as' : List App). list_any (λ n. has_free_user (modules_by_slot as') n past.run.courses) (suspended_in ss)) (sym done.apps) ∙ did.2, tt),
   subst (λ (as' : List App). AllFollow past.first (each_within course.Operation.suspend (suspended_in ss) e.modules e.slot (modules_by_slot as') past.run.courses) hs w) done.apps did.1,
 )
 
@@ -81,6 +86,23 @@ suspended_within ss i s slot users cs within at =
     ∙ (ap (λ (n : ℕ). each_within course.Operation.suspend (front ++ ((suspension_of s).name ∷ suspended_in rest)) n slot users cs) (sym long)
     ∙ each_stopped course.Operation.suspend front (suspension_of s).name (suspended_in rest) slot users cs))
 
+-- a module of which a process isn't held asks for memory, among others
+asks_among : (f : List ℕ → Bool) (front : List (List ℕ)) (n : List ℕ) (rest : List (List ℕ)) → f n ≡ true → list_any f (front ++ (n ∷ rest)) ≡ true
+asks_among f [] n rest e = ap (λ (b : Bool). b || list_any f rest) e
+asks_among f (m ∷ front) n rest e = ap (λ (b : Bool). f m || b) (asks_among f front n rest e) ∙ or_true (f m)
+
+-- one that isn't held behind the suspension of others wasn't before
+pub suspended_asks : (ss : List Suspension) (i : ℕ) (s : Suspension) (users : ModulesBySlot) (cs : Courses) → i < length ss → s ≡ get_or ss i s
+    → has_free_user users (suspension_of s).name (on_each course.Operation.suspend (suspended_in (map suspension_of (take i ss))) users cs) ≡ true
+    → list_any (λ n. has_free_user users n cs) (suspended_in (map suspension_of ss)) ≡ true
+suspended_asks ss i s users cs within at free =
+    let front = map suspension_of (take i ss) in
+    let rest = map suspension_of (drop (i + 1) ss) in
+    let test : List ℕ → Bool = λ n. has_free_user users n cs in
+    ap (λ (fs : List SuspensionForm). list_any test (suspended_in fs)) (parted suspension_of ss i s within at)
+    ∙ (ap (list_any test) (names_of front (suspension_of s) rest)
+    ∙ asks_among test (suspended_in front) (suspension_of s).name (suspended_in rest) (free_before (suspended_in front) (suspension_of s).name users cs free))
+
 pub fetched_push : (l : Library) (ns : List (List ℕ)) (n : List ℕ) (ms : NamedModules) → fetched_of l (ns ++ n ∷ []) ms ≡ with_loaded (library_modules l n) n (fetched_of l ns ms)
 fetched_push l [] n ms = refl
 fetched_push l (m ∷ ns) n ms = fetched_push l ns n (with_loaded (library_modules l m) m ms)
@@ -99,6 +121,14 @@ fetched_well s past early f a ms tree v done did = (
     values = done.values;
   },
 )
+
+-- modules weren't fetched
+pub not_fetched : (s : Site) (past : Past) (early : Bool) (f : FetchForm) (e : Failure) (k : declared.Cause) (a : ProgressForm) (ms : NamedModules) (tree : List App) (v : View) → HasDone past a tree v
+    → IsCause (fetch_fault (library_for s f) f.modules) (cause_of k) × (is_memory (cause_of k) ≡ true → fetch_asks (library_for s f) f.modules ≡ true) → e ≡ record { cause = k; modules = 0; slot = 0 }
+    → CarriesOut {X = Unit {0}} s past early (load_object_code f) (Err e) (record a { fetched = ms }) tree v v
+not_fetched s past early f e k a ms tree v done did is =
+    subst (λ (q : Failure). CarriesOut {X = Unit {0}} s past early (load_object_code f) (Err q) (record a { fetched = ms }) tree v v) (sym is)
+    (cause_seen past.first v past.run (fetch_fault (library_for s f) f.modules) (cause_of k) did.0 (seen_in past a tree v done), (did.1, tt), done.follow)
 
 -- a module that was fetched is loaded, unless its processes can't get its table
 load_fault_is : (o : Option Module) (users : ModulesBySlot) (name : List ℕ) → IsSome o → load_fault o users name ≡ table_fault (worker_in o) users name
@@ -129,9 +159,48 @@ pub load_of_nothing : (s : Site) (past : Past) (early : Bool) (p : PurgingForm) 
     → CarriesOut {X = Unit {0}} s past early (load p) (Err e) a tree v v
 load_of_nothing s past early p e a tree v none done is = subst (λ (f : Failure). CarriesOut {X = Unit {0}} s past early (load p) (Err f) a tree v v) (sym is) (
   (ap (λ (o : Option Module). load_fault o (modules_by_slot_in past.run) p.name) none, seen_in past a tree v done),
-  (λ _. refl, tt),
+  (λ memory. absurd (true≢false (sym memory)), tt),
   subst (λ (o : Option Module). AllFollow past.first (load_within early p.name (worker_in o) 0 (modules_by_slot_in past.run) past.run.courses) a.held v) (sym none) done.follow,
 )
+
+-- in all slots
+all_within : (users : ModulesBySlot) (name : List ℕ) (op : Operation) (cs : Courses) (p : ℕ) → p < slots → on_module users name op cs p ≡ part_way slots users name op cs p
+all_within users name op cs p inside = sym (ap (λ (b : Bool). if b then on_module users name op cs p else cs p) (lt-ltb p slots inside))
+
+load_all_within : (keep : Bool) (name : List ℕ) (w : Option WorkerTable) (users : ModulesBySlot) (cs : Courses) (p : ℕ) → p < slots → load_courses keep name w users cs p ≡ load_within keep name w slots users cs p
+load_all_within keep name None users cs p inside = refl
+load_all_within keep name (Some w) users cs p inside = all_within users name (course.Operation.load keep w) cs p inside
+
+-- its processes can't get its table
+table_not_given : (s : Site) (past : Past) (early : Bool) (p : PurgingForm) (e : Failure) (a : ProgressForm) (tree : List App) (v w : View) → IsSome (module_named p.name past.run.fetched)
+    → GivesTable {X = Unit {0}} past early p.name (Err e) a.held w → CarriesOut {X = Unit {0}} s past early (load p) (Err e) a tree v w
+table_not_given s past early p e a tree v w there given =
+    let fault = load_fault_is (module_named p.name past.run.fetched) (modules_by_slot_in past.run) p.name there in (
+      subst (λ (o : Option Cause). IsCauseIn past.first w past.run o (cause_of e.cause)) (sym fault) given.0,
+      (λ memory. ap (λ (o : Option Cause). not (is_some o)) (fault ∙ given.2 memory), tt),
+      given.1,
+    )
+
+-- and that is passed on
+pub load_fails : {X : Type 0} (s : Site) (past : Past) (early : Bool) (p : PurgingForm) (e : Failure) (r : Result X Failure) (a : ProgressForm) (tree : List App) (v w : View) → IsSome (module_named p.name past.run.fetched)
+    → GivesTable {X = Unit {0}} past early p.name (Err e) a.held w → IsErrAnd r (λ k. k ≡ e) → CarriesOut s past early (load p) r a tree v w
+load_fails s past early p e (Ok x) a tree v w there given passed = absurd passed
+load_fails {X} s past early p e (Err k) a tree v w there given passed =
+    subst (λ (q : Failure). CarriesOut {X = X} s past early (load p) (Err q) a tree v w) (sym passed) (table_not_given s past early p e a tree v w there given)
+
+-- memory was refused for the module, once its processes have its table
+pub module_not_loaded : (s : Site) (past : Past) (early : Bool) (p : PurgingForm) (k : Failure) (a : ProgressForm) (tree : List App) (v w : View) → IsSome (module_named p.name past.run.fetched)
+    → GivesTable {X = Unit {0}} past early p.name (Ok tt) a.held w → cause_of k.cause ≡ no_memory → k.slot ≡ slots → CarriesOut {X = Unit {0}} s past early (load p) (Err k) a tree v w
+module_not_loaded s past early p k a tree v w there given cause at =
+    let fault = load_fault_is (module_named p.name past.run.fetched) (modules_by_slot_in past.run) p.name there in
+    let worker = worker_in (module_named p.name past.run.fetched) in
+    let users = modules_by_slot_in past.run in (
+      memory_in past.first w past.run (load_fault (module_named p.name past.run.fetched) users p.name) (cause_of k.cause) cause,
+      (λ _. ap (λ (o : Option Cause). not (is_some o)) (fault ∙ given.0), tt),
+      subst (λ (m : ℕ). AllFollow past.first (load_within early p.name worker m users past.run.courses) a.held w) (sym at)
+          (follow_same past.first (load_courses early p.name worker users past.run.courses) (load_within early p.name worker slots users past.run.courses) a.held w
+          (load_all_within early p.name worker users past.run.courses) given.1),
+    )
 
 -- why a single change of code fails
 abbrev once_fault : Bool → Option Cause
@@ -167,6 +236,10 @@ changed_by_row s past mode number c tree n old a hs v r named there done changes
       },
     )
 
+-- no memory is asked for where the cause is another
+another_cause : (c k : Cause) (P : Type 0) → c ≡ k → is_memory k ≡ false → is_memory c ≡ true → P
+another_cause c k P is other memory = absurd (true≢false (sym memory ∙ (ap is_memory is ∙ other)))
+
 pub changed_without_row : (s : Site) (past : Past) (mode : Direction) (number : ℕ) (c : ChangeForm) (tree : List App) (n : List ℕ) (old : OldVersion) (a : ProgressForm) (hs : HeldSlots) (v : View) (r : Result (Unit {0}) Undone) (e : Undone) (k : Failure)
     → n ≡ c.name → old_version s mode c.name past.run ≡ Some old → HasDone past a tree v → Changes (modules_by_slot tree) n old c.extra a.held r hs → r ≡ Err e
     → cause_of k.cause ≡ no_change → k.modules ≡ number → k.slot ≡ e.slot
@@ -185,6 +258,7 @@ changed_without_row s past mode number c tree n old a hs v r e k named there don
       subst (λ (x : Cause). UnlessMemory x (is_stuck_at (old_version s mode c.name past.run) c k.slot seen past.run ≡ true)) (sym cause) here,
       subst (λ (o : Option OldVersion). AllFollow past.first (change_within c.name o c k.slot (modules_by_slot_in past.run) past.run.courses) hs v) (sym there)
           (subst (λ (m : ℕ). AllFollow past.first (part_way m (modules_by_slot_in past.run) c.name (course.Operation.change old c.extra) past.run.courses) hs v) (sym at) did.0),
+      another_cause (cause_of k.cause) no_change (change_asks s mode c past.run ≡ true) cause refl,
     )
 
 reported_of : (past : Past) (c : ChangeForm) (tree : List App) (n : List ℕ) (a : ProgressForm) (v : View) (b : Bool) → n ≡ c.name → HasDone past a tree v → ReportsHeldUser (modules_by_slot tree) n a.held b
@@ -214,22 +288,57 @@ held_without_version s past mode number c tree n k a v b named none done reporte
       subst (λ (x : Cause). UnlessMemory x (is_stuck_at (old_version s mode c.name past.run) c k.slot seen past.run ≡ true)) (sym cause)
           (ap (λ (o : Option OldVersion). is_stuck_at o c k.slot seen past.run) none ∙ held),
       not_changed s past mode c k a tree v done at,
+      another_cause (cause_of k.cause) no_change (change_asks s mode c past.run ≡ true) cause refl,
     )
 
--- there is none, and no process is held
-pub free_without_version : (s : Site) (past : Past) (mode : Direction) (number : ℕ) (c : ChangeForm) (tree : List App) (n : List ℕ) (a : ProgressForm) (v : View) (b : Bool) → n ≡ c.name
-    → old_version s mode c.name past.run ≡ None → HasDone past a tree v → ReportsHeldUser (modules_by_slot tree) n a.held b → b ≡ false
-    → ChangesProcesses {X = Unit {0}} s past mode number c (Ok tt) a tree v
-free_without_version s past mode number c tree n a v b named none done reported is_free = (
-  stuck_by s mode c (values_seen v) past.run None false none (sym (reported_of past c tree n a v b named done reported) ∙ is_free),
-  record {
-    follow = subst (λ (o : Option OldVersion). AllFollow past.first (change_courses c.name o c (modules_by_slot_in past.run) past.run.courses) a.held v) (sym none) done.follow;
-    fetched = done.fetched;
-    next = done.next;
-    apps = done.apps;
-    values = done.values;
-  },
-)
+-- memory was refused for the version, where a process is held
+pub version_not_copied : (s : Site) (past : Past) (mode : Direction) (number : ℕ) (c : ChangeForm) (tree : List App) (n : List ℕ) (k : Failure) (a : ProgressForm) (v : View) (b : Bool) → n ≡ c.name
+    → is_some (old_version s mode c.name past.run) ≡ true → HasDone past a tree v → ReportsHeldUser (modules_by_slot tree) n a.held b → b ≡ true
+    → cause_of k.cause ≡ no_memory → k.modules ≡ number → k.slot ≡ 0 → ChangesProcesses {X = Unit {0}} s past mode number c (Err k) a tree v
+version_not_copied s past mode number c tree n k a v b named there done reported is_held cause counted at =
+    let held = sym (reported_of past c tree n a v b named done reported) ∙ is_held in (
+      subst (λ (x : Cause). IsCause (change_fault s mode (c ∷ []) (values_seen v) past.run) x) (sym cause) tt,
+      counted,
+      subst (λ (x : Cause). UnlessMemory x (is_stuck_at (old_version s mode c.name past.run) c k.slot (values_seen v) past.run ≡ true)) (sym cause) tt,
+      not_changed s past mode c k a tree v done at,
+      λ _. ap₂ (λ (x y : Bool). x && y || is_super (tables_among past.run.modules c.name)) there held,
+    )
+
+-- A change of code has no effect on a process that isn't held.
+left_alone : (b : Bool) (h : Hold) (x y : Course) → (b && is_held h) ≡ false → (if b then if_held h x y else y) ≡ y
+left_alone true not_held x y free = refl
+left_alone true until_point x y free = absurd (true≢false free)
+left_alone true until_resumed x y free = absurd (true≢false free)
+left_alone false h x y free = refl
+
+none_changes : (name : List ℕ) (old : Option OldVersion) (c : ChangeForm) (users : ModulesBySlot) (cs : Courses) (p : ℕ) → is_held_user users name cs p ≡ false → cs p ≡ change_courses name old c users cs p
+none_changes name None c users cs p free = refl
+none_changes name (Some old) c users cs p free =
+    sym (left_alone (runs name (users p)) (cs p).hold (add (code_changed old c.extra) (cs p)) (cs p) free)
+
+none_stuck : (old : Option OldVersion) (c : ChangeForm) (seen : Values) (r : Run) → holds_user (modules_by_slot_in r) c.name r.courses ≡ false → is_stuck old c seen r ≡ false
+none_stuck None c seen r free = free
+none_stuck (Some old) c seen r free =
+    any_none (lacks_row_at old c.extra seen (modules_by_slot_in r) c.name r.courses) slots
+    (λ p inside. ap (λ (b : Bool). b && not (finds_row old c.extra (now_in seen r.courses p))) (not_at (is_held_user (modules_by_slot_in r) c.name r.courses) slots p inside free))
+
+-- none is held
+pub none_held : (s : Site) (past : Past) (mode : Direction) (number : ℕ) (c : ChangeForm) (tree : List App) (n : List ℕ) (a : ProgressForm) (v : View) (b : Bool) → n ≡ c.name
+    → HasDone past a tree v → ReportsHeldUser (modules_by_slot tree) n a.held b → b ≡ false → ChangesProcesses {X = Unit {0}} s past mode number c (Ok tt) a tree v
+none_held s past mode number c tree n a v b named done reported is_free =
+    let old = old_version s mode c.name past.run in
+    let users = modules_by_slot_in past.run in
+    let free : holds_user users c.name past.run.courses ≡ false = sym (reported_of past c tree n a v b named done reported) ∙ is_free in (
+      ap once_fault (none_stuck old c (values_seen v) past.run free),
+      record {
+        follow = follow_same past.first past.run.courses (change_courses c.name old c users past.run.courses) a.held v
+            (λ p inside. none_changes c.name old c users past.run.courses p (not_at (is_held_user users c.name past.run.courses) slots p inside free)) done.follow;
+        fetched = done.fetched;
+        next = done.next;
+        apps = done.apps;
+        values = done.values;
+      },
+    )
 
 -- the children of supervisors were changed as well
 pub supervisors_well : (s : Site) (past : Past) (mode : Direction) (number : ℕ) (c : ChangeForm) (n : List ℕ) (a b : ProgressForm) (before tree : List App) (v : View) → n ≡ c.name
@@ -252,20 +361,17 @@ pub fails_once : {X : Type 0} (s : Site) (past : Past) (mode : Direction) (numbe
 fails_once s past mode number c e (Ok x) a tree v fails passed = absurd passed
 fails_once s past mode number c e (Err k) a tree v fails passed = subst (λ (q : Failure). FailsToChange s past mode number c q a v) (sym passed) fails
 
--- in all slots
-all_within : (users : ModulesBySlot) (name : List ℕ) (op : Operation) (cs : Courses) (p : ℕ) → p < slots → on_module users name op cs p ≡ part_way slots users name op cs p
-all_within users name op cs p inside = sym (ap (λ (b : Bool). if b then on_module users name op cs p else cs p) (lt-ltb p slots inside))
-
 change_all_within : (name : List ℕ) (old : Option OldVersion) (c : ChangeForm) (users : ModulesBySlot) (cs : Courses) (p : ℕ) → p < slots → change_courses name old c users cs p ≡ change_within name old c slots users cs p
 change_all_within name None c users cs p inside = refl
 change_all_within name (Some old) c users cs p inside = all_within users name (course.Operation.change old c.extra) cs p inside
 
 -- memory was refused for the children of supervisors
-pub supervisors_not_changed : (s : Site) (past : Past) (mode : Direction) (number : ℕ) (c : ChangeForm) (k : Failure) (a b : ProgressForm) (before tree : List App) (v : View)
-    → ChangesProcesses {X = Unit {0}} s past mode number c (Ok tt) a before v → b.held ≡ a.held → cause_of k.cause ≡ no_memory → k.modules ≡ number → k.slot ≡ slots
+pub supervisors_not_changed : (s : Site) (past : Past) (mode : Direction) (number : ℕ) (c : ChangeForm) (n : List ℕ) (k : Failure) (a b : ProgressForm) (before tree : List App) (v : View) → n ≡ c.name
+    → ChangesProcesses {X = Unit {0}} s past mode number c (Ok tt) a before v → b.held ≡ a.held → is_super (tables_among a.next n) ≡ true → cause_of k.cause ≡ no_memory → k.modules ≡ number → k.slot ≡ slots
     → ChangesOnce {X = Unit {0}} s past mode number c (Err k) b tree v
-supervisors_not_changed s past mode number c k a b before tree v did held cause counted at =
+supervisors_not_changed s past mode number c n k a b before tree v named did held asks cause counted at =
     let old = old_version s mode c.name past.run in
+    let super : is_super (tables_among past.run.modules c.name) ≡ true = (λ j. is_super (tables_among (sym did.1.next j) (sym named j))) ∙ asks in
     let users = modules_by_slot_in past.run in (
       subst (λ (x : Cause). IsCause (change_fault s mode (c ∷ []) (values_seen v) past.run) x) (sym cause) tt,
       counted,
@@ -274,6 +380,7 @@ supervisors_not_changed s past mode number c k a b before tree v did held cause 
           (subst (λ (hs : HeldSlots). AllFollow past.first (change_within c.name old c slots users past.run.courses) hs v) (sym held)
           (follow_same past.first (change_courses c.name old c users past.run.courses) (change_within c.name old c slots users past.run.courses) a.held v
           (change_all_within c.name old c users past.run.courses) did.1.follow)),
+      λ _. ap (λ (b : Bool). is_some old && holds_user users c.name past.run.courses || b) super ∙ or_true (is_some old && holds_user users c.name past.run.courses),
     )
 
 -- without a mode it is up
@@ -317,6 +424,16 @@ first_behind s mode (d ∷ front) c rest slot seen r none =
     let both = no_fault_first (is_stuck (old_version s mode d.name r) d seen r) (change_fault s mode front seen next) none in
     first_behind s mode front c rest slot seen next both.1
     ∙ ap (λ (b : Bool). not b && is_first_stuck s mode (front ++ (c ∷ rest)) (length front) slot seen next) (sym both.0)
+
+-- where those in front can be made, it asks for memory as it does behind them
+asks_behind : (s : Site) (mode : Direction) (front : List ChangeForm) (c : ChangeForm) (rest : List ChangeForm) (seen : Values) (r : Run) → change_fault s mode front seen r ≡ None
+    → change_asks s mode c (changed s mode front r) ≡ true → changes_ask s mode (front ++ (c ∷ rest)) seen r ≡ true
+asks_behind s mode [] c rest seen r none asks =
+    ap (λ (b : Bool). b || (not (is_stuck (old_version s mode c.name r) c seen r) && changes_ask s mode rest seen (changed_once s mode c r))) asks
+asks_behind s mode (d ∷ front) c rest seen r none asks =
+    let next = changed_once s mode d r in
+    let both = no_fault_first (is_stuck (old_version s mode d.name r) d seen r) (change_fault s mode front seen next) none in
+    ap₂ (λ (b x : Bool). change_asks s mode d r || (not b && x)) both.0 (asks_behind s mode front c rest seen next both.1 asks) ∙ or_true (change_asks s mode d r)
 
 -- one more change was made
 pub changed_more : (s : Site) (past : Past) (mode : Direction) (number : ℕ) (front : List ChangeForm) (c : ChangeForm) (all : List ChangeForm) (a : ProgressForm) (tree : List App) (v : View) → all ≡ front ++ c ∷ []
@@ -364,7 +481,7 @@ change_stops s past early conversion mode number front c rest e a tree v moded p
           (seen_of past.first past.run (changed_within s (mode_of conversion.mode) conversion.changes e.modules e.slot past.run) a.held v
           (changed_within_same s (mode_of conversion.mode) conversion.changes e.modules e.slot past.run) follow),
       (
-        λ _. refl,
+        λ memory. sym (λ j. changes_ask s (moded j) (sym parts j) seen past.run) ∙ asks_behind s mode front c rest seen past.run none (once.4 memory),
         subst (λ (m : Direction). UnlessMemory (cause_of e.cause) (is_first_stuck s m conversion.changes e.modules e.slot seen past.run ≡ true)) moded
             (subst (λ (cs : List ChangeForm). UnlessMemory (cause_of e.cause) (is_first_stuck s mode cs e.modules e.slot seen past.run ≡ true)) (sym parts) first),
       ),

@@ -7,10 +7,11 @@ ghost use Rattle.script_progress.specs.InMemory.{site_of};
 ghost use Rattle.relup_instruction.specs.declared.instruction.Direction.{Direction as Way};
 ghost use Rattle.script_progress.specs.Script as script;
 ghost use Rattle.script_progress.specs.Script.{old_version, supervisors_changed, version_in};
+ghost use Rattle.script_progress.specs.Stops.{is_super};
 ghost use Rattle.script_progress.specs.Steps.{CarriesOut, HasDone, Past, progress_of};
 ghost use Rattle.script_steps.specs.Steps.{ChangesOnce, ChangesProcesses};
 ghost use Rattle.std.specs.Option.{option_map, option_or};
-ghost use Rattle.std.specs.Prelude.{◌≡◌, Bool, IfOk, OnErr, OnOk};
+ghost use Rattle.std.specs.Prelude.{◌≡◌, Bool, IfOk, OnErr, OnOk, Some, is_some, true};
 ghost use Rattle.loaded_modules.specs.Loaded.{listed_in, modules_in, tables_of};
 
 use held_processes::Users;
@@ -75,6 +76,8 @@ fn change_supervisors(
     ensures changed { OnOk result (progress.new.tree ≡ supervisors_changed «module».now
         (tables_of (modules_in progress.old.next) «module».now) progress.old.tree) }
     ensures kept { OnErr result (progress.new.tree ≡ progress.old.tree) }
+    ensures asks { OnErr result (is_super
+        (tables_of (modules_in progress.old.next) «module».now) ≡ true) }
 {
     match progress.next.table(module) {
         Some(Table::Super(table)) => progress.tree.change_children(alloc, module, table),
@@ -82,7 +85,7 @@ fn change_supervisors(
     }
 }
 
-// The processes of the module are changed.
+// The processes of the module are changed. It takes no memory where none of them is held.
 fn change_processes(
     progress: &mut Progress,
     alloc: Global,
@@ -95,8 +98,21 @@ fn change_processes(
         → ChangesProcesses (site_of site.now) past mode number (change_of change.now)
         result (progress_of progress.new) progress.new.tree v }
 {
-    match old_version(progress, alloc, site, mode, change.name.as_str()) {
-        Ok(old) => change_from(progress, old, number, change),
+    let module = change.name.as_str();
+    let users = Users {
+        tree: &progress.tree,
+        module,
+    };
+    if !progress.held.holds(&users) {
+        return Ok(());
+    }
+    match old_version(progress, alloc, site, mode, module) {
+        Ok(Some(old)) => change_from(progress, &old, number, change),
+        Ok(None) => Err(Failure {
+            cause: Cause::NoChange,
+            modules: number,
+            slot: 0,
+        }),
         Err(_) => Err(Failure {
             cause: Cause::NoMemory,
             modules: number,
@@ -105,16 +121,16 @@ fn change_processes(
     }
 }
 
-// They are changed from this version. It is no change where none of them is held.
+// They are changed from this version.
 fn change_from(
     progress: &mut Progress,
-    old: Option<Old>,
+    old: &Old,
     number: usize,
     change: &Change,
 ) -> Result<(), Failure>
     ensures { (s : script.Site) (mode : Way) (past : Past) (v : View)
         → HasDone past (progress_of progress.old) progress.old.tree v
-        → option_map old_of old ≡ old_version s mode (change_of change.now).name past.run
+        → Some (old_of old.now) ≡ old_version s mode (change_of change.now).name past.run
         → ChangesProcesses s past mode number (change_of change.now)
         result (progress_of progress.new) progress.new.tree v }
 {
@@ -122,21 +138,13 @@ fn change_from(
         tree: &progress.tree,
         module: change.name.as_str(),
     };
-    match old {
-        Some(old) => match progress.held.change(&users, &old, &change.extra) {
-            Ok(()) => Ok(()),
-            Err(undone) => Err(Failure {
-                cause: Cause::NoChange,
-                modules: number,
-                slot: undone.slot,
-            }),
-        },
-        None if progress.held.holds(&users) => Err(Failure {
+    match progress.held.change(&users, old, &change.extra) {
+        Ok(()) => Ok(()),
+        Err(undone) => Err(Failure {
             cause: Cause::NoChange,
             modules: number,
-            slot: 0,
+            slot: undone.slot,
         }),
-        None => Ok(()),
     }
 }
 
@@ -148,9 +156,12 @@ fn old_version(
     mode: Direction,
     name: &str,
 ) -> Result<Option<Old>, AllocError>
-    ensures { IfOk result (λ o. (past : Past) (v : View)
+    ensures found { IfOk result (λ o. (past : Past) (v : View)
         → HasDone past (progress_of progress.now) progress.now.tree v
         → option_map old_of o ≡ old_version (site_of site.now) mode name.now past.run) }
+    ensures asks { OnErr result ((past : Past) (v : View)
+        → HasDone past (progress_of progress.now) progress.now.tree v
+        → is_some (old_version (site_of site.now) mode name.now past.run) ≡ true) }
 {
     match mode {
         Direction::Up => match site.loaded.vsn(name) {

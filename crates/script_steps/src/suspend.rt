@@ -1,14 +1,14 @@
 //! `suspend`: processes are held until they are resumed.
 ghost use Rattle.held_processes.specs.Course.Operation.{suspend};
 ghost use Rattle.held_processes.specs.Following.{AllFollow, AreLonger, Followed};
-ghost use Rattle.held_processes.specs.Operations.{IsDone, modules_by_slot};
+ghost use Rattle.held_processes.specs.Operations.{IsDone, has_free_user, modules_by_slot};
 ghost use Rattle.relup_instruction.specs.Instruction as instruction;
 ghost use Rattle.relup_instruction.specs.Instruction.{suspension_of};
 ghost use Rattle.script_progress.specs.InMemory.{site_of};
 ghost use Rattle.script_progress.specs.Script.{suspended_in};
 ghost use Rattle.script_progress.specs.Steps.{CarriesOut, HasDone, Past, progress_of};
-ghost use Rattle.script_steps.specs.Steps.{AreDone};
-ghost use Rattle.std.specs.Prelude.{◌≡◌, Bool, map};
+ghost use Rattle.script_steps.specs.Steps.{AreSuspended};
+ghost use Rattle.std.specs.Prelude.{◌≡◌, Bool, OnErr, map, true};
 
 use held_processes::{HeldProcesses, Undone, Users};
 use proc_table::{HandlerSeat, ProcTable};
@@ -62,7 +62,7 @@ fn hold_all<R: Wait>(
     requires follow { AllFollow followed.first followed.courses held.old seat.old.view }
     ensures table { seat.new.table ≡ seat.old.table }
     ensures longer { AreLonger seat.old.view seat.new.view }
-    ensures done { AreDone followed (modules_by_slot tree.now) suspend
+    ensures done { AreSuspended followed (modules_by_slot tree.now)
         (suspended_in (map suspension_of suspensions.now)) result held.new seat.new.view }
 {
     for (i, suspension) in suspensions.iter().enumerate() {
@@ -97,6 +97,8 @@ fn hold_next<R: Wait>(
     ensures done { IsDone followed.first (modules_by_slot tree.now)
         (suspension_of suspension.now).name suspend followed.courses result held.new
         seat.new.view }
+    ensures asks { OnErr result (has_free_user (modules_by_slot tree.now)
+        (suspension_of suspension.now).name followed.courses ≡ true) }
 {
     let users = Users {
         tree,

@@ -14,14 +14,14 @@ pub cause_behind : {R V : Type 0} (r : Result V SessionError) (old mid new : Inp
 cause_behind (Ok v) old mid new same cause = cause ∙ same
 cause_behind (Err Read) old mid new same cause = subst (λ n. HasRisen n (failed_reads new)) same cause
 cause_behind (Err Write) old mid new same cause = cause
-cause_behind (Err Limit) old mid new same cause = cause
-cause_behind (Err NoMemory) old mid new same cause = tt
+cause_behind (Err Limit) old mid new same cause = (cause.0, cause.1 ∙ same)
+cause_behind (Err NoMemory) old mid new same cause = cause ∙ same
 
 other_value : {R : Type 0} (V W : Type 0) (e : SessionError) (old new : Input R) → HasCause {V = V} (Err e) old new → HasCause {V = W} (Err e) old new
 other_value V W Read old new cause = cause
 other_value V W Write old new cause = cause
 other_value V W Limit old new cause = cause
-other_value V W NoMemory old new cause = tt
+other_value V W NoMemory old new cause = cause
 
 -- the error of a call is handed on
 pub cause_passes : {R : Type 0} (V : Type 0) {W : Type 0} (r : Result W SessionError) (e : SessionError) (old mid new : Input R)
@@ -39,11 +39,12 @@ pub counts_failure : {V E : Type 0} (r : Result V E) (old new : ℕ) → IsErr r
 counts_failure (Ok v) old new is rose = absurd cc
 counts_failure (Err e) old new is rose = rose
 
--- out of memory has no cause in the input, and says nothing of what comes
-pub cause_of_memory : {R V : Type 0} (r : Result V SessionError) (old new : Input R) → IsErrAnd r (λ f. f ≡ NoMemory) → HasCause r old new
-cause_of_memory (Ok v) old new is = absurd is
-cause_of_memory {R} {V} (Err f) old new is = subst (λ x. HasCause {V = V} (Err x) old new) (sym is) tt
+-- out of memory is reported where no read has failed
+pub cause_of_memory : {R V : Type 0} (r : Result V SessionError) (old new : Input R) → IsErrAnd r (λ f. f ≡ NoMemory) → failed_reads new ≡ failed_reads old → HasCause r old new
+cause_of_memory (Ok v) old new is same = absurd is
+cause_of_memory {R} {V} (Err f) old new is same = subst (λ x. HasCause {V = V} (Err x) old new) (sym is) same
 
+-- it says nothing of what comes
 pub next_without_memory : {A V : Type 0} (Shows : V → A → Type 0) (r : Result (Option V) SessionError) (old new : Option (Feed A)) → IsErrAnd r (λ f. f ≡ NoMemory) → IsNext Shows r old new
 next_without_memory Shows (Ok v) old new is = absurd is
 next_without_memory Shows (Err f) old new is = subst (λ x. IsNext Shows (Err x) old new) (sym is) tt

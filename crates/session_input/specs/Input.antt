@@ -4,7 +4,7 @@ use Rattle.std.specs.Io.KnownBytes.{prepend_known}
 use Rattle.counted_io.specs.Counted as counted
 use Rattle.counted_io.specs.Failures.{HasRisen}
 use Rattle.session_input.specs.declared.error.SessionError.{SessionError}
-use Rattle.session_input.specs.declared.error.SessionError.TheVariants.{Read, Write, Limit}
+use Rattle.session_input.specs.declared.error.SessionError.TheVariants.{Read, Write, Limit, NoMemory}
 use Rattle.session_input.specs.declared.input.Input.{Input}
 use Rattle.session_input.specs.Feed.{Feed, bytes_within}
 use Rattle.session_input.specs.Lines.{lines_of}
@@ -53,11 +53,11 @@ commands_left remaining i = option_map commands_of (lines_left remaining i)
 abbrev pub file_left : {R : Type 0} → (R → Option (List ℕ)) → List ℕ → Input R → Option (Feed Command)
 file_left remaining path i = option_map (commands_behind path []) (lines_left remaining i)
 
--- Why a call gave up: a read failed in it, or all bytes were taken that may be; it writes nothing. Where it didn't, no
--- read has failed.
+-- Why a call gave up: a read failed in it, or none did, and all bytes were taken that may be, or memory was refused. It writes
+-- nothing. Where it didn't give up, no read has failed.
 abbrev pub HasCause : {R V : Type 0} → Result V SessionError → Input R → Input R → Type 0
 HasCause (Err Read) old new = HasRisen (failed_reads old) (failed_reads new)
-HasCause (Err Limit) old new = taken new ≡ most_bytes
+HasCause (Err Limit) old new = (taken new ≡ most_bytes) × (failed_reads new ≡ failed_reads old)
 HasCause (Err Write) old new = ⊥
-HasCause (Err e) old new = Unit {0}
+HasCause (Err NoMemory) old new = failed_reads new ≡ failed_reads old
 HasCause (Ok v) old new = failed_reads new ≡ failed_reads old

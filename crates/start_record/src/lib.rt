@@ -4,7 +4,8 @@
 //! and a new line (`start_text`). A slot spells one start at most (`SpellsStart`, `no_slot_spells_two_starts`), and what is
 //! written is read back (`a_start_is_read_back`).
 //!
-//! `write_start` leaves the old start or the new, whenever it is stopped, and after `Ok` the new one (`either`, `spelled`).
+//! Of two versions, `write_start` leaves the old start or the new, whenever it is stopped, and after `Ok` the new one (`either`,
+//! `spelled`). Of other texts its clauses say which bytes the slot has, and no more.
 //! `read_start` gives the start that the slot spells, and `BadStart` exactly where it spells none (`read`, `refused`). The
 //! records stay, and so do all bytes but those of the slot that is written (`any_moment`, `bytes`, `others`). Each refusal
 //! comes exactly where its clause says (`long`, `reopened`, `refused`).

@@ -1,6 +1,6 @@
 -- The children of started supervisors, by the module of the supervisor and the id of the child (OTP: supervisor,
 -- terminate_child/2, delete_child/2). One that has ended is kept with its specification, unless it is temporary.
-use Rattle.std.specs.Prelude.{◌≡◌, ℕ, ◌==◌, Bool, true, false, List, [], ◌∷◌, ◌<◌, length, map, reverse, slice_index_or, slice_set, codes, Option, Some, None, if◌then◌else◌, Result, Ok, Err}
+use Rattle.std.specs.Prelude.{◌≡◌, ℕ, ◌==◌, Bool, true, false, List, [], ◌∷◌, ◌<◌, length, map, reverse, slice_index_or, slice_set, Option, Some, None, if◌then◌else◌, Result, Ok, Err}
 use Rattle.std.specs.List.{find, flat_map}
 use Rattle.std.specs.Option.{option_and_then, option_map_or}
 use Rattle.proc_table.specs.declared.view.View.{View}
@@ -11,9 +11,6 @@ use Rattle.started_members.specs.Ends.{EndedInOrder}
 use Rattle.sup_tree.specs.Tree.{App, app_of}
 use Rattle.started_members.specs.Members.{pids_of, processes_among, supervises_in, supervisors_in}
 use Rattle.started_members.specs.Places.{Place, child_in, with_below, Change, members_with, specification_kept, nothing_kept, ChildLookedAt, ChildEndedUnless}
-
-abbrev pub no_super_text : List ℕ
-no_super_text = codes "NoSuper"
 
 -- whether exactly one supervisor of this module is started
 abbrev pub has_one_supervisor : List ℕ → List App → Bool

@@ -1,5 +1,5 @@
 -- What restart_child answers, and what it leaves (OTP: supervisor, restart_child/2).
-use Rattle.std.specs.Prelude.{◌≡◌, ℕ, ◌<◌, Bool, true, false, List, [], length, map, codes, Option, Some, None, Result, Ok, Err, Vec}
+use Rattle.std.specs.Prelude.{◌≡◌, ℕ, ◌<◌, Bool, true, false, List, [], length, map, Option, Some, None, Result, Ok, Err, Vec}
 use Rattle.std.specs.List.{find}
 use Rattle.std.specs.Option.{option_map_or}
 use Rattle.std.specs.declared.alloc.Global.{Global}
@@ -23,13 +23,6 @@ use Rattle.started_members.specs.Begins.{BeganInOrder, members_at, restart_fault
 use Rattle.started_members.specs.Ends.{MemberEnded}
 use Rattle.sup_tree.specs.Tree.{App}
 use Rattle.started_members.specs.Members.{pids_of, process_in, supervises_in}
-
-abbrev pub restart_error_text : RestartError → List ℕ
-restart_error_text NoSuper = codes "NoSuper"
-restart_error_text NoTable = codes "NoTable"
-restart_error_text Unsupported = codes "Unsupported"
-restart_error_text NoSlot = codes "NoSlot"
-restart_error_text NoMemory = codes "NoMemory"
 
 -- why a child doesn't begin again, where it has no members
 abbrev pub restart_cause : MembersError → RestartError

@@ -1,5 +1,5 @@
 -- What start_app answers, and what it leaves.
-use Rattle.std.specs.Prelude.{◌≡◌, ℕ, ◌<◌, ◌≤◌, List, [], ◌∷◌, ◌++◌, length, codes, Option, Some, None, IsSome, Result, Ok, Err, Vec}
+use Rattle.std.specs.Prelude.{◌≡◌, ℕ, ◌<◌, ◌≤◌, List, [], ◌∷◌, ◌++◌, length, Option, Some, None, IsSome, Result, Ok, Err, Vec}
 use Rattle.std.specs.declared.alloc.Global.{Global}
 use Rattle.proc_table.specs.declared.view.View.{View}
 use Rattle.proc_table.specs.Free.{free_count}
@@ -16,13 +16,6 @@ use Rattle.app_members.specs.Walk.StartFault.{no_table, unsupported}
 use Rattle.sup_tree.specs.Tree.{App, app_named}
 use Rattle.started_members.specs.Members.{pids_of}
 use Rattle.started_members.specs.Begins.{BeganInOrder, members_at}
-
-abbrev pub start_error_text : StartError → List ℕ
-start_error_text AlreadyStarted = codes "AlreadyStarted"
-start_error_text (NoTable m) = codes "NoTable"
-start_error_text Unsupported = codes "Unsupported"
-start_error_text NoSlot = codes "NoSlot"
-start_error_text NoMemory = codes "NoMemory"
 
 -- why it isn't started, where it has no members
 abbrev pub members_cause : MembersError → StartError
@@ -51,15 +44,15 @@ pub record AppStarted (name : List ℕ) (top : Option (List ℕ)) (tables : Tabl
   pub began : BeganInOrder name (app_starts tables top) v processes w
   pub tree : apps' ≡ apps ++ record { name = name; members = members_at (app_members tables top) (pids_of processes) } ∷ []
 
--- why it isn't started; memory is asked for only where it isn't yet
-abbrev pub IsWhy : StartError → List ℕ → Option (List ℕ) → Tables → List App → View → Type 0
-IsWhy AlreadyStarted name top tables apps v = IsSome (app_named name apps)
-IsWhy (NoTable m) name top tables apps v = (app_named name apps ≡ None) × (app_fault tables top ≡ Some (no_table m.now))
-IsWhy Unsupported name top tables apps v = (app_named name apps ≡ None) × (app_fault tables top ≡ Some unsupported)
-IsWhy NoSlot name top tables apps v = (app_named name apps ≡ None) × (app_fault tables top ≡ None) × (free_count v < length (app_starts tables top))
-IsWhy NoMemory name top tables apps v = app_named name apps ≡ None
+-- why it isn't started, where a process can begin in so many slots; memory is asked for only where it isn't started yet
+abbrev pub IsWhy : StartError → List ℕ → Option (List ℕ) → Tables → List App → ℕ → Type 0
+IsWhy AlreadyStarted name top tables apps room = IsSome (app_named name apps)
+IsWhy (NoTable m) name top tables apps room = (app_named name apps ≡ None) × (app_fault tables top ≡ Some (no_table m.now))
+IsWhy Unsupported name top tables apps room = (app_named name apps ≡ None) × (app_fault tables top ≡ Some unsupported)
+IsWhy NoSlot name top tables apps room = (app_named name apps ≡ None) × (app_fault tables top ≡ None) × (room < length (app_starts tables top))
+IsWhy NoMemory name top tables apps room = app_named name apps ≡ None
 
 -- The application is started, or nothing is.
 abbrev pub StartsApp : {X : Type 0} → List ℕ → Option (List ℕ) → Tables → List App → View → Result X StartError → List App → View → Type 0
 StartsApp name top tables apps v (Ok x) apps' w = AppStarted name top tables apps v apps' w
-StartsApp name top tables apps v (Err e) apps' w = IsWhy e name top tables apps v × (apps' ≡ apps) × (w ≡ v)
+StartsApp name top tables apps v (Err e) apps' w = IsWhy e name top tables apps (free_count v) × (apps' ≡ apps) × (w ≡ v)

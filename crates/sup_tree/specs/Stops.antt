@@ -1,12 +1,9 @@
 -- What stop_app answers, and what it leaves.
-use Rattle.std.specs.Prelude.{◌≡◌, ℕ, ◌<◌, List, length, map, remove, reverse, slice_index_or, codes, Option, Some, None, Result, Ok, Err}
+use Rattle.std.specs.Prelude.{◌≡◌, ℕ, ◌<◌, List, length, map, remove, reverse, slice_index_or, Option, Some, None, Result, Ok, Err}
 use Rattle.proc_table.specs.declared.view.View.{View}
 use Rattle.sup_tree.specs.declared.tree.StartedApp.{StartedApp}
 use Rattle.sup_tree.specs.Tree.{App, app_of, app_named, app_pids, without}
 use Rattle.started_members.specs.Ends.{EndedInOrder}
-
-abbrev pub no_such_app_text : List ℕ
-no_such_app_text = codes "NoSuchApp"
 
 -- The application was started, its processes were given up, the last first, and it isn't started any more.
 pub record AppStopped (name : List ℕ) (apps : List App) (v : View) (apps' : List App) (w : View) : Type 0 where

@@ -13,7 +13,7 @@
 //! one away (specs/Children); [`Tree::restart_child`] begins one again (specs/Restarts). The last two leave a child that is up as
 //! it is.
 //!
-//! Only tested: that an application starts where memory is there. Trusted: the toolchain alone.
+//! Only tested: that an application starts where memory is there. Trusted: the toolchain and `thiserror`.
 #![tactic(auto)]
 
 mod begins;

@@ -30,6 +30,7 @@ returns-in-Err-clause-ran g c =
       at = record { rest = script_of (drop (c.loop-i.i + 1) instrs); is = parts; counted = ap (λ n. n + 1) (sym long) };
       ran = ran_later (site_of c.args.site.now) g.start.first g.start.first c.loop-i.seat.view c.carry_out_early-done.new.seat.view true [] so_far (began_at (site_of c.args.site.now) g.start) c.carry_out_early-done.ensures.longer c.loop-i.invariant.1;
       fails = c.in-Err.ensures.carried.0;
+      asks = c.in-Err.ensures.carried.1.0;
       modules = c.in-Err.field-0.modules;
       slot = c.in-Err.field-0.slot;
       partly = c.in-Err.ensures.carried.2;

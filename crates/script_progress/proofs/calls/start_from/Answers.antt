@@ -1,6 +1,8 @@
 use Rattle.std.proofs.Common.{◌∙◌, sym, ap, Some}
 use Rattle.std.specs.Option.{option_map}
 use Rattle.library.specs.InMemory.{library_of}
+use Rattle.held_processes.specs.Applications.{room_in}
+use Rattle.held_processes.specs.Operations.{values_seen}
 use Rattle.loaded_modules.specs.Loaded.{modules_in, tables_of}
 use Rattle.loaded_modules.proofs.NamedLemmas.{found_as_listed}
 use Rattle.script_progress.specs.declared.cause.Failure.{Failure}
@@ -24,6 +26,6 @@ returns-in-Some-clause-started g c = (
 
 pub returns-in-Some-clause-memory : goal.returns-in-Some-clause-memory
 returns-in-Some-clause-memory g c = λ _.
-    start_asks g.past (library_of c.args.library.now) (progress_of c.args.progress.now) c.args.progress.now.tree c.args.seat.now.view (tables_of (modules_in c.args.progress.now.next)) c.in-Err.error (cause_of c.failure_at_start.result.cause)
+    start_asks g.past (library_of c.args.library.now) (progress_of c.args.progress.now) c.args.progress.now.tree c.args.seat.now.view (tables_of (modules_in c.args.progress.now.next)) (room_in (values_seen g.past.first) g.past.run.courses) c.in-Err.error (cause_of c.failure_at_start.result.cause)
     c.requires.1.1 c.in-Err.ensures.started.0
     (sym c.start_cause.ensures ∙ (ap (option_map cause_of) c.in-Some.is ∙ ap (λ (f : Failure). Some (cause_of f.cause)) (sym c.failure_at_start.ensures)))

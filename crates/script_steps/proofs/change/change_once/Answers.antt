@@ -1,4 +1,4 @@
-use Rattle.std.proofs.Common.{◌∙◌, Option, refl, ap}
+use Rattle.std.proofs.Common.{◌∙◌, Option, refl, sym, ap}
 use Rattle.std.specs.Option.{option_and_then}
 use Rattle.mod_table.specs.declared.table.Table.{Table}
 use Rattle.relup_instruction.specs.Instruction.{change_of}
@@ -8,6 +8,7 @@ use Rattle.script_progress.specs.declared.cause.Cause.TheVariants.{NoMemory}
 use Rattle.script_progress.specs.InMemory.{site_of}
 use Rattle.script_progress.specs.Script.{supervisors_changed}
 use Rattle.script_progress.specs.Steps.{progress_of}
+use Rattle.script_progress.specs.Stops.{is_super}
 use Rattle.script_steps.proofs.StepLemmas.{fails_once, supervisors_not_changed, supervisors_well}
 use Rattle.script_steps.proofs.change.change_once.Goals as goal
 
@@ -30,5 +31,7 @@ pub returns-in-Err : goal.returns-in-Err
 returns-in-Err c = λ past v done.
     let first = c.change_processes.new.progress in
     let second = c.change_supervisors.new.progress in
-    supervisors_not_changed (site_of c.args.site.now) past c.args.mode c.args.number (change_of c.args.change.now) (record { cause = NoMemory; modules = c.args.number; slot = c.count.result })
-    (progress_of first) (progress_of second) first.tree second.tree v (c.in_ok-change_processes.ensures past v done) c.change_supervisors.ensures.held refl refl c.count.ensures
+    let name = c.as_str.result.now in
+    let table = ap (option_and_then (λ (m : Module). m.table)) (found_as_listed first.next name) in
+    supervisors_not_changed (site_of c.args.site.now) past c.args.mode c.args.number (change_of c.args.change.now) name (record { cause = NoMemory; modules = c.args.number; slot = c.count.result })
+    (progress_of first) (progress_of second) first.tree second.tree v c.as_str.ensures.value (c.in_ok-change_processes.ensures past v done) c.change_supervisors.ensures.held (ap is_super (sym table) ∙ c.in-Err.ensures.asks) refl refl c.count.ensures

@@ -3,7 +3,7 @@ use Rattle.held_processes.specs.Course.{Courses}
 use Rattle.held_processes.specs.Following.{AllFollow}
 use Rattle.held_processes.specs.Operations.{modules_by_slot}
 use Rattle.held_processes.proofs.SlotLemmas.{longer_both, longer_still}
-use Rattle.script_steps.proofs.StepLemmas.{suspended_more, suspended_within}
+use Rattle.script_steps.proofs.StepLemmas.{suspended_asks, suspended_more, suspended_within}
 use Rattle.script_steps.proofs.suspend.hold_all.Goals as goal
 
 pub returns-in-Err-clause-done : goal.returns-in-Err-clause-done
@@ -12,6 +12,7 @@ returns-in-Err-clause-done g c = (
   subst (λ (cs : Courses). AllFollow g.followed.first cs c.hold_next.new.held c.hold_next.new.seat.view)
       (sym (suspended_within c.args.suspensions.now c.loop-i.i c.index-suspensions-i.result c.in-Err.undone.slot (modules_by_slot c.args.tree.now) g.followed.courses c.loop-i-test.true c.index-suspensions-i.is))
       c.in-Err.ensures.done,
+  suspended_asks c.args.suspensions.now c.loop-i.i c.index-suspensions-i.result (modules_by_slot c.args.tree.now) g.followed.courses c.loop-i-test.true c.index-suspensions-i.is c.in-Err.ensures.asks,
 )
 
 pub returns-in-Err-clause-longer : goal.returns-in-Err-clause-longer

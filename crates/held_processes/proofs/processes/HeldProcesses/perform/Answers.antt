@@ -38,6 +38,13 @@ returns-in-Err-clause-done g c =
     step_none g.followed.first _ g.followed.courses c.loop-slot.self-inside.places.items c.loop-slot.seat.view c.perform.new.seat.view c.loop-slot.slot c.perform.new.place
     (subst (λ n. c.loop-slot.slot < n) c.loop-slot.invariant.1 c.loop-slot-test.true) c.loop-slot.invariant.2 c.in-Err.ensures.done
 
+pub returns-in-Err-clause-failed : goal.returns-in-Err-clause-failed
+returns-in-Err-clause-failed g c = (
+  subst (λ n. c.loop-slot.slot < n) c.loop-slot.invariant.1 c.loop-slot-test.true,
+  sym c.include.ensures ∙ c.if-include.true,
+  c.in-Err.ensures.failed,
+)
+
 pub loop-slot-preserved : goal.loop-slot-preserved
 loop-slot-preserved g c =
     let users = modules_by_slot c.args.users.now.tree.now in

@@ -25,4 +25,4 @@ returns-in_ok-counts-in-Some-clause-refused g c =
 pub returns-in_err-counts-in-Some-clause-refused : goal.returns-in_err-counts-in-Some-clause-refused
 returns-in_err-counts-in-Some-clause-refused g c =
     always_err c.from_residual.result _
-    (left_by_refused c.args.app.now c.args.id.now c.args.self.now.tree (listed_in c.args.self.now.loaded) c.args.self.now.seat.view _ c.in-Some.pid (sym c.find.ensures ∙ c.in-Some.is) c.in_err-counts-in-Some.ensures.refused)
+    (left_by_refused c.args.app.now c.args.id.now c.args.input c.args.times c.args.self.now.seat.view _ c.args.self.now.tree (listed_in c.args.self.now.loaded) c.in-Some.pid (sym c.find.ensures ∙ c.in-Some.is) c.in_err-counts-in-Some.ensures.refused)

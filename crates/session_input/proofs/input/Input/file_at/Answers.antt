@@ -47,7 +47,7 @@ returns-in_err-push_line-clause-spends g c = IfOk-from_err c.from_residual-in_er
 
 pub returns-in_err-push_line-clause-cause : goal.returns-in_err-push_line-clause-cause
 returns-in_err-push_line-clause-cause g c =
-    cause_of_memory _ c.args.self.now c.next_line.new.self (error_of_memory _ _ c.from_residual-in_err-push_line.ensures.1 c.in_err-push_line.ensures.memory)
+    cause_of_memory _ c.args.self.now c.next_line.new.self (error_of_memory _ _ c.from_residual-in_err-push_line.ensures.1 c.in_err-push_line.ensures.memory) (c.in_ok-line.ensures.cause ∙ c.loop-file.invariant.2)
 
 pub returns-then-is_end-clause-command : goal.returns-then-is_end-clause-command
 returns-then-is_end-clause-command g c =

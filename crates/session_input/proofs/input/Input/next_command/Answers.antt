@@ -38,7 +38,7 @@ pub returns-in_err-of-clause-spends : goal.returns-in_err-of-clause-spends
 returns-in_err-of-clause-spends g c = IfOk-from_err c.from_residual-in_err-of.result _ c.from_residual-in_err-of.ensures.0
 
 pub returns-in_err-of-clause-cause : goal.returns-in_err-of-clause-cause
-returns-in_err-of-clause-cause g c = cause_of_memory _ c.args.self.now c.next_line.new.self c.from_residual-in_err-of.ensures.1
+returns-in_err-of-clause-cause g c = cause_of_memory _ c.args.self.now c.next_line.new.self c.from_residual-in_err-of.ensures.1 (c.in_ok-line.ensures.cause ∙ c.loop-line.invariant.2)
 
 -- a file begins
 pub returns-in-FileBegins-clause-command : goal.returns-in-FileBegins-clause-command

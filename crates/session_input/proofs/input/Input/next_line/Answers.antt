@@ -1,4 +1,4 @@
-use Rattle.std.proofs.Common.{ℕ, rules, arith}
+use Rattle.std.proofs.Common.{◌∙◌, ℕ, rules, arith}
 use Rattle.std.specs.Prelude.{Option}
 use Rattle.std.proofs.lemmas.Result.{IfOk-from_err}
 use Rattle.session_input.proofs.Causes.{cause_passes, cause_of_memory, next_without_memory, error_of_memory}
@@ -49,4 +49,4 @@ returns-in_err-push-clause-spends g c = IfOk-from_err c.from_residual-in_err-pus
 
 pub returns-in_err-push-clause-cause : goal.returns-in_err-push-clause-cause
 returns-in_err-push-clause-cause g c =
-    cause_of_memory _ c.args.self.now c.next.new.self (error_of_memory _ _ c.from_residual-in_err-push.ensures.1 c.in_err-push.ensures.memory)
+    cause_of_memory _ c.args.self.now c.next.new.self (error_of_memory _ _ c.from_residual-in_err-push.ensures.1 c.in_err-push.ensures.memory) (c.in_ok-byte.ensures.cause ∙ c.loop-line.invariant.3)
