@@ -8,8 +8,8 @@ use std::sync::Wait;
 use text_cases::{Answer, first_word};
 
 /// Appends for how many places it is so, up to the first for which it isn't, that the disk which
-/// these sessions make, with this byte there, is booted to one release or two or is refused for what
-/// it holds; and how many places there are.
+/// these sessions make, with this byte there, is booted to three releases at most or is refused for
+/// what it holds; and how many places there are.
 pub(crate) fn push_damaged<H: Wait>(rt: &H, alloc: Global, text: &str, answer: &mut Answer) {
     let (byte, sessions) = first_word(text);
     match explained_with(rt, alloc, sessions, byte) {

@@ -203,20 +203,20 @@ pub(crate) fn boots<H: Wait, D: Disk + Drop>(
     }
 }
 
-// Whether a node has one release or two.
-fn has_one_or_two<D: Disk>(node: &Handler<D>) -> bool {
+// Whether a node has releases, and three at most.
+fn has_up_to_three<D: Disk>(node: &Handler<D>) -> bool {
     match node.which_releases() {
-        Ok(list) => matches!(list.len(), 1 | 2),
+        Ok(list) => matches!(list.len(), 1 | 2 | 3),
         Err(_) => false,
     }
 }
 
-/// Whether this disk is booted to one release or two, or refused for what it holds: neither the
+/// Whether this disk is booted to three releases at most, or refused for what it holds: neither the
 /// device nor memory failed.
 pub(crate) fn is_explained<D: Disk + Drop>(alloc: Global, disk: D) -> bool {
     match boot(alloc, disk) {
         Ok(node) => {
-            let is_explained = has_one_or_two(&node);
+            let is_explained = has_up_to_three(&node);
             drop(node.into_disk());
             is_explained
         }

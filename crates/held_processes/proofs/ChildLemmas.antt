@@ -12,6 +12,7 @@ use Rattle.proc_history.proofs.Entries.{replay-append}
 use Rattle.proc_table.specs.declared.pid.Pid.{Pid}
 use Rattle.proc_table.specs.declared.view.View.{View}
 use Rattle.proc_table.specs.Parts.{part_of}
+use Rattle.proc_table.specs.Waits.{HasTaken}
 use Rattle.started_members.specs.declared.looks.Stay.{Stay}
 use Rattle.started_members.specs.declared.looks.Stay.TheVariants.{Up}
 use Rattle.started_members.specs.declared.member.Member.{Member}
@@ -25,7 +26,7 @@ use Rattle.started_members.specs.Ends.{MemberEnded, stands}
 use Rattle.sup_tree.specs.Tree.{App}
 use Rattle.started_members.specs.Members.{pids_of, process_and, process_in, processes_among, state_process}
 use Rattle.held_processes.specs.Applications.{all_stopped, held_ended, known, scene_at}
-use Rattle.held_processes.specs.Children.{AreSeen, ChildEndsHeld, DeletesIn, IsStay, ProcessEndsHeld, StateEndsHeld, ReportsStay, TerminatesIn, child_pids, held_stays, state_stays}
+use Rattle.held_processes.specs.Children.{AreSeen, ChildEndsHeld, DeletesIn, IsStateTaken, IsStay, ProcessEndsHeld, StateEndsHeld, ReportsStay, TerminatesIn, child_pids, held_stays, state_stays}
 use Rattle.held_processes.specs.declared.children.HeldEnd.{HeldEnd}
 use Rattle.held_processes.specs.declared.children.HeldEnd.TheVariants.{Stays, GivenUp, NotHeld}
 use Rattle.held_processes.specs.Course.{Course, Courses, Hold, add, add_alone, added, course_after, if_held, let_go}
@@ -39,6 +40,7 @@ use Rattle.held_processes.proofs.FollowLemmas.{at_slot, follow_same, past_of}
 use Rattle.held_processes.proofs.LongerLemmas.{end_longer, look_longer, same_longer}
 use Rattle.held_processes.proofs.LookLemmas.{looked_at}
 use Rattle.held_processes.proofs.SlotLemmas.{gives_back, longer_both, longer_still, looked_value, free_case, held_case}
+use Rattle.held_processes.proofs.TakenLemmas.{IsFoundMore, child_later, ended_found, look_taken, quiet_taken, same_found}
 
 pub terminates_in : {X E : Type 0} (followed : Followed) (hs : HeldSlots) (v : View) (apps : List App) (name id : List ℕ) (r : Result X E) (apps' : List App) (w : View) → has_one_supervisor name apps ≡ true
     → AllFollow followed.first (held_ended (pids_of (processes_among (child_members name id apps))) followed.courses) hs v → TerminatesChild name id apps v r apps' w
@@ -137,9 +139,9 @@ left_alone slot cs free p = by (p == slot) refl
 pub seen_where : (first : View) (cs : Courses) (hs : HeldSlots) (v : View) → AllFollow first cs hs v → AreSeen first cs v
 seen_where first cs hs v f = λ p inside. (f.each p inside).stand
 
--- so it is where the handler has seen more since then
-pub later_stay : (first : View) (stay : Stay) (cs : Courses) (o : Option Place) (stays : Bool) (b v w : View) → AreLonger v w → IsStay first stay cs o stays b v → IsStay first stay cs o stays b w
-later_stay first stay cs o stays b v w more is = (is.0, is.1, is.2, is.3, longer_both is.0 v w is.4 more)
+-- so it is of one that doesn't stay where the handler has seen more since then
+pub later_stay : (first : View) (stay : Stay) (cs : Courses) (o : Option Place) (b v w : View) → AreLonger v w → IsFoundMore v w → IsStay first stay cs o false b v → IsStay first stay cs o false b w
+later_stay first stay cs o b v w more found is = (is.0, is.1, is.2, is.3, longer_both is.0 v w is.4 more, child_later cs o b v w is.5 found, λ stays. absurd (true≢false (sym stays)))
 
 -- What stands for a child was given up, unless it stays.
 StateEnded : Bool → MemberState → View → View → Type 0
@@ -153,6 +155,8 @@ record StateGiven (first : View) (stay : Stay) (cs : Courses) (m : MemberState) 
   reported : stays ≡ state_stays stay (now_in (values_seen seen) cs) m
   since : AreLonger v seen
   longer : AreLonger seen w
+  taken : IsStateTaken cs m v w
+  now : stays ≡ true → state_stays stay (now_in (values_seen w) cs) m ≡ true
   follow : AllFollow first (if stays then cs else all_stopped (values_seen first) (pids_of (process_and (state_process m) [])) cs) hs w
 
 -- where no process stands for it, nothing happens
@@ -160,7 +164,16 @@ quiet_given : (first : View) (stay : Stay) (cs : Courses) (m : MemberState) (hs 
     → stays ≡ state_stays stay (now_in (values_seen u) cs) m → StateEnded stays m look w → StateGiven first stay cs m stays hs v w
 unfolding StateEnded
 quiet_given first stay cs m hs v u look w since f none same true reported ended =
-    record { seen = u; are_seen = seen_where first cs hs u f; reported = reported; since = since; longer = same_longer u w (ended ∙ same); follow = subst (AllFollow first cs hs) (sym (ended ∙ same)) f }
+    let at : w ≡ u = ended ∙ same in record {
+      seen = u;
+      are_seen = seen_where first cs hs u f;
+      reported = reported;
+      since = since;
+      longer = same_longer u w at;
+      taken = quiet_taken cs m v w none;
+      now = λ _. subst (λ x. state_stays stay (now_in (values_seen x) cs) m ≡ true) (sym at) (sym reported);
+      follow = subst (AllFollow first cs hs) (sym at) f;
+    }
 quiet_given first stay cs m hs v u look w since f none same false reported ended =
     let at : w ≡ look = subst (λ o. MemberEnded o look w) none ended in record {
       seen = u;
@@ -168,18 +181,27 @@ quiet_given first stay cs m hs v u look w since f none same false reported ended
       reported = reported;
       since = since;
       longer = same_longer u w (at ∙ same);
+      taken = quiet_taken cs m v w none;
+      now = λ stays. absurd (true≢false (sym stays));
       follow = subst (λ o. AllFollow first (all_stopped (values_seen first) (pids_of (process_and o [])) cs) hs w) (sym none) (subst (AllFollow first cs hs) (sym (at ∙ same)) f);
     }
 
 -- a process that isn't held
-free_given : (first : View) (stay : Stay) (cs : Courses) (q : StartedProcess) (hs : HeldSlots) (v u look w : View) → AreLonger v u → (cs q.pid.slot).hold ≡ not_held → AllFollow first cs hs u
+free_given : (first : View) (stay : Stay) (cs : Courses) (q : StartedProcess) (hs : HeldSlots) (v u look w : View) → u ≡ v → AreLonger v u → (cs q.pid.slot).hold ≡ not_held → AllFollow first cs hs u
     → (stays : Bool) → LookedAt stay q.pid stays u look → StateEnded stays (Process q) look w → StateGiven first stay cs (Process q) stays hs v w
 unfolding StateEnded
-free_given first stay cs q hs v u look w before hold f true looked ended =
-    let at = looked_follow first cs hs u stay q.pid true look f hold looked in
-    let since = longer_both v u look before (look_longer stay (Process q) true u look looked) in
-    record { seen = look; are_seen = seen_where first cs hs look at.0; reported = at.1; since = since; longer = same_longer look w ended; follow = subst (AllFollow first cs hs) (sym ended) at.0 }
-free_given first stay cs q hs v u look w before hold f false looked ended =
+free_given first stay cs q hs v u look w same before hold f true looked ended =
+    let at = looked_follow first cs hs u stay q.pid true look f hold looked in record {
+      seen = look;
+      are_seen = seen_where first cs hs look at.0;
+      reported = at.1;
+      since = longer_both v u look before (look_longer stay (Process q) true u look looked);
+      longer = same_longer look w ended;
+      taken = λ _. subst (λ x. HasTaken q.pid.slot x w) same (look_taken stay q.pid true u look w looked (same_found look w ended));
+      now = λ _. subst (λ x. state_stays stay (now_in (values_seen x) cs) (Process q) ≡ true) (sym ended) (sym at.1);
+      follow = subst (AllFollow first cs hs) (sym ended) at.0;
+    }
+free_given first stay cs q hs v u look w same before hold f false looked ended =
     let ds = give_up_at q.pid.slot cs in
     let at = looked_follow first cs hs u stay q.pid false look f hold looked in record {
       seen = look;
@@ -187,6 +209,8 @@ free_given first stay cs q hs v u look w before hold f false looked ended =
       reported = at.1;
       since = longer_both v u look before (look_longer stay (Process q) false u look looked);
       longer = end_longer (Some q) look w ended;
+      taken = λ _. subst (λ x. HasTaken q.pid.slot x w) same (look_taken stay q.pid false u look w looked (ended_found (Some q) look w ended));
+      now = λ stays. absurd (true≢false (sym stays));
       follow = ended_follow first ds hs look q.pid w (follow_same first cs ds hs look (λ p inside. sym (left_alone q.pid.slot cs hold p)) at.0) (free_there q.pid.slot cs) ended;
     }
 
@@ -204,6 +228,8 @@ held_given first stay cs q hs hs' v u look w really before not_stays f longer fa
       reported = sym not_stays;
       since = longer_still v;
       longer = longer_both v u w longer (longer_both u look w (look_longer stay (Process q) false u look looked) (end_longer (Some q) look w ended));
+      taken = λ free. absurd (really free);
+      now = λ stays. absurd (true≢false (sym stays));
       follow = ended_follow first ds hs' look q.pid w at.0 (free_there q.pid.slot cs) ended;
     }
 
@@ -222,7 +248,7 @@ process_given : (first : View) (stay : Stay) (cs : Courses) (q : StartedProcess)
     → StateGiven first stay cs (Process q) stays hs' v w
 process_given first stay cs q hs hs' v u look w Stays not before f longer stays looked ended = absurd not
 process_given first stay cs q hs hs' v u look w GivenUp not before f longer stays looked ended = held_given first stay cs q hs hs' v u look w f.1 before f.0 f.2 longer stays looked ended
-process_given first stay cs q hs hs' v u look w NotHeld not before f longer stays looked ended = free_given first stay cs q hs' v u look w longer f.0 f.1 stays looked ended
+process_given first stay cs q hs hs' v u look w NotHeld not before f longer stays looked ended = free_given first stay cs q hs' v u look w f.2 longer f.0 f.1 stays looked ended
 
 state_given : (first : View) (stay : Stay) (cs : Courses) (m : MemberState) (hs hs' : HeldSlots) (v u look w : View) (e : HeldEnd) → NotStaying e → AllFollow first cs hs v
     → StateEndsHeld first stay m cs v e hs' u → AreLonger v u → (stays : Bool) → StateLookedAt stay m stays u look → StateEnded stays m look w → StateGiven first stay cs m stays hs' v w
@@ -239,17 +265,22 @@ pub given : (first : View) (stay : Stay) (cs : Courses) (o : Option Place) (hs h
     → ChildEndsHeld first stay o cs v e hs' u → AreLonger v u → (stays : Bool) → ChildLookedAt stay o stays u look → ChildEndedUnless stays o look w → Given first stay cs o stays hs' v w
 unfolding StateEnded
 given first stay cs None hs hs' v u look w e not before f longer true looked ended =
-    record { stay_is = (u, seen_where first cs hs' u f.1, refl, longer, same_longer u w (ended ∙ looked.1)); follow = subst (AllFollow first cs hs') (sym (ended ∙ looked.1)) f.1 }
+    let at : w ≡ u = ended ∙ looked.1 in record {
+      stay_is = (u, seen_where first cs hs' u f.1, refl, longer, same_longer u w at, tt, λ _. refl);
+      follow = subst (AllFollow first cs hs') (sym at) f.1;
+    }
 given first stay cs None hs hs' v u look w e not before f longer false looked ended = absurd (true≢false (sym looked.0))
 given first stay cs (Some p) hs hs' v u look w e not before f longer true looked ended =
-    let is = state_given first stay cs p.child.state hs hs' v u look w e not before f longer true looked ended in record { stay_is = (is.seen, is.are_seen, is.reported, is.since, is.longer); follow = is.follow }
+    let is = state_given first stay cs p.child.state hs hs' v u look w e not before f longer true looked ended in
+    record { stay_is = (is.seen, is.are_seen, is.reported, is.since, is.longer, is.taken, is.now); follow = is.follow }
 given first stay cs (Some p) hs hs' v u look w e not before f longer false looked ended =
-    let is = state_given first stay cs p.child.state hs hs' v u look w e not before f longer false looked ended in record { stay_is = (is.seen, is.are_seen, is.reported, is.since, is.longer); follow = is.follow }
+    let is = state_given first stay cs p.child.state hs hs' v u look w e not before f longer false looked ended in
+    record { stay_is = (is.seen, is.are_seen, is.reported, is.since, is.longer, is.taken, is.now); follow = is.follow }
 
 state_held_on : (first : View) (stay : Stay) (cs : Courses) (m : MemberState) (hs : HeldSlots) (v w : View) → StateEndsHeld first stay m cs v Stays hs w
-    → (true ≡ state_stays stay (now_in (values_seen v) cs) m) × AllFollow first cs hs w
+    → (true ≡ state_stays stay (now_in (values_seen v) cs) m) × AllFollow first cs hs w × (w ≡ v) × IsStateTaken cs m v w
 state_held_on first stay cs Ended hs v w f = absurd (cc f.0)
-state_held_on first stay cs (Process q) hs v w f = (sym f.0, f.1)
+state_held_on first stay cs (Process q) hs v w f = (sym f.0, f.2, f.3, λ free. absurd (f.1 free))
 state_held_on first stay cs (Supervisor m) hs v w f = absurd (cc f.0)
 
 -- a child that is held, and stays
@@ -257,7 +288,8 @@ pub held_on : (first : View) (stay : Stay) (cs : Courses) (o : Option Place) (hs
     → Given first stay cs o true hs' v w
 held_on first stay cs None hs hs' v w before f longer = absurd (cc f.0)
 held_on first stay cs (Some p) hs hs' v w before f longer =
-    let is = state_held_on first stay cs p.child.state hs' v w f in record { stay_is = (v, seen_where first cs hs v before, is.0, longer_still v, longer); follow = is.1 }
+    let is = state_held_on first stay cs p.child.state hs' v w f in
+    record { stay_is = (v, seen_where first cs hs v before, is.0, longer_still v, longer, is.3, λ _. subst (λ x. state_stays stay (now_in (values_seen x) cs) p.child.state ≡ true) (sym is.2) (sym is.0)); follow = is.1 }
 
 -- a child is deleted, or stays
 pub deletes_in : {E : Type 0} (followed : Followed) (hs hs' : HeldSlots) (v u : View) (apps : List App) (name id : List ℕ) (e : HeldEnd) (r : Result Bool E) (apps' : List App) (w : View) → NotStaying e

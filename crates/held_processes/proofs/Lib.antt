@@ -1,6 +1,7 @@
 pub mod StandLemmas
 pub mod SlotLemmas
 pub mod LongerLemmas
+pub mod TakenLemmas
 pub mod FollowLemmas
 pub mod ChangeLemmas
 pub mod ReleaseLemmas

@@ -1,5 +1,6 @@
 -- A look at processes: whether one of a module is up.
-use Rattle.std.proofs.Common.{◌≡◌, ◌≢◌, ℕ, ◌+◌, ◌<◌, Bool, ◌&&◌, false, Option, None, is_some, slice_index_or, List, arith, ap, sym, subst, ◌∙◌}
+use Rattle.std.proofs.Common.{◌≡◌, ◌≢◌, ℕ, ◌+◌, ◌<◌, ◌≤◌, Bool, ◌&&◌, not, true, false, true≢false, Option, None, is_some, slice_index_or, List, arith, ap, sym, subst, ⊎_elim, ◌∙◌}
+use Rattle.std.proofs.lemmas.Bool.{cases_lt}
 use native.Mathlib.Decide.{ℕ_discrete}
 use mathlib.Core.Logic.{dite}
 use Rattle.proc_history.specs.Histories.{replay, replay_from}
@@ -7,11 +8,15 @@ use Rattle.proc_history.specs.Values.{up_at}
 use Rattle.proc_table.specs.declared.view.View.{View}
 use Rattle.proc_table.specs.Parts.{Part, part_of}
 use Rattle.proc_table.specs.Views.{seen}
+use Rattle.proc_table.specs.Waits.{HasTaken}
 use Rattle.held_processes.specs.Course.{Courses, ModulesBySlot, runs}
+use Rattle.held_processes.specs.Course.Hold.{not_held}
 use Rattle.held_processes.specs.Following.{AllFollow, Follows, HeldForm, HeldSlots}
-use Rattle.held_processes.specs.Operations.{is_up_user, values_seen}
-use Rattle.held_processes.specs.Slots.{Steps, value_with}
+use Rattle.held_processes.specs.Operations.{AreLookedAt, is_free_user, is_held, is_up_user, values_seen}
+use Rattle.held_processes.specs.Slots.{IsLookedAt, Steps, value_with}
+use Rattle.held_processes.proofs.AnyLemmas.{any_found}
 use Rattle.held_processes.proofs.FollowLemmas.{past_of}
+use Rattle.held_processes.proofs.TakenLemmas.{IsFoundMore, free_user, taken_later, taken_since}
 
 -- all follow behind a look at one slot
 pub looked_at : (first : View) (cs : Courses) (hs : HeldSlots) (v w : View) (p : ℕ) (place : Option HeldForm) → AllFollow first cs hs v → place ≡ slice_index_or hs p None
@@ -37,3 +42,27 @@ looked_none users name cs v w n others none here p below = dite (ℕ_discrete p 
 
 pub not_user : (users : ModulesBySlot) (name : List ℕ) (cs : Courses) (v : View) (p : ℕ) → runs name (users p) ≡ false → is_up_user (values_seen v) users name cs p ≡ false
 not_user users name cs v p none = ap (λ (a : Bool). a && is_some (up_at (value_with (seen v p) (cs p)).now)) none
+
+-- the slots of processes of the module that aren't held were taken, of so many lowest ones
+abbrev pub AreTaken : ModulesBySlot → List ℕ → Courses → View → ℕ → View → Type 0
+AreTaken users name cs v n w = (p : ℕ) → p < n → is_free_user users name cs p ≡ true → HasTaken p v w
+
+-- behind a look at one more
+pub one_taken : (first : View) (users : ModulesBySlot) (name : List ℕ) (cs : Courses) (v u w : View) (n : ℕ) → IsFoundMore v u → IsLookedAt (past_of first cs n) n u w → AreTaken users name cs v n u
+    → AreTaken users name cs v (n + 1) w
+one_taken first users name cs v u w n more looked so_far p below free = dite (ℕ_discrete p n)
+    (λ is. subst (λ q. HasTaken q v w) (sym is) (taken_since n v u w more (looked.taken (subst (λ q. (cs q).hold ≡ not_held) is (free_user users name cs p free)))))
+    (λ ne. taken_later p v u w (so_far p (omega (arith, below, ne)) free) looked.found)
+
+-- and behind one that is no process of the module
+pub none_taken : (users : ModulesBySlot) (name : List ℕ) (cs : Courses) (v u : View) (n : ℕ) → runs name (users n) ≡ false → AreTaken users name cs v n u → AreTaken users name cs v (n + 1) u
+none_taken users name cs v u n none so_far p below free = dite (ℕ_discrete p n)
+    (λ is. let no : is_free_user users name cs p ≡ false = ap (λ (b : Bool). b && not (is_held (cs p).hold)) (subst (λ q. runs name (users q) ≡ false) (sym is) none) in absurd (true≢false (sym free ∙ no)))
+    (λ ne. so_far p (omega (arith, below, ne)) free)
+
+-- up to one that is up
+pub taken_up_to : (first : View) (users : ModulesBySlot) (name : List ℕ) (cs : Courses) (v u w : View) (n : ℕ) → IsFoundMore v u → IsLookedAt (past_of first cs n) n u w → AreTaken users name cs v n u
+    → is_up_user (values_seen w) users name cs n ≡ true → AreLookedAt users name cs v w
+taken_up_to first users name cs v u w n more looked so_far up p inside free none =
+    ⊎_elim (λ (beyond : n < p). absurd (true≢false (sym (any_found (is_up_user (values_seen w) users name cs) p n beyond up) ∙ none)))
+    (λ (near : p ≤ n). one_taken first users name cs v u w n more looked so_far p (omega (arith, near)) free) (cases_lt n p)

@@ -3,6 +3,7 @@ use Rattle.std.proofs.Common.{◌≡◌, ◌≢◌, ℕ, ◌<◌, ◌≤◌, ◌
 use Rattle.proc_history.specs.Events.Event.{given_up}
 use Rattle.proc_table.specs.declared.pid.Pid.{Pid}
 use Rattle.proc_table.specs.declared.view.View.{View}
+use Rattle.proc_table.specs.Waits.{HasTaken}
 use Rattle.mod_table.specs.Tables.{Tables}
 use Rattle.sup_tree.specs.declared.error.RestartError.{RestartError}
 use Rattle.sup_tree.specs.declared.error.RestartError.TheVariants.{NoSuper, NoTable, Unsupported, NoSlot, NoMemory}
@@ -24,7 +25,7 @@ use Rattle.held_processes.specs.declared.children.HeldEnd.{HeldEnd}
 use Rattle.held_processes.specs.declared.children.HeldEnd.TheVariants.{Stays, GivenUp, NotHeld}
 use Rattle.held_processes.specs.declared.restarts.NotRestarted.{NotRestarted}
 use Rattle.held_processes.specs.Applications.{all_stopped, ended_at, known, scene_at}
-use Rattle.held_processes.specs.Children.{AreSeen, ChildEndsHeld, ProcessEndsHeld, StateEndsHeld, state_stays}
+use Rattle.held_processes.specs.Children.{AreSeen, ChildEndsHeld, IsStateTaken, ProcessEndsHeld, StateEndsHeld, state_stays}
 use Rattle.held_processes.specs.Course.{Courses, add_alone}
 use Rattle.held_processes.specs.Following.{AllFollow, AreLonger, Followed, HeldSlots}
 use Rattle.held_processes.specs.Operations.{Values, give_up_at, is_held, now_in, values_seen}
@@ -36,6 +37,7 @@ use Rattle.held_processes.proofs.FollowLemmas.{follow_same}
 use Rattle.held_processes.proofs.LongerLemmas.{began_longer, look_longer}
 use Rattle.held_processes.proofs.RoundLemmas.{AllLegal, free_is}
 use Rattle.held_processes.proofs.SlotLemmas.{longer_both, longer_still}
+use Rattle.held_processes.proofs.TakenLemmas.{began_found, look_taken, same_found}
 
 -- an end adds nothing to a process that doesn't stand
 ended_nothing : (values : Values) (pid : Pid) (cs : Courses) → stands pid (known values cs pid.slot) ≡ false → (p : ℕ) → ended_at values pid cs p ≡ cs p
@@ -65,6 +67,7 @@ pub record Looked (first : View) (stay : Stay) (cs : Courses) (m : MemberState) 
   pub reported : false ≡ state_stays stay (now_in (values_seen seen) cs) m
   pub since : AreLonger v seen
   pub longer : AreLonger seen w
+  pub taken : IsStateTaken cs m v w
   pub follow : AllFollow first (if is_given_up e then all_stopped (values_seen first) (pids_of (process_and (state_process m) [])) cs else cs) hs w
 
 process_looked : (first : View) (stay : Stay) (cs : Courses) (q : StartedProcess) (hs hs' : HeldSlots) (v u look : View) (e : HeldEnd) → NotStaying e → AllFollow first cs hs v
@@ -78,12 +81,20 @@ process_looked first stay cs q hs hs' v u look GivenUp not before f longer looke
       reported = sym f.0;
       since = longer_still v;
       longer = longer_both v u look longer (look_longer stay (Process q) false u look looked);
+      taken = λ free. absurd (f.1 free);
       follow = follow_same first ds (ended_at (values_seen first) q.pid ds) hs' look (λ p inside. sym (ended_nothing (values_seen first) q.pid ds (given_up_gone (values_seen first) q.pid cs f.1) p)) at.0;
     }
 process_looked first stay cs q hs hs' v u look NotHeld not before f longer looked =
     let at = looked_follow first cs hs' u stay q.pid false look f.1 f.0 looked in
-    let since = longer_both v u look longer (look_longer stay (Process q) false u look looked) in
-    record { seen = look; are_seen = seen_where first cs hs' look at.0; reported = at.1; since = since; longer = longer_still look; follow = at.0 }
+    record {
+      seen = look;
+      are_seen = seen_where first cs hs' look at.0;
+      reported = at.1;
+      since = longer_both v u look longer (look_longer stay (Process q) false u look looked);
+      longer = longer_still look;
+      taken = λ _. subst (λ x. HasTaken q.pid.slot x look) f.2 (look_taken stay q.pid false u look look looked (same_found look look refl));
+      follow = at.0;
+    }
 
 state_looked : (first : View) (stay : Stay) (cs : Courses) (m : MemberState) (hs hs' : HeldSlots) (v u look : View) (e : HeldEnd) → NotStaying e → AllFollow first cs hs v
     → StateEndsHeld first stay m cs v e hs' u → AreLonger v u → StateLookedAt stay m false u look → Looked first stay cs m e hs' v look
@@ -93,6 +104,7 @@ state_looked first stay cs Ended hs hs' v u look e not before f longer looked = 
   reported = refl;
   since = longer;
   longer = look_longer stay Ended false u look looked;
+  taken = tt;
   follow = subst (λ x. AllFollow first (if is_given_up x then cs else cs) hs' look) (sym f.0) (subst (AllFollow first cs hs') (sym looked.1) f.1);
 }
 state_looked first stay cs (Process q) hs hs' v u look e not before f longer looked = process_looked first stay cs q hs hs' v u look e not before f longer looked
@@ -134,7 +146,8 @@ begun_in followed hs hs' v u look w apps apps' name id tables p e not one there 
       one = one;
       place = p;
       there = there;
-      stay = later_stay first UpOrTemporary followed.courses (Some p) false v t.after_end w (began_longer app starts t.after_end t.processes w t.began) is.stay_is;
+      stay = later_stay first UpOrTemporary followed.courses (Some p) v t.after_end w (began_longer app starts t.after_end t.processes w t.began)
+          (began_found app starts t.after_end t.processes w t.began) is.stay_is;
       sound = t.sound;
       room = subst (λ n. length starts ≤ n) (free_is first cs hs' t.after_end is.follow legal_now) (began_in_room app starts t.after_end t.processes w t.began);
       tree = t.is ∙ ap (λ (pids : List Pid). apps_with (in_place (members_at (restart_members tables p.child) pids)) name id apps) began.places;
@@ -187,7 +200,15 @@ faulty_in followed hs hs' v u look w apps apps' name id tables p e x not one the
       one = one;
       place = p;
       there = there;
-      stay = (is.seen, is.are_seen, is.reported, is.since, subst (AreLonger is.seen) (sym ended) is.longer);
+      stay = (
+        is.seen,
+        is.are_seen,
+        is.reported,
+        is.since,
+        subst (AreLonger is.seen) (sym ended) is.longer,
+        subst (IsStateTaken followed.courses p.child.state v) (sym ended) is.taken,
+        λ stays. absurd (true≢false (sym stays)),
+      );
       why = why;
       tree = same;
       given_up = given_so ∙ (state_given_up first UpOrTemporary p.child.state followed.courses v e hs' u not f ∙ sym as_held);

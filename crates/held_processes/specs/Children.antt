@@ -6,6 +6,7 @@ use Rattle.proc_table.specs.declared.pid.Pid.{Pid}
 use Rattle.proc_table.specs.declared.view.View.{View}
 use Rattle.proc_table.specs.Agrees.{slots}
 use Rattle.proc_table.specs.Views.{seen}
+use Rattle.proc_table.specs.Waits.{HasTaken}
 use Rattle.started_members.specs.declared.looks.Stay.{Stay}
 use Rattle.started_members.specs.declared.looks.Stay.TheVariants.{Up}
 use Rattle.started_members.specs.declared.member.MemberState.{MemberState}
@@ -56,11 +57,21 @@ child_stays stay values (Some p) = state_stays stay values p.child.state
 abbrev pub AreSeen : View → Courses → View → Type 0
 AreSeen first cs v = (p : ℕ) → p < slots → Stand first.lent (seen first p) (cs p).blocks (seen v p)
 
+-- The slot of what stands for a child was taken between these two moments, if that is a process which isn't held.
+abbrev pub IsStateTaken : Courses → MemberState → View → View → Type 0
+IsStateTaken cs (Process q) v w = (cs q.pid.slot).hold ≡ not_held → HasTaken q.pid.slot v w
+IsStateTaken cs m v w = Unit {0}
+
+abbrev pub IsChildTaken : Courses → Option Place → View → View → Type 0
+IsChildTaken cs None v w = Unit {0}
+IsChildTaken cs (Some p) v w = IsStateTaken cs p.child.state v w
+
 -- Whether a child stays, by histories that the handler has seen: behind those that it had seen before, and in front of those that
--- it has seen now.
+-- it has seen now. Its slot was taken between these. One that stays does so by what the handler has seen now.
 abbrev pub IsStay : View → Stay → Courses → Option Place → Bool → View → View → Type 0
 IsStay first stay cs o stays v w =
     (u : View) × AreSeen first cs u × (stays ≡ child_stays stay (now_in (values_seen u) cs) o) × AreLonger v u × AreLonger u w
+    × IsChildTaken cs o v w × (stays ≡ true → child_stays stay (now_in (values_seen w) cs) o ≡ true)
 
 -- where the process of a child is, if one stands for it
 abbrev pub child_pids : Option Place → List Pid
@@ -94,11 +105,13 @@ abbrev pub ReportsStay : Stay → Pid → HeldSlots → Option Bool → Type 0
 ReportsStay stay pid hs o = (first : View) (cs : Courses) (v : View) → AllFollow first cs hs v → o ≡ if_held (cs pid.slot).hold (Some (held_stays stay pid (values_seen v) cs)) None
 
 -- What became of a process that may be held: it is held and stays, or it was held and is given up and let go, or it isn't held.
+-- Where it wasn't given up, nothing was seen.
 abbrev pub ProcessEndsHeld : View → Stay → Pid → Courses → View → HeldEnd → HeldSlots → View → Type 0
-ProcessEndsHeld first stay pid cs v Stays hs w = (held_stays stay pid (values_seen v) cs ≡ true) × AllFollow first cs hs w
+ProcessEndsHeld first stay pid cs v Stays hs w =
+    (held_stays stay pid (values_seen v) cs ≡ true) × ((cs pid.slot).hold ≢ not_held) × AllFollow first cs hs w × (w ≡ v)
 ProcessEndsHeld first stay pid cs v GivenUp hs w =
     (held_stays stay pid (values_seen v) cs ≡ false) × ((cs pid.slot).hold ≢ not_held) × AllFollow first (give_up_at pid.slot cs) hs w
-ProcessEndsHeld first stay pid cs v NotHeld hs w = ((cs pid.slot).hold ≡ not_held) × AllFollow first cs hs w
+ProcessEndsHeld first stay pid cs v NotHeld hs w = ((cs pid.slot).hold ≡ not_held) × AllFollow first cs hs w × (w ≡ v)
 
 -- So it is of the process of a child, where one stands for it.
 abbrev pub StateEndsHeld : View → Stay → MemberState → Courses → View → HeldEnd → HeldSlots → View → Type 0

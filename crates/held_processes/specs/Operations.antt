@@ -9,6 +9,7 @@ use Rattle.proc_history.specs.Values.{up_at}
 use Rattle.proc_table.specs.declared.view.View.{View}
 use Rattle.proc_table.specs.Agrees.{slots}
 use Rattle.proc_table.specs.Views.{seen}
+use Rattle.proc_table.specs.Waits.{HasTaken}
 use Rattle.held_processes.specs.Course.{Courses, Hold, Operation, ModulesBySlot, runs, on_module, if_held, course_after}
 use Rattle.held_processes.specs.Course.Operation.{change, give_up}
 use Rattle.sup_tree.specs.Tree.{App, module_in}
@@ -88,6 +89,11 @@ is_up_user seen users name cs p = runs name (users p) && is_some (up_at (now_in 
 
 abbrev pub uses_up : Values → ModulesBySlot → List ℕ → Courses → Bool
 uses_up seen users name cs = any_slot (is_up_user seen users name cs)
+
+-- The slot of each process of the module that isn't held was taken between these two moments, up to the first process that is up.
+abbrev pub AreLookedAt : ModulesBySlot → List ℕ → Courses → View → View → Type 0
+AreLookedAt users name cs v w = (p : ℕ) → p < slots → is_free_user users name cs p ≡ true
+    → any_below (is_up_user (values_seen w) users name cs) p ≡ false → HasTaken p v w
 
 -- whether a process of the module stands in a slot
 abbrev pub is_used : ModulesBySlot → List ℕ → Bool

@@ -1,5 +1,6 @@
 -- What a step at one slot leaves.
 use Rattle.std.specs.Prelude.{◌≡◌, ℕ, Bool, true, List, [], Option, Some, None, Result, Ok, Err}
+use mathlib.Core.List.{IsPrefix}
 use Rattle.erl_term.specs.Value as term
 use Rattle.worker_table.specs.Table.{OldVersion}
 use Rattle.proc_history.specs.declared.value.Value.{Value}
@@ -11,6 +12,7 @@ use Rattle.proc_history.specs.Values.{after}
 use Rattle.proc_table.specs.declared.view.View.{View}
 use Rattle.proc_table.specs.Parts.{Part, part_of}
 use Rattle.proc_table.specs.Calls.{Elsewhere}
+use Rattle.proc_table.specs.Waits.{HasTaken}
 use Rattle.held_processes.specs.Course.{Hold, Course, Operation, course_after}
 use Rattle.held_processes.specs.Course.Hold.{not_held}
 use Rattle.held_processes.specs.Following.{HeldForm, Follows}
@@ -49,6 +51,11 @@ taken k c = record c { hold = k }
 abbrev pub Takes : {E : Type 0} → SlotPast → ℕ → Hold → View → Result HeldForm E → View → Type 0
 Takes past p k v (Ok h) w = Steps past p (taken k past.course) v (Some h) w
 Takes past p k v (Err e) w = Steps past p past.course v None w
+
+-- The slot was looked at: it was taken, unless its process is held. What takes found before stays in front.
+pub record IsLookedAt (past : SlotPast) (p : ℕ) (v w : View) : Type 0 where
+  pub taken : past.course.hold ≡ not_held → HasTaken p v w
+  pub found : IsPrefix v.found w.found
 
 -- Whether the code of a process that is held was changed: it found its row. It is what its event makes of it in either case.
 abbrev pub ChangesAt : OldVersion → term.Value → Option HeldForm → Bool → Option HeldForm → Type 0

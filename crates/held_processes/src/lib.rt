@@ -10,7 +10,7 @@
 //! one.
 //! Applications and children of supervisors start, stop, end and begin again meanwhile (specs/Applications, Children, Restarts):
 //! by the courses alone where a process begins, and whether a child is up by what the handler has seen, since others may have
-//! ended it.
+//! ended it: by a look in the same call, unless its process is held.
 //! The functions of `laws` say that while no pass is lent a history is that from before and the blocks, that without a block
 //! nothing was added, that what is pending adds none, and that starts and stops of applications leave nothing held.
 //! Only tested: that an operation is done where memory is there. Trusted: the toolchain alone.

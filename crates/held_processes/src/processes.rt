@@ -9,7 +9,7 @@ ghost use Rattle.held_processes.specs.Course.{Courses, on_all, on_module, openin
 ghost use Rattle.held_processes.specs.Course.Operation.{suspend, load, resume, stop, start, pass_point, finish};
 ghost use Rattle.held_processes.specs.Following.{AllFollow, AreLeft, AreLonger, Followed, HoldsNothing};
 ghost use Rattle.held_processes.specs.InMemory.{AsksAt, behind_release, is_released, operation_of};
-ghost use Rattle.held_processes.specs.Operations.{Changes, IsDone, ReportsHeldUser, give_up_at, has_free_user, modules_by_slot, uses_up, values_seen};
+ghost use Rattle.held_processes.specs.Operations.{AreLookedAt, Changes, IsDone, ReportsHeldUser, give_up_at, has_free_user, modules_by_slot, uses_up, values_seen};
 
 use crate::Users;
 use crate::held_process::HeldProcess;
@@ -135,7 +135,8 @@ impl HeldProcesses {
         false
     }
 
-    /// Whether a process of the module is up. It adds nothing, and waits until no client has those that aren't held.
+    /// Whether a process of the module is up. It looks at one after another, up to one that is. It adds nothing, and waits until no
+    /// client has those that aren't held.
     pub fn any_up<R: Wait>(
         &self,
         rt: &R,
@@ -150,6 +151,8 @@ impl HeldProcesses {
         ensures follow { AllFollow followed.first followed.courses self.now seat.new.view }
         ensures reported { result ≡ uses_up (values_seen seat.new.view)
             (modules_by_slot users.now.tree.now) users.now.module.now followed.courses }
+        ensures looked { AreLookedAt (modules_by_slot users.now.tree.now) users.now.module.now
+            followed.courses seat.old.view seat.new.view }
         ensures longer { AreLonger seat.old.view seat.new.view }
     {
         for slot in 0..self.places.len() {

@@ -7,7 +7,7 @@ ghost use Rattle.held_processes.specs.Course.Operation.{suspend, load, resume, s
 ghost use Rattle.held_processes.specs.Following.{AreLonger};
 ghost use Rattle.held_processes.specs.InMemory.{operation_of, takes_memory};
 ghost use Rattle.held_processes.specs.Operations.{is_held};
-ghost use Rattle.held_processes.specs.Slots.{SlotPast, IsFollowed, Steps, StepsBy, ChangesAt, value_with};
+ghost use Rattle.held_processes.specs.Slots.{SlotPast, IsFollowed, IsLookedAt, Steps, StepsBy, ChangesAt, value_with};
 ghost use Rattle.proc_history.specs.Values.{up_at};
 ghost use Rattle.proc_table.specs.Views.{seen};
 ghost use Rattle.proc_history.specs.Events.Event.{loaded};
@@ -218,6 +218,7 @@ pub(crate) fn is_up<R: Wait>(
     ensures followed { Steps past pid.slot past.course seat.old.view place.now seat.new.view }
     ensures reported { result ≡ is_some
         (up_at (value_with (seen seat.new.view pid.slot) past.course).now) }
+    ensures looked { IsLookedAt past pid.slot seat.old.view seat.new.view }
     ensures longer { AreLonger seat.old.view seat.new.view }
 {
     match place {

@@ -21,7 +21,7 @@ use Rattle.node_processes.specs.Answers.{outcome_at, value_at, behind_call, call
 use Rattle.node_processes.specs.Calls.{Calls, left_by}
 use Rattle.node_processes.specs.Calls.Calls.{once, often}
 use Rattle.node_processes.specs.Floods.{after_calls, flooded, flooded_at, outcomes_at}
-use Rattle.node_processes.specs.Fresh.{started_parts, part_starts, part_beginnings, beginnings, first_value, first_values, tables_in, fresh_entry, running_entry, fresh}
+use Rattle.node_processes.specs.Fresh.{started_parts, part_starts, part_beginnings, beginnings, first_value, first_values, tables_in, fresh_entry, running_entry, fresh_processes}
 use Rattle.node_processes.specs.Processes.{Processes, process_named}
 use Rattle.node_processes.specs.ModuleVersions.{HasModuleVersion, HaveModuleVersions}
 use Rattle.relup_instruction.specs.declared.instruction.Direction.{Direction}
@@ -67,7 +67,7 @@ first_version (Some b) version n is = begun_version b n version is
 first_versions : (bs : List Beginning) → AllByRecursion BeginsVersion bs → AllByRecursion HasModuleVersion (first_values bs)
 first_versions bs all = each_mapped HasModuleVersion (λ i. first_value (slice_get bs i)) (λ i. first_version (slice_get bs i) (each_got BeginsVersion bs i all)) _
 
-pub fresh_versions : (es : Releases) → AreWithLibraries es → HaveModuleVersions (fresh es)
+pub fresh_versions : (es : Releases) → AreWithLibraries es → HaveModuleVersions (fresh_processes es)
 fresh_versions es all = go (running_entry es) refl
   where
     go : (o : Option Entry) → running_entry es ≡ o → HaveModuleVersions (fresh_entry o)

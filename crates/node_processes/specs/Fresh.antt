@@ -92,5 +92,5 @@ fresh_entry None = fresh_release [] []
 fresh_entry (Some e) = fresh_release e.release.apps e.libraries
 
 -- the processes of a node that has just booted to this list
-abbrev pub fresh : Releases → Processes
-fresh es = fresh_entry (running_entry es)
+abbrev pub fresh_processes : Releases → Processes
+fresh_processes es = fresh_entry (running_entry es)

@@ -17,7 +17,7 @@ use Rattle.rel_list.specs.declared.status.Status.{Status}
 use Rattle.rel_list.specs.Releases.{Entry, Releases}
 use Rattle.rel_list.specs.Status.{is_current, is_permanent}
 use Rattle.rel_list.specs.declared.listed.ListedRelease.{ListedRelease}
-use Rattle.node_processes.specs.Fresh.{running_entry, fresh_entry, fresh_release, fresh}
+use Rattle.node_processes.specs.Fresh.{running_entry, fresh_entry, fresh_release, fresh_processes}
 use Rattle.node_processes.proofs.RunningEntry.{running_found}
 
 abbrev pub first_running : List ListedRelease → Option ListedRelease
@@ -58,5 +58,5 @@ startable_so as' rcs l es apps libraries all is =
     (startable.complete.libraries, startable.complete.faultless, startable.distinct))
 
 pub fresh_behind : (as' : List RelApp) (rcs : List (Rc declared.Library Global)) (l : ListedRelease) (es : Releases) → as' ≡ l.release.apps.items → rcs ≡ l.libraries.items
-    → running_entry es ≡ Some (entry_of l) → fresh_release (map application_of as') (map shared_of rcs) ≡ fresh es
+    → running_entry es ≡ Some (entry_of l) → fresh_release (map application_of as') (map shared_of rcs) ≡ fresh_processes es
 fresh_behind as' rcs l es apps libraries is = (λ i. fresh_release (map application_of (apps i)) (map shared_of (libraries i))) ∙ sym (ap fresh_entry is)

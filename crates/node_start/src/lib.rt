@@ -1,7 +1,7 @@
 //! What a node starts right after a boot.
 //!
 //! [`start_running`] is the only way in which the release of a node is started: it begins the processes of the release that runs,
-//! by the list of a handler, in a new table (`fresh`). That is the permanent release, or one that a boot has just taken as a
+//! by the list of a handler, in a new table (`fresh_processes`). That is the permanent release, or one that a boot has just taken as a
 //! one-shot. Whoever calls it owes that a crash leaves no one-shot from then on (`once`). So a release that was installed with a
 //! restart is started for it by one boot at most, whatever stops come, also in that boot. That a boot starts it once is to be read
 //! where it calls (`started` of `rel_session`). The law `a_release_that_passed_the_tests_starts` says that a release that passed

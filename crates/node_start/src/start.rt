@@ -5,7 +5,7 @@ ghost use Rattle.std.specs.Option.{option_copied, option_or};
 ghost use Rattle.app_file.specs.InMemory.{specification_of};
 ghost use Rattle.library.specs.InMemory.{shared_of};
 ghost use Rattle.library.specs.Library.{AreLibrariesOf};
-ghost use Rattle.node_processes.specs.Fresh.{fresh, fresh_release, started_parts};
+ghost use Rattle.node_processes.specs.Fresh.{fresh_processes, fresh_release, started_parts};
 ghost use Rattle.node_start.specs.Running.{RunsOnce, started_in};
 ghost use Rattle.node_start.specs.Starting.{AreReady, IsAlone, StartedAll};
 ghost use Rattle.proc_table.specs.Agrees.{slots};
@@ -66,7 +66,7 @@ pub fn start_running<D: Disk, R: Wait>(
     ensures table { seat.new.table ≡ table.now }
     ensures alone { IsAlone seat.new.view }
     ensures fresh { IfOk result (λ s.
-        started_in s seat.new.view ≡ fresh (list_in handler.now)) }
+        started_in s seat.new.view ≡ fresh_processes (list_in handler.now)) }
 {
     let Ok(list) = handler.which_releases() else {
         unreachable!();

@@ -1,5 +1,6 @@
 -- What the calls that wait answer and leave.
 use Rattle.std.specs.Prelude.{◌≡◌, ◌⊎◌, ℕ, true, List, [], ◌∷◌, ◌++◌}
+use mathlib.Core.List.{IsPrefix}
 use Rattle.proc_table.specs.declared.view.View.{View}
 use Rattle.proc_table.specs.declared.pass.Tried.{Tried}
 use Rattle.proc_table.specs.declared.pass.Tried.TheVariants.{Busy, Held}
@@ -35,6 +36,11 @@ pub record FoundAtLast (p : ℕ) (v w : View) : Type 0 where
   pub words : List ℕ
   pub busy : AreBusy words
   pub is : w.found ≡ (v.found ++ at_slot p words) ++ (p, 0) ∷ []
+
+-- Since the view v the seat took this slot, and got it.
+pub record HasTaken (p : ℕ) (v w : View) : Type 0 where
+  pub before : List (ℕ × ℕ)
+  pub is : IsPrefix ((v.found ++ before) ++ (p, 0) ∷ []) w.found
 
 -- After some steps that found the slot taken, the answer of one that did not.
 pub record AnswersAtLast (p round input : ℕ) (v : View) (t : Tried) (w : View) : Type 0 where

@@ -1,14 +1,16 @@
 //! Files, and what is read below a folder.
 use file_source::{Files, FilesError};
 use rel_host::RootFiles;
+use std::os::unix::fs::symlink;
 use std::{fs, io};
 use text_cases::{Answer, first_word, number};
 
-/// Makes a folder or a file.
+/// Makes a folder, a link or a file.
 pub(crate) fn push_made(host: &HostRuntime, kind: &str, words: &str, answer: &mut Answer) {
     let (name, text) = first_word(words);
     let made = match kind {
         "folder" => fs::create_dir(host, name),
+        "link" => symlink(host, text, name),
         "zeros" => write_zeros(host, name, number(text) as u64),
         _ => fs::write(host, name, text),
     };

@@ -10,8 +10,8 @@ use text_cases::Answer;
 ///
 /// `options WORDS`: the store and the root that the arguments give. `below PATH`: whether the path leads below its folder.
 ///
-/// `folder NAME`, `file NAME TEXT` and `zeros NAME COUNT` make a folder, a file, and a file of so many zeros, of which the host
-/// need store none. `contents NAME`: what stands in the file. `read ROOT PATH`: what a read below the folder ROOT gives, by its
+/// `folder NAME`, `link NAME PATH`, `file NAME TEXT` and `zeros NAME COUNT` make a folder, a symbolic link, a file, and a file of
+/// so many zeros, of which the host need store none. `contents NAME`: what stands in the file. `read ROOT PATH`: what a read below the folder ROOT gives, by its
 /// length from eight bytes on; `read_nowhere PATH`: where no folder is given.
 ///
 /// The other modes are those of [`push_of_disks`].
@@ -22,7 +22,7 @@ pub(crate) fn push_host(host: &HostRuntime, mode: &str, words: &str, answer: &mu
         "contents" => push_contents(host, words, answer),
         "read" => push_read_below(host, words, answer),
         "read_nowhere" => push_read(host, None, words, answer),
-        "folder" | "file" | "zeros" => push_made(host, mode, words, answer),
+        "folder" | "link" | "file" | "zeros" => push_made(host, mode, words, answer),
         _ => push_of_disks(host, mode, words, answer),
     }
 }

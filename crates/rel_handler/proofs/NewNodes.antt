@@ -7,6 +7,7 @@ use Rattle.rel_list.specs.declared.status.Status.TheVariants.{Permanent}
 use Rattle.rel_list.specs.Releases.{Bundle, Releases}
 use Rattle.rel_list.specs.Event.{Event, entry, list_after, step}
 use Rattle.rel_list.specs.Event.Event.{made}
+use Rattle.rel_list.proofs.EventLaws.{orderly-empty}
 use Rattle.rel_records.specs.Reading.{Spells}
 use Rattle.rel_records.specs.Writing.{record_of, IsWithinLimits}
 use Rattle.rel_records.proofs.EventRecords.{reports}
@@ -36,7 +37,7 @@ as_after events e es end c after next image =
 -- the first record is that of its release
 pub first_record : (format : ℕ) (p : Bundle) (body : List ℕ) → IsWithinLimits (made p) [] → Spells body (record_of (made p) []) → AreRecordsOf format (body ∷ []) (entry p Permanent ∷ [])
 first_record format p body fits spelled = record {
-  makes = ((record_of (made p) [], entry p Permanent ∷ [], spelled, stands_so format (record_of (made p) []) [] (entry p Permanent ∷ []) (allows_without format (record_of (made p) []) refl) (reports (made p) [] (entry p Permanent ∷ []) tt tt refl fits refl), refl), refl);
+  makes = ((record_of (made p) [], entry p Permanent ∷ [], spelled, stands_so format (record_of (made p) []) [] (entry p Permanent ∷ []) (allows_without format (record_of (made p) []) refl) (reports (made p) [] (entry p Permanent ∷ []) orderly-empty tt refl fits refl), refl), refl);
   alone = none_beside (entry p Permanent ∷ []) refl;
 }
 

@@ -6,6 +6,7 @@ use crate::readers::read_within;
 use file_source::{Files, FilesError};
 use std::alloc::{AllocError, Global};
 use std::io::ErrorKind;
+use std::path::{Path, PathBuf};
 use std::{fs, io, rt};
 
 /// The most bytes of a file.
@@ -13,9 +14,10 @@ const MOST_BYTES: usize = 1_048_576;
 
 /// Files by their paths below a folder. Without a folder, or with one of the empty name, there is none.
 ///
-/// A path is Missing where it doesn't lead below the folder ([`is_below`]), where nothing is there, where it goes through a file
-/// that is no folder, and where a name in it is too long for the host. A folder, and what can't be read, is Unreadable. Of a longer
-/// file than 1,048,576 bytes one byte more is read at most. Symbolic links are followed, so what they lead to may be outside.
+/// A path is Missing where it doesn't lead below the folder ([`is_below`]), also by a symbolic link, where nothing is there, where
+/// it goes through a file that is no folder, and where a name in it is too long for the host. A folder, and what can't be read, is
+/// Unreadable. Of a longer file than 1,048,576 bytes one byte more is read at most. The host is asked where a path leads, and then
+/// for the file: what becomes of a link in between is the host's.
 #[derive(Drop)]
 pub struct RootFiles<R: rt::Files + Drop> {
     host: R,
@@ -31,8 +33,25 @@ impl<R: rt::Files + Drop> RootFiles<R> {
         RootFiles { host, root }
     }
 
+    // Where the path leads below this folder, behind all links.
+    fn resolve(&self, alloc: Global, root: &str, path: &str) -> Result<PathBuf, FilesError> {
+        let Ok(whole) = joined(alloc, root, path) else {
+            return Err(FilesError::NoMemory);
+        };
+        let folder = self.host.canonicalize(alloc, root).map_err(files_error)?;
+        let found = self
+            .host
+            .canonicalize(alloc, whole.as_str())
+            .map_err(files_error)?;
+        if found.starts_with(folder.as_path()) {
+            Ok(found)
+        } else {
+            Err(FilesError::Missing)
+        }
+    }
+
     // Reads what is there, which is a file.
-    fn read_file(&self, alloc: Global, path: &str) -> Result<Vec<u8>, FilesError>
+    fn read_file(&self, alloc: Global, path: Path<'_>) -> Result<Vec<u8>, FilesError>
         ensures short { IfOk result (λ bytes. length bytes.items ≤ 1048576) }
     {
         if !fs::metadata(&self.host, path)
@@ -68,10 +87,8 @@ impl<R: rt::Files + Drop> Files for RootFiles<R> {
         if root.is_empty() || !is_below(path) {
             return Err(FilesError::Missing);
         }
-        let Ok(whole) = joined(alloc, root.as_str(), path) else {
-            return Err(FilesError::NoMemory);
-        };
-        self.read_file(alloc, whole.as_str())
+        let found = self.resolve(alloc, root.as_str(), path)?;
+        self.read_file(alloc, found.as_path())
     }
 }
 

@@ -1,5 +1,5 @@
 //! The list of releases.
-ghost use Rattle.std.specs.Prelude.{◌≡◌, ◌↔◌, false, Some, None, [], ◌∷◌, ◌++◌, find, length, map, string_bytes, IsTrue, IsFalse, IfErr, OnOk, OnErr};
+ghost use Rattle.std.specs.Prelude.{◌≡◌, ◌↔◌, ◌≤◌, false, Some, None, [], ◌∷◌, ◌++◌, find, length, map, string_bytes, IsTrue, IsFalse, IfErr, OnOk, OnErr};
 ghost use Rattle.std.specs.Option.{option_map, option_copied, option_to_list};
 ghost use Rattle.rel_list.specs.Status.{is_current, is_one_shot, is_permanent, is_temporary};
 ghost use Rattle.rel_list.specs.Change.{has_other_temporary, is_other_temporary};
@@ -40,7 +40,7 @@ impl Model for ReleaseList {
 
 impl ReleaseList {
     ghost use Rattle.rel_list.specs.Event.{event_of, own_step, step, boot_changes, with_statuses, list_assigned, without};
-    ghost use Rattle.rel_list.specs.Releases.{entry, permanent, current, one_shot, running, status_of, release_at, relup_at, libraries_at, has_current, HasDistinctVersions};
+    ghost use Rattle.rel_list.specs.Releases.{entry, permanent, current, one_shot, running, status_of, release_at, relup_at, libraries_at, has_current, of_status, HasDistinctVersions};
     ghost use Rattle.rel_list.specs.Refusal.{brings_release, own_refusal, IsRefusedWith};
     ghost use Rattle.rel_list.specs.declared.fault.ListError.TheVariants.{NoMemory};
     ghost use Rattle.rel_list.specs.Change.{status_after, may_be_given, MayBeMade};
@@ -222,10 +222,12 @@ impl ReleaseList {
         self.releases.get(vsn).map(|listed| listed.status)
     }
 
-    /// The releases with their statuses, in order of coming. No version stands twice.
+    /// The releases with their statuses, in order of coming. No version stands twice, and at most one of them is current or a
+    /// one-shot.
     pub fn releases(&self) -> &[ListedRelease]
         ensures entries { map entry_of result.now ≡ self.now }
         ensures distinct { HasDistinctVersions self.now }
+        ensures one_temporary { length (of_status is_temporary self.now) ≤ 1 }
     {
         self.releases.values().as_slice()
     }

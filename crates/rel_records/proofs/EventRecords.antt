@@ -16,6 +16,7 @@ use Rattle.rel_list.specs.Change.{has_other_temporary, may_be_given}
 use Rattle.rel_list.specs.Releases.{Bundle, Releases, Entry, entry, first_different, status_of, of_status, HasDistinctVersions, has_current, has_one_shot}
 use Rattle.rel_list.specs.Event.{Event, is_barred, may_be_installed, may_be_made_permanent, may_be_removed, may_be_rebooted, restarted_status, permanent_status, recorded_status, status_behind, assigned_status, with_statuses, list_installed, list_restarted, list_made_permanent, list_assigned, without, booted, recorded, step}
 use Rattle.rel_list.specs.Event.Event.{made, unpacked, installed, restart_installed, made_permanent, removed, reboot_old, boot}
+use Rattle.rel_list.specs.Keyed.{IsOrderly}
 use Rattle.rel_list.proofs.EventLaws.{one_permanent-step, permanent-recorded}
 use Rattle.rel_list.proofs.BootLaws.{first_is_none, no_one_shot-booted}
 use Rattle.rel_list.proofs.OneShotLaws.{none-installed, none_recorded, one_shot-recorded}
@@ -24,12 +25,14 @@ use Rattle.rel_list.proofs.Orderly.{status_or, same_version, is_itself, differs_
 use Rattle.rel_records.specs.Limits.{has_one_permanent, is_small, most_releases}
 use Rattle.rel_records.specs.Record.{Assignment, Record, makes, adds, assigns, removes, images}
 use Rattle.rel_records.specs.Lists.{may_be_assigned, assign_all, completed, if_faultless, brought_by, taken_by, with_one_permanent, assigned, HaveLibraries}
-use Rattle.rel_records.specs.Writing.{is_same, is_changed, assignment_of, changes, new_libraries, record_of, IsComplete, IsWithinLimits, IsOfListed, Reports}
+use Rattle.rel_records.specs.Statuses.{is_same}
+use Rattle.rel_records.specs.Writing.{is_changed, assignment_of, changes, new_libraries, record_of, IsComplete, IsWithinLimits, IsOfListed, Reports}
 use Rattle.rel_records.specs.Laws.{IsOfEvent, IsOfOneRelease, RecordsAreOfEvents, RecordsDetermineEvents}
 use Rattle.rel_records.specs.Reading.{Says}
 use Rattle.library.proofs.TermCases.{are_libraries}
 use Rattle.rel_list.proofs.RestLaws.{not_temporary}
 use Rattle.rel_records.proofs.CompletionLemmas.{all_new, are_completed, brought_complete, completed_first, completed_new, first_different-recorded}
+use Rattle.rel_records.proofs.OneEvent.{FollowBy, behind_boot, behind_installation, behind_promotion, behind_reboot, behind_restart, set_where}
 use Rattle.rel_records.proofs.RecordPlaces.{assigned_so, event_of_record, kept, recorded-push, recorded-without, pushed_last}
 
 pub one-recorded : (es : Releases) → has_one_permanent (recorded es) ≡ has_one_permanent es
@@ -65,7 +68,7 @@ status_of-recorded v (e ∷ es) = go (bytes_eq v e.release.vsn) (status_of-recor
     go false rest = rest
 
 -- the same statuses
-same_so : (s t : Status) → is_same s t ≡ true → s ≡ t
+pub same_so : (s t : Status) → is_same s t ≡ true → s ≡ t
 same_so Unpacked Unpacked e = refl
 same_so Current Current e = refl
 same_so Old Old e = refl
@@ -222,8 +225,9 @@ module _ (e : Event) where
           unchanged true e = refl
           unchanged false e = absurd cc
 
-  assigned_behind : (es : Releases) → HasDistinctVersions es → AreApart es → has_one_permanent (behind es) ≡ true → assigned (assigns (changes e es)) (recorded es) ≡ Some (recorded (behind es))
-  assigned_behind es distinct apart one = ap with_one_permanent (changes_so es distinct apart) ∙ kept (recorded (behind es)) (one-recorded (behind es) ∙ one)
+  assigned_behind : (es : Releases) → HasDistinctVersions es → AreApart es → FollowBy e es → has_one_permanent (behind es) ≡ true → assigned (assigns (changes e es)) (recorded es) ≡ Some (recorded (behind es))
+  assigned_behind es distinct apart does one =
+      ap with_one_permanent (set_where (changes e es) (recorded es) (recorded (behind es)) (changes_so es distinct apart) does) ∙ kept (recorded (behind es)) (one-recorded (behind es) ∙ one)
 
   -- Where no release that changes becomes a one-shot, they are apart.
   module _ (never : (x : Entry) → is_changed e x ≡ true → is_one_shot (after x) ≡ false) where
@@ -367,46 +371,49 @@ leaves v es next is =
     still (Some OneShot) e = e
 
 -- what changes the statuses of listed releases, or takes one out
-change_reports : (e : Event) (es next : Releases) → IsOfListed e → HasDistinctVersions es → step e es ≡ Some next → has_one_permanent next ≡ true → assigned (record_of e es) (recorded es) ≡ Some (recorded next)
-change_reports (made p) es next listed distinct is one = absurd listed
-change_reports (unpacked p) es next listed distinct is one = absurd listed
-change_reports (removed v) es next listed distinct is one = ap with_one_permanent (leaves v es next is) ∙ kept (recorded next) (one-recorded next ∙ one)
-change_reports boot es next listed distinct is one =
+change_reports : (e : Event) (es next : Releases) → IsOfListed e → IsOrderly es → step e es ≡ Some next → has_one_permanent next ≡ true → assigned (record_of e es) (recorded es) ≡ Some (recorded next)
+change_reports (made p) es next listed orderly is one = absurd listed
+change_reports (unpacked p) es next listed orderly is one = absurd listed
+change_reports (removed v) es next listed orderly is one = ap with_one_permanent (leaves v es next is) ∙ kept (recorded next) (one-recorded next ∙ one)
+change_reports boot es next listed orderly is one =
     let same : booted es ≡ next = cc is in
     subst (λ l. assigned (assigns (changes boot es)) (recorded es) ≡ Some (recorded l)) same
-    (assigned_behind boot es distinct (none_becomes_one boot (λ x changed. no_one_shot-booted x.status) es) (ap has_one_permanent same ∙ one))
-change_reports (installed v) es next listed distinct is one =
-    let (may, there) = passed (may_be_installed (has_current es) (status_of v es)) (Some (list_installed v es)) next (own_of_step (installed v) es next is).1 in
+    (assigned_behind boot es orderly.distinct (none_becomes_one boot (λ x changed. no_one_shot-booted x.status) es) (behind_boot es) (ap has_one_permanent same ∙ one))
+change_reports (installed v) es next listed orderly is one =
+    let own = own_of_step (installed v) es next is in
+    let (may, there) = passed (may_be_installed (has_current es) (status_of v es)) (Some (list_installed v es)) next own.1 in
     let same : list_installed v es ≡ next = cc there in
     subst (λ l. assigned (assigns (changes (installed v) es)) (recorded es) ≡ Some (recorded l)) same
-    (assigned_behind (installed v) es distinct (none_becomes_one (installed v) (λ x changed. none-installed (bytes_eq v x.release.vsn) x.status) es) (ap has_one_permanent same ∙ one))
-change_reports (restart_installed v) es next listed distinct is one =
+    (assigned_behind (installed v) es orderly.distinct (none_becomes_one (installed v) (λ x changed. none-installed (bytes_eq v x.release.vsn) x.status) es) (behind_installation v es orderly own.0) (ap has_one_permanent same ∙ one))
+change_reports (restart_installed v) es next listed orderly is one =
     let own = own_of_step (restart_installed v) es next is in
     let (may, there) = passed (may_be_installed (has_current es) (status_of v es)) (Some (list_restarted v es)) next own.1 in
     let same : list_restarted v es ≡ next = cc there in
     subst (λ l. assigned (assigns (changes (restart_installed v) es)) (recorded es) ≡ Some (recorded l)) same
-    (assigned_behind (restart_installed v) es distinct (restarts_apart v es distinct own.0) (ap has_one_permanent same ∙ one))
-change_reports (made_permanent v) es next listed distinct is one =
-    let (may, there) = passed (may_be_made_permanent (status_of v es)) (Some (list_made_permanent v es)) next (own_of_step (made_permanent v) es next is).1 in
+    (assigned_behind (restart_installed v) es orderly.distinct (restarts_apart v es orderly.distinct own.0) (behind_restart v es orderly own.0) (ap has_one_permanent same ∙ one))
+change_reports (made_permanent v) es next listed orderly is one =
+    let own = own_of_step (made_permanent v) es next is in
+    let (may, there) = passed (may_be_made_permanent (status_of v es)) (Some (list_made_permanent v es)) next own.1 in
     let same : list_made_permanent v es ≡ next = cc there in
     subst (λ l. assigned (assigns (changes (made_permanent v) es)) (recorded es) ≡ Some (recorded l)) same
-    (assigned_behind (made_permanent v) es distinct (none_becomes_one (made_permanent v) (λ x changed. never-permanent (bytes_eq v x.release.vsn) x.status changed) es) (ap has_one_permanent same ∙ one))
-change_reports (reboot_old v) es next listed distinct is one =
-    let (may, there) = passed (may_be_rebooted (status_of v es)) (Some (list_made_permanent v es)) next (own_of_step (reboot_old v) es next is).1 in
+    (assigned_behind (made_permanent v) es orderly.distinct (none_becomes_one (made_permanent v) (λ x changed. never-permanent (bytes_eq v x.release.vsn) x.status changed) es) (behind_promotion v es orderly.distinct own.0 may) (ap has_one_permanent same ∙ one))
+change_reports (reboot_old v) es next listed orderly is one =
+    let own = own_of_step (reboot_old v) es next is in
+    let (may, there) = passed (may_be_rebooted (status_of v es)) (Some (list_made_permanent v es)) next own.1 in
     let same : list_made_permanent v es ≡ next = cc there in
     subst (λ l. assigned (assigns (changes (reboot_old v) es)) (recorded es) ≡ Some (recorded l)) same
-    (assigned_behind (reboot_old v) es distinct (none_becomes_one (reboot_old v) (λ x changed. never-permanent (bytes_eq v x.release.vsn) x.status changed) es) (ap has_one_permanent same ∙ one))
+    (assigned_behind (reboot_old v) es orderly.distinct (none_becomes_one (reboot_old v) (λ x changed. never-permanent (bytes_eq v x.release.vsn) x.status changed) es) (behind_reboot v es orderly.distinct own.0 may) (ap has_one_permanent same ∙ one))
 
 pub reports : RecordsDetermineEvents
-reports (made p) [] next distinct have is fits one = comes_first p next fits is
-reports (made p) (x ∷ es) next distinct have is fits one = absurd (never_made_again p x es next is)
-reports (unpacked p) es next distinct have is fits one = ap with_one_permanent (comes_in p es next have fits is) ∙ kept (recorded next) (one-recorded next ∙ one)
-reports (installed v) es next distinct have is fits one = change_reports (installed v) es next tt distinct is one
-reports (restart_installed v) es next distinct have is fits one = change_reports (restart_installed v) es next tt distinct is one
-reports (made_permanent v) es next distinct have is fits one = change_reports (made_permanent v) es next tt distinct is one
-reports (removed v) es next distinct have is fits one = change_reports (removed v) es next tt distinct is one
-reports (reboot_old v) es next distinct have is fits one = change_reports (reboot_old v) es next tt distinct is one
-reports boot es next distinct have is fits one = change_reports boot es next tt distinct is one
+reports (made p) [] next orderly have is fits one = comes_first p next fits is
+reports (made p) (x ∷ es) next orderly have is fits one = absurd (never_made_again p x es next is)
+reports (unpacked p) es next orderly have is fits one = ap with_one_permanent (comes_in p es next have fits is) ∙ kept (recorded next) (one-recorded next ∙ one)
+reports (installed v) es next orderly have is fits one = change_reports (installed v) es next tt orderly is one
+reports (restart_installed v) es next orderly have is fits one = change_reports (restart_installed v) es next tt orderly is one
+reports (made_permanent v) es next orderly have is fits one = change_reports (made_permanent v) es next tt orderly is one
+reports (removed v) es next orderly have is fits one = change_reports (removed v) es next tt orderly is one
+reports (reboot_old v) es next orderly have is fits one = change_reports (reboot_old v) es next tt orderly is one
+reports boot es next orderly have is fits one = change_reports boot es next tt orderly is one
 
 -- a list keeps its one permanent release
 one_behind_step : (e : Event) (es next : Releases) → HasDistinctVersions es → step e es ≡ Some next → has_one_permanent es ≡ true → has_one_permanent next ≡ true
@@ -415,8 +422,8 @@ one_behind_step e es next distinct is one = ap (λ n. n == 1) (one_permanent-ste
     is_one : (n : ℕ) → (n == 1) ≡ true → n ≡ 1
     is_one n e = grind (arith, nat_tests)
 
-pub reported_by_record : (e : Event) (es : Releases) → HasDistinctVersions es → IsOfListed e → Reports e es
-reported_by_record e es distinct listed next is one = change_reports e es next listed distinct is (one_behind_step e es next distinct is one)
+pub reported_by_record : (e : Event) (es : Releases) → IsOrderly es → IsOfListed e → Reports e es
+reported_by_record e es orderly listed next is one = change_reports e es next listed orderly is (one_behind_step e es next orderly.distinct is one)
 
 -- a further release that isn't permanent leaves one permanent
 pub one-push : (es : Releases) (x : Entry) → is_permanent x.status ≡ false → of_status is_permanent (es ++ x ∷ []) ≡ of_status is_permanent es

@@ -19,7 +19,8 @@ use Rattle.rel_records.specs.Image.{image_record}
 use Rattle.rel_records.specs.Laws.{ImagesWriteTheirOneShots, MakeItInFormat2, OnlyRestartsWriteOneShots}
 use Rattle.rel_records.specs.Lists.{assigned, assigned_in, MakesFrom}
 use Rattle.rel_records.specs.Record.{Assignment, Record}
-use Rattle.rel_records.specs.Writing.{assignment_of, changes, is_changed, is_same}
+use Rattle.rel_records.specs.Statuses.{is_same}
+use Rattle.rel_records.specs.Writing.{assignment_of, changes, is_changed}
 
 -- whether one of those has a property that are made of others
 pub any-map : {A B : Type 0} (p : B → Bool) (f : A → B) (xs : List A) → list_any p (map f xs) ≡ list_any (λ (x : A). p (f x)) xs

@@ -10,6 +10,7 @@ use Rattle.rel_list.specs.Event.{step}
 use Rattle.rel_list.specs.Event.Event.{removed}
 use Rattle.rel_records.specs.Lists.{all_come_in, added_by, assign_all, comes_in, count_new, made_by, own_status, taken_by}
 use Rattle.rel_records.specs.Record.{Assignment, Imaged, Record, makes, adds, assigns, removes, images}
+use Rattle.rel_records.proofs.OneEvent.{set_so}
 
 -- what holds of each holds of each of the first ones, and of each behind them
 all-take : {A : Type 0} (P : A → Type 0) (n : ℕ) (xs : List A) → AllByRecursion P xs → AllByRecursion P (take n xs)
@@ -52,7 +53,7 @@ module _ (Q : Release → Option RelupForm → Type 0) (R : Library → Type 0) 
     pub kept_behind : (r : Record) (es next : Releases) → IsOf r → taken_by r es ≡ Some next → P es → P next
     kept_behind (makes r ls o) es next of e holds = first r ls o es next of.0 of.1 e holds
     kept_behind (adds r ls o) es next of e holds = further r ls o es next of.0 of.1 e holds
-    kept_behind (assigns given) es next of e holds = statuses given es next e holds
+    kept_behind (assigns given) es next of e holds = statuses given es next (set_so given es next e).0 holds
     kept_behind (removes v) es next of e holds = left v es next e holds
     kept_behind (images xs ls) [] next of e holds =
         let (mid, came, set) = chained (assign_all (map own_status xs)) (all_come_in xs ls []) next e in

@@ -1,14 +1,15 @@
 -- Laws of records and lists, whatever reads and writes them.
 use Rattle.std.specs.Prelude.{◌≡◌, ◌⊎◌, ℕ, true, false, List, Some}
-use Rattle.rel_list.specs.Releases.{Releases, has_one_shot, HasDistinctVersions}
+use Rattle.rel_list.specs.Keyed.{IsOrderly}
+use Rattle.rel_list.specs.Releases.{Releases, has_one_shot}
 use Rattle.rel_list.specs.Event.{Event, step, recorded}
-use Rattle.rel_list.specs.Laws.{makes_one_shot}
+use Rattle.rel_list.specs.Laws.{IsRecorded, makes_one_shot}
 use Rattle.rel_records.specs.Format.{writes_one_shot}
 use Rattle.rel_records.specs.Image.{image_record}
 use Rattle.rel_records.specs.Limits.{has_one_permanent}
 use Rattle.rel_records.specs.Lists.{assigned, Makes, IsBadRecord, HaveVersions, HaveLibraries}
 use Rattle.rel_records.specs.Reading.{Spells}
-use Rattle.rel_records.specs.Record.{Record, assigns, images}
+use Rattle.rel_records.specs.Record.{Assignment, Record, assigns, images}
 use Rattle.rel_records.specs.Startable.{AreStartable}
 use Rattle.rel_records.specs.Writing.{record_of, IsWithinLimits}
 
@@ -36,7 +37,7 @@ MakeItInFormat2 = (format : ℕ) (bodies : List (List ℕ)) (es : Releases) → 
 -- The record of an event makes of the list, as records report it, what the event makes of it, as records report that.
 abbrev pub RecordsDetermineEvents : Type 0
 RecordsDetermineEvents =
-    (e : Event) (es next : Releases) → HasDistinctVersions es → HaveLibraries es → step e es ≡ Some next → IsWithinLimits e es
+    (e : Event) (es next : Releases) → IsOrderly es → HaveLibraries es → step e es ≡ Some next → IsWithinLimits e es
     → has_one_permanent next ≡ true → assigned (record_of e es) (recorded es) ≡ Some (recorded next)
 
 -- Only a restart writes the status `one_shot`: a store of format 1 may have the record of each other event.
@@ -65,6 +66,21 @@ pub record IsOfEvent (es next : Releases) (r : Record) : Type 0 where
 abbrev pub RecordsAreOfEvents : Type 0
 RecordsAreOfEvents =
     (body : List ℕ) (r : Record) (es next : Releases) → HaveLibraries es → Spells body r → IsOfOneRelease r → assigned r es ≡ Some next → IsOfEvent es next r
+
+-- Records report some node as the one list, and what one event makes of it as the other.
+pub record IsOfNode (es next : Releases) : Type 0 where
+  pub node : Releases
+  pub behind : Releases
+  pub event : Event
+  pub orderly : IsOrderly node
+  pub reported : recorded node ≡ es
+  pub leads : step event node ≡ Some behind
+  pub makes : recorded behind ≡ next
+
+-- A record of statuses may stand behind a list only where it leaves the list as it is, or does what one event does to a node.
+abbrev pub StatusesAreOfEvents : Type 0
+StatusesAreOfEvents =
+    (given : List Assignment) (es next : Releases) → IsRecorded es → assigned (assigns given) es ≡ Some next → (next ≡ es) ⊎ IsOfNode es next
 
 -- The releases of the list that bodies make have the versions of files.
 abbrev pub MakeVersions : Type 0

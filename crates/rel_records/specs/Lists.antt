@@ -17,6 +17,7 @@ use Rattle.rel_records.specs.Format.{allows}
 use Rattle.rel_records.specs.Limits.{most_releases, is_small, has_one_permanent}
 use Rattle.rel_records.specs.Record.{Assignment, Imaged, Record, makes, adds, assigns, removes, images}
 use Rattle.rel_records.specs.Reading.{Spells}
+use Rattle.rel_records.specs.Statuses.{where_they_follow}
 
 -- An assignment may be made to a release that is there. None makes a release current, or a second one a one-shot.
 abbrev pub may_be_assigned : Assignment → Releases → Bool
@@ -26,6 +27,10 @@ may_be_assigned a es = may_be_given a.status a.vsn es
 abbrev pub assign_all : List Assignment → Releases → Option Releases
 assign_all [] es = Some es
 assign_all (a ∷ given) es = if may_be_assigned a es then assign_all given (list_assigned a.vsn a.status es) else None
+
+-- what a record of statuses makes of a list, where they follow by one event
+abbrev pub set_by : List Assignment → Releases → Option Releases
+set_by given es = option_and_then (where_they_follow es) (assign_all given es)
 
 -- The library of an application, and those that are left of the new ones: the list's own, or else the first of these, if it is
 -- that of the application.
@@ -102,7 +107,7 @@ restored_on (e ∷ es) xs ls = None
 abbrev pub taken_by : Record → Releases → Option Releases
 taken_by (makes r ls o) es = made_by r ls o es
 taken_by (adds r ls o) es = added_by r ls o es
-taken_by (assigns given) es = assign_all given es
+taken_by (assigns given) es = set_by given es
 taken_by (removes v) es = step (removed v) es
 taken_by (images xs ls) es = restored_on es xs ls
 

@@ -1,25 +1,16 @@
 -- Which record the command of an event writes.
-use Rattle.std.specs.Prelude.{◌≡◌, ◌<◌, Bool, true, false, not, List, map, filter, is_some, length, None, Some}
+use Rattle.std.specs.Prelude.{◌≡◌, ◌<◌, Bool, true, not, List, map, filter, is_some, length, None, Some}
 use Rattle.std.specs.List.{AllByRecursion}
 use Rattle.erl_term.specs.Within.{IsWithin}
 use Rattle.library.specs.Library.{Library, AreLibrariesOf, IsLibrary, library_term}
 use Rattle.rel_check.specs.Fault.{release_fault}
-use Rattle.rel_list.specs.declared.status.Status.{Status}
-use Rattle.rel_list.specs.declared.status.Status.TheVariants.{Unpacked, Current, Old, Permanent, OneShot}
 use Rattle.rel_list.specs.Releases.{Bundle, Releases, Entry, library_in}
 use Rattle.rel_list.specs.Event.{Event, status_behind, recorded_status, recorded, step}
 use Rattle.rel_list.specs.Event.Event.{made, unpacked, removed}
 use Rattle.rel_records.specs.Limits.{most_releases, is_small, has_one_permanent}
 use Rattle.rel_records.specs.Lists.{assigned, mismatch_in}
 use Rattle.rel_records.specs.Record.{Assignment, Record, makes, adds, assigns, removes}
-
-abbrev pub is_same : Status → Status → Bool
-is_same Unpacked Unpacked = true
-is_same Current Current = true
-is_same Old Old = true
-is_same Permanent Permanent = true
-is_same OneShot OneShot = true
-is_same s t = false
+use Rattle.rel_records.specs.Statuses.{is_same}
 
 -- the event changes the status of this release
 abbrev pub is_changed : Event → Entry → Bool

@@ -1,5 +1,5 @@
 //! Laws of records and lists, whatever reads and writes them. Each function does nothing: its contract is the law.
-ghost use Rattle.rel_records.specs.Laws.{SpellsOneRecord, MakeOrHaveABadOne, MakeOneList, NeverBothRecords, MakeItInFormat2, RecordsDetermineEvents, OnlyRestartsWriteOneShots, ImagesWriteTheirOneShots, RecordsAreOfEvents, MakeVersions, MakeLibraries, MakeStartableReleases};
+ghost use Rattle.rel_records.specs.Laws.{SpellsOneRecord, MakeOrHaveABadOne, MakeOneList, NeverBothRecords, MakeItInFormat2, RecordsDetermineEvents, OnlyRestartsWriteOneShots, ImagesWriteTheirOneShots, RecordsAreOfEvents, StatusesAreOfEvents, MakeVersions, MakeLibraries, MakeStartableReleases};
 
 /// A body spells one record at most.
 pub fn a_body_spells_one_record()
@@ -25,15 +25,18 @@ pub fn records_write_one_shots()
 {}
 
 /// The record of an event makes of a list what the event makes of it, each as records report it: of a list whose versions are
-/// distinct and whose libraries are of files, where the event keeps the limits of a node and one release is permanent behind it.
+/// distinct, of which one release at most is current or a one-shot, and whose libraries are of files, where the event keeps the
+/// limits of a node and one release is permanent behind it.
 pub fn records_determine_events()
     ensures { RecordsDetermineEvents }
 {}
 
 /// A record of a release that comes in or leaves may stand behind a list, whose libraries are of files, only where it is that of an
-/// event.
+/// event. One of statuses may stand behind a list that records report so only where it changes nothing, or does what one event does
+/// to a node with such a list.
 pub fn records_are_of_events()
-    ensures { RecordsAreOfEvents }
+    ensures releases { RecordsAreOfEvents }
+    ensures statuses { StatusesAreOfEvents }
 {}
 
 /// The releases of a list that records make have the versions of files.

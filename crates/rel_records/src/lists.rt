@@ -6,12 +6,12 @@ ghost use Rattle.rel_records.specs.Parts.{record_read};
 ghost use Rattle.rel_records.specs.Reading.{Spells};
 ghost use Rattle.rel_records.specs.Record.{Record as RecordInSpecs};
 
-use crate::assignment::assign_all;
 use crate::fault::{RecordFault, RecordsError};
 use crate::format::allows;
 use crate::reading::{Record, record_in};
 use crate::releases::{make_new, unpack_new};
 use crate::restoration::restore_on;
+use crate::statuses::set_statuses;
 use rel_list::{Event, ReleaseList};
 use std::alloc::Global;
 
@@ -41,7 +41,7 @@ fn change(alloc: Global, list: &mut ReleaseList, said: Record) -> Result<(), Rec
     match said {
         Record::Made(new) => make_new(alloc, list, new),
         Record::Unpacked(new) => unpack_new(alloc, list, new),
-        Record::Statuses(assignments) => assign_all(list, assignments.as_slice()),
+        Record::Statuses(assignments) => set_statuses(alloc, list, assignments.as_slice()),
         Record::Removed(vsn) => Ok(list.accept(alloc, Event::Removed(vsn))?),
         Record::Image(image) => restore_on(alloc, list, image),
     }

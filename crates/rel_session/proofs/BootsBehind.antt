@@ -24,7 +24,6 @@ use Rattle.rel_session.specs.Node.Place.{raw, closed, running, dead}
 use Rattle.rel_session.specs.Run.{Holds, Happens, IsReached, events_of}
 use Rattle.rel_session.specs.Transition.{StopsWithin, without_node}
 use Rattle.rel_session.specs.Transition.Action.{boots_node}
-use Rattle.rel_session.specs.Transition.StopsWithin.{without_its_boot, without_its_restart, without_its_node}
 use Rattle.node_command.proofs.CommandLemmas.{commanded_step}
 use Rattle.rel_session.proofs.Contradiction.{never}
 use Rattle.rel_session.proofs.ExtentLemmas.{reach_at}
@@ -123,9 +122,7 @@ module _ {D : Type 0} (v : Device D) (laws : IsDevice v) (e : Event) (size : ℕ
 
       -- its boot was stopped within
       stopped_then : (b : Reply) → StopsWithin s boots_node b → Stops (running events extent ps) (behind e b)
-      stopped_then b (without_its_boot alone) = let never_so = alone.action in absurd cc
-      stopped_then b (without_its_restart alone) = let never_so = alone.action in absurd cc
-      stopped_then b (without_its_node whole boot lost) =
+      stopped_then b (whole, boot, lost) =
           subst (λ r. Stops (running events extent ps) (behind e r)) (sym lost) (lost_then (running events extent ps) (with_text line (behind e whole)) (right_then events extent ps at whole boot))
 
       left : Leads v s (λ b. Boots s b ⊎ StopsWithin s boots_node b) (memory.Made new) final ⊎ NothingDone v s (memory.Made new) final → LeadsThere

@@ -32,7 +32,7 @@ use Rattle.node_answer.specs.Refusals.NodeRefusal.{full, exists, device}
 use Rattle.rel_session.proofs.Contradiction.{never}
 use Rattle.rel_session.specs.Transition
 use Rattle.rel_session.specs.Transition.Action.{makes_node}
-use Rattle.rel_session.specs.Transition.StopsWithin.{without_its_node}
+use Rattle.rel_session.proofs.StoppedReplies.{without_its_node}
 use Rattle.rel_session.proofs.DeviceLemmas.{IsDevice}
 use Rattle.rel_session.proofs.ReleaseLemmas.{files_refuse, reported_alike, creation_refused}
 use Rattle.rel_session.proofs.Replies.{HasBooted, held, kept, quiet, moments_of_nothing, stays, booted_at, starts, answers_or_stops, reports_refusal, refuses_anywhere}
@@ -98,7 +98,7 @@ module _ {D : Type 0} (v : Device D) (laws : IsDevice v) (source : Source) (path
       pub creates : (line : Result (String Global) AllocError) (result : Result (String Global) HandlerError) (place : PlaceInMemory D) → MatchResult line (λ text. result ≡ Ok text) (λ _. result ≡ Err handler_error.NoMemory)
           → IsNodeStarted h line place → AnswersCommand v source (create path) result (memory.Idle disk) place
       creates line result place is reported = answers_or_stops v laws Creates Stops line result (memory.Idle disk) place is
-          (starts v laws Creates Stops (λ p b (does, comes, acts). (does, comes, without_its_node b acts refl)) h (memory.Idle disk) replies line place reported)
+          (starts v laws Creates Stops (λ p b (does, comes, acts). (does, comes, without_its_node p does b acts)) h (memory.Idle disk) replies line place reported)
 
     -- It isn't.
     module _ (new : D) (counted : v.failures disk ≤ v.failures new) where

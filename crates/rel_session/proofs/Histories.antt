@@ -3,37 +3,26 @@ use Rattle.std.proofs.Common.{◌≡◌, ◌⊎◌, inl, inr, ℕ, true, List, [
 use Rattle.std.specs.Prelude.{◌&&◌, ◌==◌, nat_lt}
 use Rattle.std.specs.Option.{option_and_then}
 use Rattle.std.proofs.lemmas.Bool.Decides.{nat_tests}
-use Rattle.rel_list.specs.declared.status.Status.{Status}
 use Rattle.rel_list.specs.Keyed.{IsOrderly}
 use Rattle.rel_list.specs.Laws.{bundles_of, IsRecorded}
-use Rattle.rel_list.specs.Releases.{Bundle, Releases, bundle_in, of_status}
+use Rattle.rel_list.specs.Releases.{Releases, of_status}
 use Rattle.rel_list.specs.Status.{is_permanent}
-use Rattle.rel_list.specs.Event.{Event, recorded, step, list_assigned, list_from, list_after}
+use Rattle.rel_list.specs.Event.{Event, recorded, step, list_from, list_after}
 use Rattle.rel_list.specs.Event.Event.{made, unpacked, removed}
 use Rattle.rel_list.proofs.EventLaws.{list_from-append, orderly-after}
 use Rattle.rel_list.proofs.RestLaws.{recorded_reached}
 use Rattle.rel_records.specs.Limits.{has_one_permanent, is_small, most_releases}
-use Rattle.rel_records.specs.Lists.{may_be_assigned, assign_all, assigned, own_status, MakesFrom}
-use Rattle.rel_records.specs.Record.{Assignment, Record, makes, adds, assigns, removes, images}
+use Rattle.rel_records.specs.Lists.{assign_all, assigned, own_status, set_by, MakesFrom}
+use Rattle.rel_records.specs.Record.{Record, makes, adds, assigns, removes, images}
 use Rattle.rel_records.proofs.FormatLemmas.{allowed_so}
 use Rattle.rel_records.proofs.ImageEvents.{restored_by}
+use Rattle.rel_records.proofs.OneEvent.{set_so}
 use Rattle.rel_records.proofs.OrderlyLemmas.{statuses_orderly}
 use Rattle.rel_records.proofs.RecordPlaces.{assigned_so, event_of_record, settled_behind}
+use Rattle.rel_records.proofs.StatusEvents.{bundles-assign_all}
 use Rattle.rel_store.specs.Layout.{format_of}
 use Rattle.node_store.specs.Events.{Events}
 use Rattle.node_store.specs.Image.{IsImageOf}
-use Rattle.rel_files.proofs.Options.{passed}
-
--- Assignments keep the releases.
-bundles-assigned : (v : List ℕ) (t : Status) (es : Releases) → bundles_of (list_assigned v t es) ≡ bundles_of es
-bundles-assigned v t [] = refl
-bundles-assigned v t (e ∷ es) = ap (λ (l : List Bundle). bundle_in e ∷ l) (bundles-assigned v t es)
-
-kept_by : (given : List Assignment) (es next : Releases) → assign_all given es ≡ Some next → bundles_of next ≡ bundles_of es
-kept_by [] es next is = let same : es ≡ next = cc is in ap bundles_of (sym same)
-kept_by (a ∷ given) es next is =
-    let (may, rest) = passed (may_be_assigned a es) (assign_all given (list_assigned a.vsn a.status es)) next is in
-    kept_by given (list_assigned a.vsn a.status es) next rest ∙ bundles-assigned a.vsn a.status es
 
 is_one : (n : ℕ) → (n == 1) ≡ true → n ≡ 1
 is_one n e = grind (arith, nat_tests)
@@ -71,19 +60,22 @@ behind_record (images xs ls) [] next orderly still one taken =
     let by = restored_by xs ls next taken in
     let before = orderly-after by.events by.before by.leads in
     let so = statuses_orderly (map own_status xs) by.before next by.set before in
-    let (more, reached) = recorded_reached by.before next (as_reported by.before before by.settled by.one) (as_reported next so (settled_behind (images xs ls) [] next is refl) permanent) (kept_by (map own_status xs) by.before next by.set) in
+    let (more, reached) = recorded_reached by.before next (as_reported by.before before by.settled by.one) (as_reported next so (settled_behind (images xs ls) [] next is refl) permanent) (bundles-assign_all (map own_status xs) by.before next by.set) in
     (by.events ++ more, list_from-append [] by.events more by.before next by.leads reached)
 behind_record (assigns given) es next orderly still one taken = by_one one
   where
+    taken_there : set_by given es ≡ Some next
+    taken_there = (assigned_so (assigns given) es next taken).0
+
     assigned_there : assign_all given es ≡ Some next
-    assigned_there = (assigned_so (assigns given) es next taken).0
+    assigned_there = (set_so given es next taken_there).0
 
     by_one : (es ≡ []) ⊎ (has_one_permanent es ≡ true) → Leads es next
-    by_one (inl none) = absurd (none_permanent next (kept_by given es next assigned_there ∙ ap bundles_of none) (assigned_so (assigns given) es next taken).1)
+    by_one (inl none) = absurd (none_permanent next (bundles-assign_all given es next assigned_there ∙ ap bundles_of none) (assigned_so (assigns given) es next taken).1)
     by_one (inr permanent) =
         recorded_reached es next (as_reported es orderly still permanent)
-        (as_reported next (statuses_orderly given es next assigned_there orderly) (settled_behind (assigns given) es next assigned_there still) (assigned_so (assigns given) es next taken).1)
-        (kept_by given es next assigned_there)
+        (as_reported next (statuses_orderly given es next assigned_there orderly) (settled_behind (assigns given) es next taken_there still) (assigned_so (assigns given) es next taken).1)
+        (bundles-assign_all given es next assigned_there)
 
 events_behind : (format : ℕ) (events : Events) (es : Releases) (bodies : List (List ℕ)) (end : Releases) → list_after events ≡ Some es → recorded es ≡ es → (es ≡ []) ⊎ (has_one_permanent es ≡ true)
     → MakesFrom format es bodies end → (all : Events) × (list_after all ≡ Some end)

@@ -30,9 +30,9 @@ use Rattle.node_upgrade.specs.Failure.{Failure, failure, failure_of}
 use Rattle.node_upgrade.specs.Failure.Why.{fails}
 use Rattle.node_upgrade.specs.Running.{start_in, RunRefused}
 use Rattle.node_upgrade.specs.Stale.{stale_modules}
-use Rattle.node_upgrade.specs.Upgrade.{IsNoUpgrade, IsUpgrade, UpgradeForm, script_failure, site_for}
+use Rattle.node_upgrade.specs.Upgrade.{IsNoUpgrade, IsUpgrade, UpgradeForm, site_for}
 use Rattle.node_store.specs.Commits.{Commits, IsDone}
-use Rattle.node_store.specs.Events.{Events, certain, uncertain, settled, IsStoredAs}
+use Rattle.node_store.specs.Events.{Events, Stored, certain, uncertain, settled, IsStoredAs}
 use Rattle.node_store.specs.Image.{Extent, extent_behind, HasSpace}
 use Rattle.node_store.specs.Compaction.{MayReach}
 use Rattle.rel_handler.specs.Installing.{InstallRefused, IsInstalledBy, IsLost, MayBegin, NothingChanged, install_event, install_room, install_size, installation_event, needs_restart}
@@ -44,22 +44,22 @@ use Rattle.rel_session.specs.Booting.{Boots, BootsStore, store_behind}
 use Rattle.rel_session.specs.InMemory.{state_in, HasInstalled, IsAt, Replied, Answers, AnswersAction, NothingDone, ReportsInstallation, ReportsOrStops}
 use Rattle.node_answer.specs.Lines.{installed_line, installed_text}
 use Rattle.rel_session.specs.Installation.{RunsUnless, Installs, IsInstallationReply, RepliesTo, installed_reply, restarted_reply, upgrade_outcome}
-use Rattle.rel_session.specs.Node.{Place, Reply, reply, done, refused, failed, behind, releases_after, list_or_none, with_text}
+use Rattle.rel_session.specs.Node.{Place, Reply, reply, nothing, done, refused, failed, behind, releases_after, list_or_none, with_text}
 use Rattle.rel_session.specs.Node.Place.{raw, closed, running, dead}
 use Rattle.rel_session.specs.declared.place.Place.{Place as PlaceInMemory}
 use Rattle.node_answer.specs.Refusals.{NodeRefusal, refusal_of, refusal_line}
 use Rattle.node_answer.specs.Refusals.NodeRefusal.{device, full, script_refused, must_reboot}
 use Rattle.rel_session.specs.Run.{Holds, IsReached}
 use Rattle.rel_session.specs.Transition
-use Rattle.rel_session.specs.Transition.{StopsWithin}
+use Rattle.rel_session.specs.Transition.{ActsWith, BootsOrNot, StopsWithin}
 use Rattle.rel_session.specs.Transition.Action.{installs, boots_node}
-use Rattle.rel_session.specs.Transition.StopsWithin.{without_its_restart, without_its_node}
 use Rattle.rel_session.proofs.BootsBehind.{ReportsBehind, boots_behind, ends_before_boot, reaches_there}
 use Rattle.rel_session.proofs.Contradiction.{never}
 use Rattle.rel_session.proofs.ExtentLemmas.{reach_at}
 use Rattle.rel_session.proofs.DeviceLemmas.{IsDevice, weakened, still}
 use Rattle.rel_session.proofs.ListLemmas.{list_after-push}
 use Rattle.rel_session.proofs.Prefixes.{reached_with}
+use Rattle.rel_session.proofs.StoppedReplies.{without_its_node}
 use Rattle.rel_session.proofs.Replies.{held, moments_of_nothing, stays, leaves_all, never_stops, same_at, runs_at}
 
 module _ {D : Type 0} (v : Device D) (laws : IsDevice v) (vsn : List ℕ) (n new : BootedNode D) (alive : is_dead n.handler ≡ false) (sound : AreSound n.processes)
@@ -86,10 +86,11 @@ module _ {D : Type 0} (v : Device D) (laws : IsDevice v) (vsn : List ℕ) (n new
   Stops p a = StopsWithin p (installs vsn) a
 
   -- what is replied by the list, of these events
-  right_for : (events : Events) (extent : Extent) (a : Reply) → list_after events ≡ Some es → Installs events extent ps vsn es (installation vsn es) a → Does (running events extent ps) a
-  right_for events extent a after is =
+  right_for : (Boot : Stored → Reply → Type 0) (events : Events) (extent : Extent) (a : Reply) → list_after events ≡ Some es → Installs Boot events extent ps vsn es (installation vsn es) a
+      → ActsWith Boot (running events extent ps) (installs vsn) a
+  right_for Boot events extent a after is =
       let of_list : releases_after events ≡ es = ap list_or_none after in
-      subst (λ l. Installs events extent ps vsn l (installation vsn l) a) (sym of_list) is
+      subst (λ l. Installs Boot events extent ps vsn l (installation vsn l) a) (sym of_list) is
 
   -- at each place where the node may be
   where_it_runs : (P : Place → Type 0) → ((events : Events) (extent : Extent) → IsAt v (memory.Made n) (running events extent ps) → P (running events extent ps)) → (p : Place) → IsAt v (memory.Made n) p → P p
@@ -124,13 +125,14 @@ module _ {D : Type 0} (v : Device D) (laws : IsDevice v) (vsn : List ℕ) (n new
   comes_to : (u : UpgradeForm) → IsUpgrade vsn es u → (o : Outcome) → outcome (site_for u ps.modules) (run_on (site_for u ps.modules) ps) u.found.script ≡ o → upgrade_outcome vsn es u.found ps ≡ o
   comes_to u is o comes = subst (λ (w : UpgradeForm). outcome (site_for w ps.modules) (run_on (site_for w ps.modules) ps) u.found.script ≡ o) is.is comes
 
-  begins_so : (u : UpgradeForm) → IsUpgrade vsn es u → (events : Events) (extent : Extent) (a : Reply) → RunsUnless events extent ps vsn es u.found None a → Installs events extent ps vsn es (installation vsn es) a
-  begins_so u is events extent a begins =
-      subst (λ o. Installs events extent ps vsn es o a) (sym is.found) (subst (λ o. RunsUnless events extent ps vsn es u.found o a) (sym is.begins) begins)
+  begins_so : (Boot : Stored → Reply → Type 0) (u : UpgradeForm) → IsUpgrade vsn es u → (events : Events) (extent : Extent) (a : Reply) → RunsUnless Boot events extent ps vsn es u.found None a
+      → Installs Boot events extent ps vsn es (installation vsn es) a
+  begins_so Boot u is events extent a begins =
+      subst (λ o. Installs Boot events extent ps vsn es o a) (sym is.found) (subst (λ o. RunsUnless Boot events extent ps vsn es u.found o a) (sym is.begins) begins)
 
-  leads_so : (u : UpgradeForm) → IsUpgrade vsn es u → (events : Events) (extent : Extent) (a : Reply) (o : Outcome) → HasSpace extent room → upgrade_outcome vsn es u.found ps ≡ o → RepliesTo events extent ps vsn es u.found o a
-      → Installs events extent ps vsn es (installation vsn es) a
-  leads_so u is events extent a o fits comes leads = begins_so u is events extent a (inl (fits, subst (λ w. RepliesTo events extent ps vsn es u.found w a) (sym comes) leads))
+  leads_so : (Boot : Stored → Reply → Type 0) (u : UpgradeForm) → IsUpgrade vsn es u → (events : Events) (extent : Extent) (a : Reply) (o : Outcome) → HasSpace extent room → upgrade_outcome vsn es u.found ps ≡ o
+      → RepliesTo Boot events extent ps vsn es u.found o a → Installs Boot events extent ps vsn es (installation vsn es) a
+  leads_so Boot u is events extent a o fits comes leads = begins_so Boot u is events extent a (inl (fits, subst (λ w. RepliesTo Boot events extent ps vsn es u.found w a) (sym comes) leads))
 
   -- the release was installed
   abbrev line_of : Installed → List ℕ
@@ -159,10 +161,10 @@ module _ {D : Type 0} (v : Device D) (laws : IsDevice v) (vsn : List ℕ) (n new
         (λ j. installed_text (sym by_script.2.other j) (sym by_script.2.descr j) (stale j))
 
     -- what is replied behind the commit
-    done_so : (events : Events) (extent : Extent) (a : Reply) → IsAt v (memory.Made n) (running events extent ps) → MayReach (extent_behind extent size) (releases_after (events ++ e ∷ [])) (extent_in new.handler)
-        → IsInstallationReply (needs_restart vsn es) events (extent_in new.handler) vsn es u.found (behind_run r) a → Does (running events extent ps) a
-    done_so events extent a at reach is =
-        right_for events extent a at.2 (leads_so u by_script.1 events extent a (ends r) (subst (λ m. HasSpace m room) at.3 fits) carried_out.1 (inl (extent_in new.handler, reach, is)))
+    done_so : (Boot : Stored → Reply → Type 0) (events : Events) (extent : Extent) (a : Reply) → IsAt v (memory.Made n) (running events extent ps) → MayReach (extent_behind extent size) (releases_after (events ++ e ∷ [])) (extent_in new.handler)
+        → IsInstallationReply Boot (needs_restart vsn es) events (extent_in new.handler) vsn es u.found (behind_run r) a → ActsWith Boot (running events extent ps) (installs vsn) a
+    done_so Boot events extent a at reach is =
+        right_for Boot events extent a at.2 (leads_so Boot u by_script.1 events extent a (ends r) (subst (λ m. HasSpace m room) at.3 fits) carried_out.1 (inl (extent_in new.handler, reach, is)))
 
     -- The node works on.
     done_replies : is_dead new.handler ≡ false → needs_restart vsn es ≡ false → Replies (line_of i)
@@ -181,7 +183,7 @@ module _ {D : Type 0} (v : Device D) (laws : IsDevice v) (vsn : List ℕ) (n new
             (commits.sound.started works) (sym carried_out.2) in
             record {
               given = a;
-              right = (done_so events extent a at reach (subst (λ b. IsInstallationReply b events x vsn es u.found (behind_run r) a) (sym no_restart) refl), line_is);
+              right = (done_so BootsStore events extent a at reach (subst (λ b. IsInstallationReply BootsStore b events x vsn es u.found (behind_run r) a) (sym no_restart) refl), line_is);
               at = place;
               happens = record {
                 moments = subst (λ f. LeavesOnly v (disk_in n.handler) (disk_in new.handler) (IsReached (settled events) (f ∷ []))) e_is (moments_at events at.2);
@@ -203,51 +205,31 @@ module _ {D : Type 0} (v : Device D) (laws : IsDevice v) (vsn : List ℕ) (n new
       reaches : (events : Events) (extent : Extent) (qs : Processes) → IsAt v (memory.Made n) (running events extent qs) → MayReach (extent_behind extent size) (releases_after (events ++ e ∷ [])) (extent_in new.handler)
       reaches = reaches_there v laws e size n new alive commits is_done gone started
 
-      right_then : (events : Events) (extent : Extent) (qs : Processes) → IsAt v (memory.Made n) (running events extent qs) → (b : Reply) → BootsStore (store_behind events e (extent_in new.handler)) b
-          → Does (running events extent qs) (with_text (line_of i) (behind e b))
-      right_then events extent qs (here, living, after, stop, has) b boot =
+      -- so it replies with any boot behind it
+      acts_then : (Boot : Stored → Reply → Type 0) (events : Events) (extent : Extent) (qs : Processes) → IsAt v (memory.Made n) (running events extent qs) → (b : Reply) → Boot (store_behind events e (extent_in new.handler)) b
+          → ActsWith Boot (running events extent qs) (installs vsn) (with_text (line_of i) (behind e b))
+      acts_then Boot events extent qs (here, living, after, stop, has) b boot =
           let x = extent_in new.handler in
           let at : IsAt v (memory.Made n) (running events extent ps) = (here, living, after, stop, refl) in
           let reported : with_text (line_of i) (behind e b) ≡ restarted_reply vsn es u.found (behind_run r) b = (λ j. with_text (sym line_is j) (behind (restart_is j) b)) in
-          let is : IsInstallationReply true events x vsn es u.found (behind_run r) (with_text (line_of i) (behind e b)) = (b, subst (λ f. BootsStore (store_behind events f x) b) restart_is boot, reported) in
-          here_so qs (λ q. Does (running events extent q) (with_text (line_of i) (behind e b))) has
-          (done_so events extent _ at (reaches events extent ps at) (subst (λ c. IsInstallationReply c events x vsn es u.found (behind_run r) (with_text (line_of i) (behind e b))) (sym restart) is))
+          let is : IsInstallationReply Boot true events x vsn es u.found (behind_run r) (with_text (line_of i) (behind e b)) = (b, subst (λ f. Boot (store_behind events f x) b) restart_is boot, reported) in
+          here_so qs (λ q. ActsWith Boot (running events extent q) (installs vsn) (with_text (line_of i) (behind e b))) has
+          (done_so Boot events extent _ at (reaches events extent ps at) (subst (λ c. IsInstallationReply Boot c events x vsn es u.found (behind_run r) (with_text (line_of i) (behind e b))) (sym restart) is))
 
       -- Where there was no memory for the boot, or for the line before it, the installation alone is on the disk.
       alone_then : (events : Events) (extent : Extent) (qs : Processes) → IsAt v (memory.Made n) (running events extent qs) → Stops (running events extent qs) (reply [] (done (e ∷ [])) (closed (store_behind events e (extent_in new.handler))))
-      alone_then events extent qs (here, living, after, stop, has) =
-          let x = extent_in new.handler in
-          let at : IsAt v (memory.Made n) (running events extent ps) = (here, living, after, stop, refl) in
-          let of_list : releases_after events ≡ es = ap list_or_none after in
-          here_so qs (λ q. Stops (running events extent q) (reply [] (done (e ∷ [])) (closed (store_behind events e x)))) has
-          (without_its_restart (record {
-            events = events;
-            extent = extent;
-            processes = ps;
-            vsn = vsn;
-            here = refl;
-            action = refl;
-            found = u.found;
-            is_found = subst (λ l. installation vsn l ≡ Ok u.found) (sym of_list) by_script.1.found;
-            begins = subst (λ l. script_failure vsn l u.found ≡ None) (sym of_list) by_script.1.begins;
-            run = r;
-            ends_so = subst (λ l. upgrade_outcome vsn l u.found ps ≡ ends r) (sym of_list) carried_out.1;
-            restarts = subst (λ l. needs_restart vsn l ≡ true) (sym of_list) restart;
-            fits = subst (λ l. HasSpace extent (install_room vsn l)) (sym of_list) (subst (λ m. HasSpace m room) stop fits);
-            reaches = x;
-            behind = subst (λ l. MayReach (extent_behind extent (install_size vsn l)) (releases_after (events ++ restart_installed vsn ∷ [])) x) (sym of_list)
-                (subst (λ f. MayReach (extent_behind extent size) (releases_after (events ++ f ∷ [])) x) restart_is (reaches events extent ps at));
-            is = ap (λ f. reply [] (done (f ∷ [])) (closed (store_behind events f x))) restart_is;
-          }))
+      alone_then events extent qs at =
+          let b = reply [] nothing (closed (store_behind events e (extent_in new.handler))) in
+          (with_text (line_of i) (behind e b), acts_then BootsOrNot events extent qs at b (inr refl), refl)
 
       -- the boot was done, or refused, or memory was refused to it
       pub restarts_so : (final : PlaceInMemory D) (boot : Result (String Global) AllocError) (result : Result (String Global) HandlerError) → ReportsBehind (line_of i) boot result
           → ReportsOrStops v Boots (λ p a. StopsWithin p boots_node a) boot (memory.Made new) final → AnswersAction v (installs vsn) result (memory.Made n) final
-      restarts_so = boots_behind v laws e size n new alive commits is_done gone started (line_of i) Does Stops right_then alone_then (λ p b is. without_its_node b is refl)
+      restarts_so = boots_behind v laws e size n new alive commits is_done gone started (line_of i) Does Stops (acts_then BootsStore) alone_then (λ p b is. without_its_node p (installs vsn) b is)
 
       -- memory was refused to its own line
       pub restarts_unreported : AnswersAction v (installs vsn) (Err handler_error.NoMemory) (memory.Made n) (memory.Made new)
-      restarts_unreported = ends_before_boot v laws e size n new alive commits is_done gone started (line_of i) Does Stops right_then alone_then (λ p b is. without_its_node b is refl)
+      restarts_unreported = ends_before_boot v laws e size n new alive commits is_done gone started (line_of i) Does Stops (acts_then BootsStore) alone_then (λ p b is. without_its_node p (installs vsn) b is)
 
   -- the script was carried out, and the device failed behind it
   device_replies : (u : UpgradeForm) → MayBegin vsn n.handler u → IsFinished (site_for u ps.modules) (start_in (state_in n)) u.found.script (listed_in new.processes.loaded) new.processes.tree new.processes.seat.view
@@ -264,7 +246,7 @@ module _ {D : Type 0} (v : Device D) (laws : IsDevice v) (vsn : List ℕ) (n new
           let holds : Holds v (dead s) (disk_in new.handler) = λ c now. leaves.each c (laws.counts_now (disk_in new.handler) (v.moment (disk_in n.handler)) c leaves.later now) in
           record {
             given = a;
-            right = (right_for events extent a after (leads_so u is events extent a (ends r) (subst (λ m. HasSpace m room) stop fits) (comes_to u is (ends r) comes) (inr refl)), refl);
+            right = (right_for BootsStore events extent a after (leads_so BootsStore u is events extent a (ends r) (subst (λ m. HasSpace m room) stop fits) (comes_to u is (ends r) comes) (inr refl)), refl);
             at = (holds, gone);
             happens = record { moments = moments_at events after; holds = holds; cause = λ f. cause; counted = commits.counted };
           }
@@ -290,7 +272,7 @@ module _ {D : Type 0} (v : Device D) (laws : IsDevice v) (vsn : List ℕ) (n new
           record {
             given = a;
             right = (
-              right_for events extent a after (leads_so u is events extent a (breaks f.instr c) (subst (λ m. HasSpace m room) stop fits) (comes_to u is (breaks f.instr c) comes) refl),
+              right_for BootsStore events extent a after (leads_so BootsStore u is events extent a (breaks f.instr c) (subst (λ m. HasSpace m room) stop fits) (comes_to u is (breaks f.instr c) comes) refl),
               ap (λ g. refusal_line (must_reboot g)) (sym reported),
             );
             at = (holds, lost.dead);
@@ -318,33 +300,33 @@ module _ {D : Type 0} (v : Device D) (laws : IsDevice v) (vsn : List ℕ) (n new
         let values = untouched_values n.processes.seat.view new.processes.seat.view sound.alone untouched.view in
         (λ j. record { values = values j; apps = untouched.apps j; modules = untouched.modules j })
 
-    same_replies : (why : NodeRefusal) → ((events : Events) (extent : Extent) → extent_in n.handler ≡ extent → Installs events extent ps vsn es (installation vsn es) (refused why (running events extent ps))) → Replies (refusal_line why)
+    same_replies : (why : NodeRefusal) → ((events : Events) (extent : Extent) → extent_in n.handler ≡ extent → Installs BootsStore events extent ps vsn es (installation vsn es) (refused why (running events extent ps))) → Replies (refusal_line why)
     same_replies why right = where_it_runs (RepliesAt (refusal_line why)) there
       where
         there : (events : Events) (extent : Extent) → IsAt v (memory.Made n) (running events extent ps) → RepliesAt (refusal_line why) (running events extent ps)
         there events extent at =
             stays v laws (running events extent ps) (refusal_line why) _ (memory.Made n) (memory.Made new) at nothing_new.0.disk (same_at v laws n new (running events extent ps) nothing_new.0 kept_on at)
-            (right_for events extent _ at.2 (right events extent at.3), refl)
+            (right_for BootsStore events extent _ at.2 (right events extent at.3), refl)
 
     by_list : (why : HandlerError) → installation vsn es ≡ Err why → Answers v Does (Err why) (memory.Made n) (memory.Made new)
-    by_list why found p at = inl (same_replies (refusal_of why) (λ events extent stop. subst (λ o. Installs events extent ps vsn es o (refused (refusal_of why) (running events extent ps))) (sym found) refl) p at)
+    by_list why found p at = inl (same_replies (refusal_of why) (λ events extent stop. subst (λ o. Installs BootsStore events extent ps vsn es o (refused (refusal_of why) (running events extent ps))) (sym found) refl) p at)
 
     full_replies : (u : UpgradeForm) → IsUpgrade vsn es u → (HasSpace (extent_in n.handler) room → ⊥) → Replies (refusal_line full)
-    full_replies u is over = same_replies full (λ events extent stop. begins_so u is events extent _ (inr (subst (λ m. HasSpace m room → ⊥) stop over, refl)))
+    full_replies u is over = same_replies full (λ events extent stop. begins_so BootsStore u is events extent _ (inr (subst (λ m. HasSpace m room → ⊥) stop over, refl)))
 
     -- the script isn't run
     not_begun : (f : ScriptFailure) → IsNoUpgrade vsn es (install_error.Refused f) → Replies (refusal_line (script_refused (failure_of f)))
     not_begun f (found, is, why) =
         same_replies (script_refused (failure_of f)) (λ events extent stop.
-        subst (λ o. Installs events extent ps vsn es o (refused (script_refused (failure_of f)) (running events extent ps))) (sym is)
-        (subst (λ o. RunsUnless events extent ps vsn es found o (refused (script_refused (failure_of f)) (running events extent ps))) (sym why) refl))
+        subst (λ o. Installs BootsStore events extent ps vsn es o (refused (script_refused (failure_of f)) (running events extent ps))) (sym is)
+        (subst (λ o. RunsUnless BootsStore events extent ps vsn es found o (refused (script_refused (failure_of f)) (running events extent ps))) (sym why) refl))
 
     -- an instruction before the point fails
     turned_back : (f : ScriptFailure) (u : UpgradeForm) → MayBegin vsn n.handler u → RunRefused u (state_in n) (state_in new) (install_error.Refused f) → Replies (refusal_line (script_refused (failure_of f)))
     turned_back f u (is, fits) (c, known, reported, refused_so, untouched) =
         let comes = script_refuses (site_for u ps.modules) n.processes.seat.view n.processes.tree ps.modules u.found.script f.instr c new.processes.seat.view sound.alone known refused_so in
         same_replies (script_refused (failure_of f)) (λ events extent stop.
-        leads_so u is events extent _ (refuses f.instr c) (subst (λ m. HasSpace m room) stop fits) (comes_to u is (refuses f.instr c) comes)
+        leads_so BootsStore u is events extent _ (refuses f.instr c) (subst (λ m. HasSpace m room) stop fits) (comes_to u is (refuses f.instr c) comes)
         (ap (λ g. refused (script_refused g) (running events extent ps)) reported))
 
   -- what the handler refused

@@ -21,7 +21,7 @@ use Rattle.node_store.specs.State.{disk_in, list_in, is_dead, extent_in, HasStar
 use Rattle.node_processes.specs.Answers.{processes_line, modules_line, peek_line}
 use Rattle.node_processes.specs.Calls.{Calls}
 use Rattle.node_processes.specs.Calls.Calls.{once, often}
-use Rattle.node_processes.specs.Fresh.{fresh}
+use Rattle.node_processes.specs.Fresh.{fresh_processes}
 use Rattle.node_processes.specs.InMemory.{processes_in}
 use Rattle.node_processes.specs.Processes.{Processes}
 use Rattle.rel_session.specs.declared.booted_node.BootedNode.{BootedNode}
@@ -41,7 +41,7 @@ use Rattle.rel_session.proofs.Contradiction.{never}
 use Rattle.rel_session.specs.Run.{IsReached, Holds, Moments, Happens}
 use Rattle.rel_session.specs.Transition
 use Rattle.rel_session.specs.Transition.Action.{answers, changes_node, installs, reboots_node, boots_node, reports_start, calls}
-use Rattle.rel_session.specs.Transition.StopsWithin.{without_its_node}
+use Rattle.rel_session.proofs.StoppedReplies.{without_its_node}
 use Rattle.rel_session.proofs.DeviceLemmas.{IsDevice, weakened, still}
 use Rattle.rel_session.proofs.Histories.{events_of_image}
 use Rattle.rel_session.proofs.ListLemmas.{list_after-push}
@@ -177,18 +177,18 @@ module _ {D : Type 0} (v : Device D) (laws : IsDevice v) where
   pub record HasBooted (p : Place) (P : Reply → Type 0) (old : PlaceInMemory D) (h : NodeStore D) : Type 0 where
     pub given : Reply
     pub right : P given
-    pub at : (n : BootedNode D) → n.handler ≡ h → processes_in n.processes ≡ fresh (list_in h) → IsAt v (memory.Made n) given.after
+    pub at : (n : BootedNode D) → n.handler ≡ h → processes_in n.processes ≡ fresh_processes (list_in h) → IsAt v (memory.Made n) given.after
     pub happens : Happens v p given (disk_at old) (disk_in h)
 
   pub booted_at : (h : NodeStore D) (events : Events) (extent : Extent) → is_dead h ≡ false → list_after events ≡ Some (list_in h) → extent_in h ≡ extent
       → ((c : List ℕ) → v.may_leave (disk_in h) c → IsImageAt c (list_in h) (extent_in h)) → HasStarted v.may_leave h
-      → Holds v (just_booted events extent) (disk_in h) × ((n : BootedNode D) → n.handler ≡ h → processes_in n.processes ≡ fresh (list_in h) → IsAt v (memory.Made n) (just_booted events extent))
+      → Holds v (just_booted events extent) (disk_in h) × ((n : BootedNode D) → n.handler ≡ h → processes_in n.processes ≡ fresh_processes (list_in h) → IsAt v (memory.Made n) (just_booted events extent))
   booted_at h events extent alive after ends images started =
       let runs = runs_with h events extent alive after ends images started in (
         runs.0,
         λ n is has.
             let (here, living, behind, stop) = subst (λ k. RunsWith k events extent) (sym is) runs in
-            (here, living, behind, stop, has ∙ ap (λ o. fresh (list_or_none o)) (sym after)),
+            (here, living, behind, stop, has ∙ ap (λ o. fresh_processes (list_or_none o)) (sym after)),
       )
 
   -- what holds of a disk holds once no node runs on it
@@ -279,7 +279,7 @@ module _ {D : Type 0} (v : Device D) (laws : IsDevice v) where
     boots_at (dead s) here = boots_store (dead s) s here (λ m. m)
 
     pub boots : (line : Result (String Global) AllocError) (place : PlaceInMemory D) → IsNodeStarted h line place → ReportsOrStops v Transition.Boots (λ p a. Transition.StopsWithin p boots_node a) line old place
-    boots = starts Transition.Boots (λ p a. Transition.StopsWithin p boots_node a) (λ p b is. without_its_node b is refl) h old (λ p at. boots_at p (subst (λ d. Holds v p d) (sym taken) (held old p at)))
+    boots = starts Transition.Boots (λ p a. Transition.StopsWithin p boots_node a) (λ p b is. without_its_node p boots_node b is) h old (λ p at. boots_at p (subst (λ d. Holds v p d) (sym taken) (held old p at)))
 
   -- the disk was read alone
   abbrev IsQuiet : D → D → Type 0

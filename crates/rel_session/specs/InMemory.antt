@@ -12,7 +12,7 @@ use Rattle.rel_handler.specs.Installing.{install_event, install_room, install_si
 use Rattle.node_store.specs.State.{disk_in, extent_in, list_in, is_dead, HasStarted, IsSound}
 use Rattle.loaded_modules.specs.Loaded.{listed_in}
 use Rattle.session_input.specs.declared.error.SessionError.{SessionError}
-use Rattle.node_processes.specs.Fresh.{fresh}
+use Rattle.node_processes.specs.Fresh.{fresh_processes}
 use Rattle.node_processes.specs.InMemory.{processes_in, AreSound}
 use Rattle.rel_session.specs.declared.booted_node.BootedNode.{BootedNode}
 use Rattle.rel_session.specs.declared.node.Node.{Node}
@@ -140,7 +140,7 @@ AnswersAsked v says result old new = AnswersReported v (λ list ps. says ps) res
 -- or memory was refused, and its disk alone is left.
 abbrev pub IsNodeStarted : {D : Type 0} → NodeStore D → Result (String Global) AllocError → PlaceInMemory D → Type 0
 IsNodeStarted h (Ok text) (memory.Made node) =
-    (node.handler ≡ h) × (processes_in node.processes ≡ fresh (list_in h))
+    (node.handler ≡ h) × (processes_in node.processes ≡ fresh_processes (list_in h))
     × (string_bytes text ≡ ok_line (version_of (running_release (list_in h))))
 IsNodeStarted h (Err e) (memory.Idle disk) = disk ≡ disk_in h
 IsNodeStarted h line place = ⊥

@@ -1,13 +1,10 @@
-pub mod AnswerLaws
 pub mod Device
 pub mod Session
 pub mod Files
 pub mod InMemory
 pub mod Node
 pub mod Run
-pub mod RunLaws
 pub mod Booting
 pub mod Installation
 pub mod Transition
 pub mod Output
-pub mod LawsBelow

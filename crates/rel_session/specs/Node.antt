@@ -4,7 +4,7 @@ use Rattle.rel_list.specs.Releases.{Releases}
 use Rattle.rel_list.specs.Event.{Event, list_after}
 use Rattle.node_store.specs.Events.{Events, Stored, certain}
 use Rattle.node_store.specs.Image.{Extent}
-use Rattle.node_processes.specs.Fresh.{fresh}
+use Rattle.node_processes.specs.Fresh.{fresh_processes}
 use Rattle.node_processes.specs.Processes.{Processes}
 use Rattle.node_answer.specs.Refusals.{NodeRefusal, refusal_line}
 use Rattle.node_answer.specs.Refusals.NodeRefusal.{device}
@@ -30,7 +30,7 @@ releases_after events = list_or_none (list_after events)
 
 -- a node with these events, whose store reaches so far, right after a boot
 abbrev pub just_booted : Events → Extent → Place
-just_booted events extent = running events extent (fresh (releases_after events))
+just_booted events extent = running events extent (fresh_processes (releases_after events))
 
 -- where the disk stands once no node runs on it
 abbrev pub at_rest : Place → Place

@@ -3,13 +3,12 @@ use Rattle.std.specs.Prelude.{◌≡◌, ◌⊎◌, ℕ, Bool, true, false, List
 use Rattle.rel_files.specs.Release.{Release}
 use Rattle.rel_list.specs.Releases.{Bundle, Releases, permanent as permanent_release}
 use Rattle.rel_list.specs.Event.{Event}
-use Rattle.rel_list.specs.Event.Event.{made, unpacked, restart_installed, made_permanent, removed, reboot_old as rebooting, boot as booting}
+use Rattle.rel_list.specs.Event.Event.{made, unpacked, made_permanent, removed, reboot_old as rebooting, boot as booting}
 use Rattle.node_command.specs.declared.error.HandlerError.{HandlerError}
 use Rattle.node_command.specs.Files.{bundle_brought, made_size, unpacked_size, Brings}
 use Rattle.node_store.specs.Events.{Events, Stored, certain, uncertain}
 use Rattle.node_store.specs.Compaction.{MayReach}
 use Rattle.node_store.specs.Image.{Extent, extent_behind, first_extent, HasSpace, holds_a_store}
-use Rattle.rel_handler.specs.Installing.{install_room, install_size, needs_restart}
 use Rattle.node_command.specs.Installing.{installation}
 use Rattle.node_command.specs.Taking.{commanded, change_size}
 use Rattle.node_command.specs.Place.{files_refusal, own_refusal}
@@ -19,10 +18,6 @@ use Rattle.rel_unpack.specs.Source.{Source}
 use Rattle.rel_unpack.specs.Unpacking.{Brought}
 use Rattle.session_input.specs.Commands.{Command}
 use Rattle.relup_command.specs.Answer.{AnswerAt}
-use Rattle.node_upgrade.specs.Upgrade.{script_failure}
-use Rattle.script_progress.specs.Script.{Run}
-use Rattle.relup_exec.specs.Alone.Outcome.{ends}
-use Rattle.relup_script.specs.Search.{FoundForm}
 use Rattle.session_input.specs.Commands.Command.{file, create, set_unpacked, check, install, permanent, remove, reboot_old, boot, start, releases, procs, modules, peek, call, flood, relup, quit, bad}
 use Rattle.node_listing.specs.Listing.{listing}
 use Rattle.node_processes.specs.Answers.{processes_line, modules_line, peek_line}
@@ -33,7 +28,7 @@ pub use Rattle.rel_session.specs.Booting.{AnswersBoot, boot_failed, BootsBytes, 
 use Rattle.rel_session.specs.Booting.{store_behind}
 use Rattle.rel_session.specs.Node.{Place, releases_after, just_booted, at_rest, Reply, reply, refused, failed, nothing, done, behind}
 use Rattle.rel_session.specs.Node.Place.{raw, closed, running, dead}
-use Rattle.rel_session.specs.Installation.{Installs, restarted, upgrade_outcome}
+use Rattle.rel_session.specs.Installation.{Installs}
 pub use Rattle.node_answer.specs.Lines.{check_line, done_line, ok_line}
 use Rattle.node_answer.specs.Refusals.{NodeRefusal, refusal_of, refusal_line, refusal_for}
 use Rattle.node_answer.specs.Refusals.NodeRefusal.{full, exists, dead as dead_node}
@@ -202,10 +197,11 @@ abbrev pub rebooted : Events → Extent → List ℕ → Stored
 rebooted events extent vsn = store_behind events (rebooting vsn) extent
 
 -- This list takes a reboot to an old release, or refuses it. Behind the commit the node boots, and that is the answer.
-abbrev pub Reboots : Events → Extent → Processes → List ℕ → Releases → Result Releases HandlerError → Reply → Type 0
-Reboots events extent ps vsn list taken a =
+abbrev pub Reboots : (Stored → Reply → Type 0) → Events → Extent → Processes → List ℕ → Releases
+    → Result Releases HandlerError → Reply → Type 0
+Reboots Boot events extent ps vsn list taken a =
     IsCommit events extent ps (rebooting vsn) (change_size (rebooting vsn) list) taken
-    (λ x a. (b : Reply) × BootsStore (rebooted events x vsn) b × (a ≡ behind (rebooting vsn) b)) a
+    (λ x a. (b : Reply) × Boot (rebooted events x vsn) b × (a ≡ behind (rebooting vsn) b)) a
 
 -- what a node starts whose permanent release is this: the version of the runtime system, and its own
 abbrev pub start_versions : Option Release → List ℕ
@@ -218,77 +214,48 @@ ReportsStart events extent ps a =
     (a ≡ reply (ok_line (start_versions (permanent_release (releases_after events)))) nothing (running events extent ps))
     ⊎ (a ≡ failed None (dead (certain events extent)))
 
--- What the node replies then.
-abbrev pub Acts : Place → Action → Reply → Type 0
-Acts p (answers text) a = a ≡ reply text nothing p
-Acts p (makes_node brought) a = MakesNode p brought a
-Acts (running events extent ps) (changes_node c) a =
+-- What the node replies then, where a boot that an action has behind its commit replies so.
+abbrev pub ActsWith : (Stored → Reply → Type 0) → Place → Action → Reply → Type 0
+ActsWith Boot p (answers text) a = a ≡ reply text nothing p
+ActsWith Boot p (makes_node brought) a = MakesNode p brought a
+ActsWith Boot (running events extent ps) (changes_node c) a =
     let list = releases_after events in
     Changes events extent ps c list (c.files list) (commanded c.event list) a
-Acts p (changes_node c) a = a ≡ refused dead_node p
-Acts (running events extent ps) (installs vsn) a =
-    Installs events extent ps vsn (releases_after events) (installation vsn (releases_after events)) a
-Acts p (installs vsn) a = a ≡ refused dead_node p
-Acts (running events extent ps) (reboots_node vsn) a =
-    Reboots events extent ps vsn (releases_after events) (commanded (rebooting vsn) (releases_after events)) a
-Acts p (reboots_node vsn) a = a ≡ refused dead_node p
-Acts p boots_node a = Boots p a
-Acts (running events extent ps) reports_start a = ReportsStart events extent ps a
-Acts p reports_start a = a ≡ refused dead_node p
-Acts (running events extent ps) (calls c) a = a ≡ reply (calls_line c ps) nothing (running events extent (left_by c ps))
-Acts p (calls c) a = a ≡ refused dead_node p
+ActsWith Boot p (changes_node c) a = a ≡ refused dead_node p
+ActsWith Boot (running events extent ps) (installs vsn) a =
+    let list = releases_after events in
+    Installs Boot events extent ps vsn list (installation vsn list) a
+ActsWith Boot p (installs vsn) a = a ≡ refused dead_node p
+ActsWith Boot (running events extent ps) (reboots_node vsn) a =
+    let list = releases_after events in
+    Reboots Boot events extent ps vsn list (commanded (rebooting vsn) list) a
+ActsWith Boot p (reboots_node vsn) a = a ≡ refused dead_node p
+ActsWith Boot p boots_node a = Boots p a
+ActsWith Boot (running events extent ps) reports_start a = ReportsStart events extent ps a
+ActsWith Boot p reports_start a = a ≡ refused dead_node p
+ActsWith Boot (running events extent ps) (calls c) a = a ≡ reply (calls_line c ps) nothing (running events extent (left_by c ps))
+ActsWith Boot p (calls c) a = a ≡ refused dead_node p
+
+-- What the node replies then: it boots behind a reboot, and behind an installation with a restart.
+abbrev pub Acts : Place → Action → Reply → Type 0
+Acts p does a = ActsWith BootsStore p does a
 
 -- The reply to a command.
 abbrev pub Transition : Source → Place → Command → Reply → Type 0
 Transition source p c a = (does : Action) × ComesTo source p c does × Acts p does a
 
--- A reboot was committed on a node that runs, and its boot had no memory: the reboot is on the disk, and acknowledged.
-pub record IsRebootAlone (p : Place) (does : Action) (a : Reply) : Type 0 where
-  pub events : Events
-  pub extent : Extent
-  pub processes : Processes
-  pub vsn : List ℕ
-  pub here : p ≡ running events extent processes
-  pub action : does ≡ reboots_node vsn
-  pub list : Releases
-  pub taken : commanded (rebooting vsn) (releases_after events) ≡ Ok list
-  pub fits : HasSpace extent (change_size (rebooting vsn) (releases_after events))
-  pub reaches : Extent
-  pub behind : MayReach (extent_behind extent (change_size (rebooting vsn) (releases_after events)))
-      (releases_after (events ++ rebooting vsn ∷ [])) reaches
-  pub is : a ≡ reply [] (done (rebooting vsn ∷ [])) (closed (rebooted events reaches vsn))
-
--- A release was installed by a script that ends with a restart, and there was no memory for the line that reports it or for the
--- boot behind it: the installation is on the disk, and acknowledged.
-pub record IsRestartAlone (p : Place) (does : Action) (a : Reply) : Type 0 where
-  pub events : Events
-  pub extent : Extent
-  pub processes : Processes
-  pub vsn : List ℕ
-  pub here : p ≡ running events extent processes
-  pub action : does ≡ installs vsn
-  pub found : FoundForm
-  pub is_found : installation vsn (releases_after events) ≡ Ok found
-  pub begins : script_failure vsn (releases_after events) found ≡ None
-  pub run : Run
-  pub ends_so : upgrade_outcome vsn (releases_after events) found processes ≡ ends run
-  pub restarts : needs_restart vsn (releases_after events) ≡ true
-  pub fits : HasSpace extent (install_room vsn (releases_after events))
-  pub reaches : Extent
-  pub behind : MayReach (extent_behind extent (install_size vsn (releases_after events)))
-      (releases_after (events ++ restart_installed vsn ∷ [])) reaches
-  pub is : a ≡ reply [] (done (restart_installed vsn ∷ [])) (closed (restarted events reaches vsn))
-
 -- what is left of a reply whose node is lost: all that it acknowledges is on the disk, but nothing is answered
 abbrev pub without_node : Reply → Reply
 without_node a = reply [] a.outcome (at_rest a.after)
 
--- What stands in place of the reply where memory was refused behind what an action has written: a reboot had none for its boot, a
--- restart none for its boot or the line before it, or a node had none for its processes or its answer.
-pub data StopsWithin (p : Place) (does : Action) (a : Reply) : Type 0 where
-  without_its_boot : IsRebootAlone p does a → StopsWithin p does a
-  without_its_restart : IsRestartAlone p does a → StopsWithin p does a
-  without_its_node : (b : Reply) → Acts p does b → a ≡ without_node b → StopsWithin p does a
+-- What a boot of a store replies, or, where memory was refused to it, that nothing was done.
+abbrev pub BootsOrNot : Stored → Reply → Type 0
+BootsOrNot s a = BootsStore s a ⊎ (a ≡ reply [] nothing (closed s))
+
+-- What stands in place of the reply where memory was refused behind what an action has written: for the boot behind its commit,
+-- for the processes of its node, or for its answer.
+abbrev pub StopsWithin : Place → Action → Reply → Type 0
+StopsWithin p does a = (b : Reply) × ActsWith BootsOrNot p does b × (a ≡ without_node b)
 
 -- So a command is stopped within, and the session ends.
 abbrev pub IsStopped : Source → Place → Command → Reply → Type 0

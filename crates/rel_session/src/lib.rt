@@ -9,7 +9,7 @@
 //! a boot and an installation reply. Transition: the replies to each command, from each place. Run: how replies lead a disk from
 //! place to place, and what a crash leaves at each moment: the list of a prefix of the events so far that holds every acknowledged
 //! one. Session: what is written, and how a session ends.
-//! The functions of [`laws`] say what follows for whole runs. docs/ARCHITECTURE.md says what a further command takes.
+//! What follows for whole runs, the laws of `session_laws` say. docs/ARCHITECTURE.md says what a further command takes.
 //!
 //! A session may wait for slots of its processes, and what is said of it holds where it returns. Only tested: that it does, and that
 //! it goes on where memory is there. That an answer is written before the next line is read is to be read in `session`.
@@ -24,7 +24,6 @@ mod check;
 mod command_loop;
 mod given_files;
 mod install;
-pub mod laws;
 mod node;
 mod place;
 mod processes;

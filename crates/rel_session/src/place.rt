@@ -5,7 +5,7 @@ ghost use Rattle.node_command.specs.Files.{Brings, IsOfFiles};
 ghost use Rattle.rel_list.specs.Releases.{running};
 ghost use Rattle.rel_unpack.specs.Unpacking.{Brought};
 ghost use Rattle.session_input.specs.Commands.Command.{create};
-ghost use Rattle.node_processes.specs.Fresh.{fresh};
+ghost use Rattle.node_processes.specs.Fresh.{fresh_processes};
 ghost use Rattle.node_processes.specs.InMemory.{AreSound, processes_in};
 ghost use Rattle.rel_session.specs.InMemory.{IsSoundPlace, IsNodeStarted};
 ghost use Rattle.rel_session.specs.Node.{Place as SomePlace};
@@ -136,7 +136,8 @@ fn begun<D: Disk, R: Wait>(
     requires sound { IsSound D.seen D.may_leave handler.now }
     requires works { is_dead handler.now ≡ false }
     ensures sound { IfOk result (λ begun. AreSound begun.1) }
-    ensures fresh { IfOk result (λ begun. processes_in begun.1 ≡ fresh (list_in handler.now)) }
+    ensures fresh { IfOk result (λ begun.
+        processes_in begun.1 ≡ fresh_processes (list_in handler.now)) }
     ensures reported { IfOk result (λ begun. string_bytes begun.0
         ≡ ok_line (version_of (running (list_in handler.now)))) }
 {

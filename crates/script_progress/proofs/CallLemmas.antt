@@ -17,7 +17,7 @@ use Rattle.script_progress.specs.Children.{CallsChild}
 use Rattle.script_progress.specs.Fault.{Cause, app_call_fault, call_fault, child_call_fault, error_cause}
 use Rattle.script_progress.specs.InMemory.{cause_of}
 use Rattle.script_progress.specs.Script.{Run, Site, call_after, call_within, called_after, child_after, child_stays_at, child_within, stays_at}
-use Rattle.script_progress.specs.Steps.{CarriesOutLate, HasDone, IsCause, IsCauseIn, IsEarly, IsFailed, Past, ProgressForm, on_no_child}
+use Rattle.script_progress.specs.Steps.{CarriesOutLate, HasDone, IsCause, IsCauseIn, IsEarly, IsFailed, GoesByLooks, Past, ProgressForm, on_no_child}
 use Rattle.script_progress.specs.Stops.{AsksMemory, app_takes_memory, call_takes_memory, child_takes_memory}
 use Rattle.script_progress.proofs.SeenLemmas.{cause_seen, seen_in, seen_of}
 use Rattle.held_processes.proofs.SlotLemmas.{longer_still}
@@ -134,6 +134,22 @@ raised s past call e a tree v done raises cause =
       longer = longer_still v;
       partly = subst (λ (cs : Courses). AllFollow past.first cs a.held v) (sym (ap (λ (b : Bool). if b then child_within (child_call call) e.modules r else r.courses) child)) done.follow;
     }
+
+-- it is on no child
+pub no_child_raised : (past : Past) (call : CallForm) (e : Failure) (v : View) → is_error call ≡ true → GoesByLooks past (apply call) (Err e) v v
+no_child_raised past call e v raises = λ _ on_child. absurd (true≢false (sym on_child ∙ error_on_no_child call raises))
+
+-- a call on an application is on no child
+pub no_child_called : {X : Type 0} (past : Past) (call : CallForm) (r : Result X Failure) (v w : View) → bytes_eq call.name (codes "application") ≡ true → GoesByLooks past (apply call) (on_no_child r) v w
+no_child_called past call (Ok x) v w named = (λ on_child. absurd (true≢false (sym on_child ∙ app_on_no_child call named)), λ stays. absurd (true≢false (sym stays)))
+no_child_called past call (Err e) v w named = λ _ on_child. absurd (true≢false (sym on_child ∙ app_on_no_child call named))
+
+-- one on a child looks at it
+pub child_looked : (s : Site) (past : Past) (call : CallForm) (r : Result Bool Failure) (a : ProgressForm) (tree : List App) (v w : View) → bytes_eq call.name (codes "supervisor") ≡ true
+    → CallsChild past (child_call call) r a tree v w → GoesByLooks past (apply call) r v w
+child_looked s past call (Ok stays) a tree v w named called =
+    (λ _. called.taken, λ is_so. (on_child s call past.run named).stay (values_seen w) ∙ called.now is_so)
+child_looked s past call (Err e) a tree v w named called = λ other _. called.taken other
 
 -- a call on an application was made, or fails
 pub app_called : {X : Type 0} (s : Site) (past : Past) (call : CallForm) (r : Result X Failure) (a a' : ProgressForm) (tree tree' : List App) (v w : View) → HasDone past a tree v → AreLonger v w

@@ -1,5 +1,5 @@
 -- Calls on children of supervisors.
-use Rattle.std.proofs.Common.{◌≡◌, ℕ, Bool, ◌&&◌, not, true, false, List, length, if◌then◌else◌, refl, sym, ap, ap₂, subst, subst₂, ◌∙◌, Option, None, Some, Ok, Err}
+use Rattle.std.proofs.Common.{◌≡◌, ◌≢◌, ℕ, Bool, ◌&&◌, not, true, false, true≢false, List, length, if◌then◌else◌, refl, sym, ap, ap₂, subst, subst₂, ◌∙◌, Option, None, Some, Ok, Err}
 use Rattle.std.proofs.lemmas.Bool.{le-ltb, lt-ltb}
 use Rattle.proc_table.specs.declared.view.View.{View}
 use Rattle.mod_table.specs.Tables.{Tables}
@@ -15,7 +15,7 @@ use Rattle.sup_tree.specs.Begins.{restart_fault}
 use Rattle.sup_tree.specs.Tree.{App}
 use Rattle.held_processes.specs.declared.restarts.NotRestarted.{NotRestarted}
 use Rattle.held_processes.specs.Applications.{Scene, room_in, scene_at}
-use Rattle.held_processes.specs.Children.{IsDeletedIn, IsTerminatedIn, child_stays, with_deleted, with_terminated}
+use Rattle.held_processes.specs.Children.{IsChildTaken, IsDeletedIn, IsTerminatedIn, child_stays, with_deleted, with_terminated}
 use Rattle.held_processes.specs.Following.{AllFollow, AreLonger, HeldSlots}
 use Rattle.held_processes.specs.Operations.{Values, now_in, values_seen}
 use Rattle.held_processes.specs.Restarts.{IsKeptIn, IsNotRestartedIn, IsRestartedIn, FailsToRestart, IsWhyItDidNot, RestartsIn, child_ended, gives_up, restart_starts, with_restarted}
@@ -59,7 +59,7 @@ without_super : (past : Past) (c : ChildCall) (hs : HeldSlots) (v w : View) → 
     → AllFollow past.first (child_within c 0 past.run) hs w → IsNotMade past c superless hs v w
 without_super past c hs v w since none follow partly =
     let seen = seen_of past.first past.run past.run.courses hs w (λ p. refl) follow in
-    record { then_view = w; fails = (none (values_seen w), seen); asks = λ m. absurd (cc m); since = since; longer = longer_still w; seen = seen; counted = none_given_up (values_seen w) c past.run; partly = partly }
+    record { then_view = w; fails = (none (values_seen w), seen); asks = λ m. absurd (cc m); since = since; longer = longer_still w; taken = λ other. absurd (other refl); seen = seen; counted = none_given_up (values_seen w) c past.run; partly = partly }
 
 -- the supervisors that are started are those of the script
 none_in : (past : Past) (name : List ℕ) (a : ProgressForm) (tree : List App) (v : View) → HasDone past a tree v → has_one_supervisor name tree ≡ false → has_one_supervisor name past.run.apps ≡ false
@@ -72,7 +72,7 @@ done_as past a tree tree' hs v w s done same follow = record { follow = follow; 
 
 -- any other call does nothing
 pub nothing_called : (past : Past) (a : ProgressForm) (tree : List App) (v : View) → HasDone past a tree v → IsMade past nothing false a tree v v
-nothing_called past a tree v done = record { then_view = v; seen = seen_in past a tree v done; sound = refl; reported = refl; since = longer_still v; longer = longer_still v; done = done }
+nothing_called past a tree v done = record { then_view = v; seen = seen_in past a tree v done; sound = refl; reported = refl; since = longer_still v; longer = longer_still v; taken = tt; now = λ stays. absurd (true≢false (sym stays)); done = done }
 
 -- a child was terminated
 pub terminated : (past : Past) (name id : List ℕ) (a : ProgressForm) (tree tree' : List App) (hs : HeldSlots) (v w : View) → HasDone past a tree v → AreLonger v w
@@ -87,6 +87,8 @@ terminated past name id a tree tree' hs v w done longer is =
       reported = refl;
       since = longer_still v;
       longer = longer;
+      taken = tt;
+      now = λ stays. absurd (true≢false (sym stays));
       done = done_as past a tree tree' hs v w (with_terminated name id (scene_of r)) done here.tree here.follow;
     }
 
@@ -103,6 +105,8 @@ deleted past name id stays a tree tree' hs v w done is =
       reported = here.stay.2;
       since = here.stay.3;
       longer = here.stay.4;
+      taken = here.stay.5;
+      now = here.stay.6;
       done = by stays here.tree here.follow;
     }
   where
@@ -149,6 +153,8 @@ kept past name id a tree tree' hs v w done is = record {
   reported = is.stay.2;
   since = is.stay.3;
   longer = is.stay.4;
+  taken = is.stay.5;
+  now = is.stay.6;
   done = done_as past a tree tree' hs v w (scene_of past.run) done is.tree is.follow;
 }
 
@@ -169,6 +175,8 @@ begun past name id a tree tree' hs v w done is =
       reported = goes;
       since = is.stay.3;
       longer = is.stay.4;
+      taken = subst (λ (o : Option Place). IsChildTaken r.courses o v w) (sym is.there) is.stay.5;
+      now = λ stays. absurd (true≢false (sym stays));
       done = subst (λ (o : Option Place). HasDone (record past { run = restarted_at name id o r }) (record a { held = hs }) tree' w) (sym is.there)
           (done_as past a tree tree' hs v w (with_restarted name id tables p (scene_of r)) done is.tree is.follow);
     }
@@ -217,14 +225,15 @@ not_restarted past name id x e a tree tree' hs v w next done whole listed caused
     by x.error refl (subst₂ (λ (t : Tables) (s : Scene). RestartsIn past.first name id t s (Err x) tree' hs v w) (tables_are past a tree v next done listed) (scene_is past a tree v done) is)
   where
     its : (c : Cause) (n : ℕ) → c ≡ cause_of e.cause → n ≡ e.modules → (u : View) → n ≡ child_count (values_seen u) c (restarts name id) past.run → IsSeen past.first past.run u → IsCause (child_call_fault (values_seen u) (restarts name id) past.run) c → (is_memory c ≡ true → may_begin (values_seen u) name id past.run ≡ true) → AreLonger v u → AreLonger u w
-        → AllFollow past.first (child_within (restarts name id) n past.run) hs w → IsNotMade past (restarts name id) e hs v w
-    its c n same number u counts seen fails asks since longer follow = record {
+        → (c ≢ no_super → IsChildTaken past.run.courses (child_place name id past.run.apps) v w) → AllFollow past.first (child_within (restarts name id) n past.run) hs w → IsNotMade past (restarts name id) e hs v w
+    its c n same number u counts seen fails asks since longer taken follow = record {
       then_view = u;
       fails = cause_seen past.first u past.run (child_call_fault (values_seen u) (restarts name id) past.run) (cause_of e.cause)
           (subst (IsCause (child_call_fault (values_seen u) (restarts name id) past.run)) same fails) seen;
       asks = λ m. asks (ap is_memory same ∙ m);
       since = since;
       longer = longer;
+      taken = λ other. taken (λ is. other (sym same ∙ is));
       seen = seen;
       counted = sym number ∙ (counts ∙ ap (λ (k : Cause). child_count (values_seen u) k (restarts name id) past.run) same);
       partly = subst (λ (m : ℕ). AllFollow past.first (child_within (restarts name id) m past.run) hs w) number follow;
@@ -241,12 +250,13 @@ not_restarted past name id x e a tree tree' hs v w next done whole listed caused
         ≡ (may_begin (values_seen u) name id past.run && child_goes (restart_cause x.error) (child_place name id past.run.apps) past.run) =
         ap (λ (b : Bool). b && child_goes (restart_cause x.error) (child_place name id past.run.apps) past.run) (sym begins) in
         its (restart_cause x.error) (if x.given_up then 1 else 0) (sym caused) (sym counted) u (ap (λ (b : Bool). if b then 1 else 0) (given ∙ counts)) f.stay.1 (why_not past name id (values_seen u) f.place x.error f.one (sym goes) f.there f.why) (λ _. begins) f.stay.3 f.stay.4
+        (λ _. subst (λ (o : Option Place). IsChildTaken past.run.courses o v w) (sym f.there) f.stay.5)
         (given_up_as past name id f.place x.given_up hs w f.there f.follow)
 
     by : (k : RestartError) → x.error ≡ k → FailsToRestart k past.first name id (tables_among past.run.modules) (scene_of past.run) x tree' hs v w → IsNotMade past (restarts name id) e hs v w
     by NoSuper named f =
         its no_super 0 (sym (caused ∙ ap restart_cause named)) (sym (counted ∙ ap (λ (b : Bool). if b then 1 else 0) f.1)) w (none_given_up (values_seen w) (restarts name id) past.run) (seen_of past.first past.run past.run.courses hs w (λ p. refl) f.3)
-        (not_one_super name past.run (restart_call_fault (child_stays_at (values_seen w) (restarts name id) past.run) name id past.run) f.0) (λ m. absurd (cc m)) whole (longer_still w) f.3
+        (not_one_super name past.run (restart_call_fault (child_stays_at (values_seen w) (restarts name id) past.run) name id past.run) f.0) (λ m. absurd (cc m)) whole (longer_still w) (λ other. absurd (other refl)) f.3
     by NoTable named f = gone f
     by Unsupported named f = gone f
     by NoSlot named f = gone f

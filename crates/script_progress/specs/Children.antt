@@ -1,5 +1,5 @@
 -- What calls on children of supervisors leave to each other.
-use Rattle.std.specs.Prelude.{◌≡◌, Bool, true, List, None, Result, Ok, Err}
+use Rattle.std.specs.Prelude.{◌≡◌, ◌≢◌, Bool, true, List, None, Result, Ok, Err}
 use Rattle.proc_table.specs.declared.view.View.{View}
 use Rattle.sup_tree.specs.declared.error.RestartError.{RestartError}
 use Rattle.sup_tree.specs.declared.error.RestartError.TheVariants.{NoSuper, NoTable, Unsupported, NoSlot, NoMemory}
@@ -15,7 +15,7 @@ use Rattle.script_progress.specs.Fault.{Cause, child_call_fault}
 use Rattle.script_progress.specs.Fault.Cause.{no_table, unsupported, no_slot, no_super, no_memory}
 use Rattle.script_progress.specs.InMemory.{cause_of}
 use Rattle.script_progress.specs.Script.{child_after, child_stays_at, child_within}
-use Rattle.script_progress.specs.Steps.{HasDone, IsCauseIn, IsSeen, Past, ProgressForm}
+use Rattle.script_progress.specs.Steps.{HasDone, IsCallTaken, IsCauseIn, IsSeen, Past, ProgressForm}
 use Rattle.script_progress.specs.Stops.{child_count, child_takes_memory, is_memory}
 
 abbrev pub child_call_of : declared.ChildCall → ChildCall
@@ -33,7 +33,7 @@ restart_cause NoSlot = no_slot
 restart_cause NoMemory = no_memory
 
 -- A call on a child of a supervisor was made, by the histories that the handler had seen at a moment between these two; by these
--- the child stays as it is, or doesn't.
+-- the child stays as it is, or doesn't. Its slot was taken between these two, and one that stays does so by what is seen now.
 pub record IsMade (past : Past) (c : ChildCall) (stays : Bool) (a : ProgressForm) (tree : List App) (v w : View) : Type 0 where
   pub then_view : View
   pub seen : IsSeen past.first past.run then_view
@@ -41,6 +41,8 @@ pub record IsMade (past : Past) (c : ChildCall) (stays : Bool) (a : ProgressForm
   pub reported : stays ≡ child_stays_at (values_seen then_view) c past.run
   pub since : AreLonger v then_view
   pub longer : AreLonger then_view w
+  pub taken : IsCallTaken c past.run v w
+  pub now : stays ≡ true → child_stays_at (values_seen w) c past.run ≡ true
   pub done : HasDone (record past { run = child_after c stays past.run }) a tree w
 
 -- It fails, and is out of memory only where it asks for memory. What stood for the child is given up, or isn't.
@@ -50,6 +52,7 @@ pub record IsNotMade (past : Past) (c : ChildCall) (e : Failure) (hs : HeldSlots
   pub asks : is_memory (cause_of e.cause) ≡ true → child_takes_memory (values_seen then_view) c past.run ≡ true
   pub since : AreLonger v then_view
   pub longer : AreLonger then_view w
+  pub taken : cause_of e.cause ≢ no_super → IsCallTaken c past.run v w
   pub seen : IsSeen past.first past.run then_view
   pub counted : e.modules ≡ child_count (values_seen then_view) (cause_of e.cause) c past.run
   pub partly : AllFollow past.first (child_within c e.modules past.run) hs w

@@ -1,19 +1,23 @@
 -- What the steps of a script leave to each other.
-use Rattle.std.specs.Prelude.{◌≡◌, ℕ, Bool, false, ◌&&◌, IsTrue, List, Option, None, Some, Result, Ok, Err}
+use Rattle.std.specs.Prelude.{◌≡◌, ◌≢◌, ℕ, Bool, true, false, ◌&&◌, IsTrue, List, Option, None, Some, Result, Ok, Err}
 use Rattle.proc_table.specs.declared.view.View.{View}
 use Rattle.relup_instruction.specs.Instruction.{Instruction}
+use Rattle.relup_instruction.specs.Instruction.Instruction.{apply, remove}
 use Rattle.relup_script.specs.Script.{is_supported, may_follow, may_precede}
 use Rattle.loaded_modules.specs.Loaded.{NamedModules, listed_in}
-use Rattle.sup_tree.specs.Tree.{App}
+use Rattle.sup_tree.specs.Children.{child_place}
+use Rattle.sup_tree.specs.Tree.{App, supervises}
 use Rattle.held_processes.specs.Course.{Courses}
-use Rattle.held_processes.specs.Children.{AreSeen}
+use Rattle.held_processes.specs.Children.{AreSeen, IsChildTaken}
 use Rattle.held_processes.specs.Following.{AllFollow, AreLonger, Followed, HeldSlots}
-use Rattle.held_processes.specs.Operations.{values_seen}
+use Rattle.held_processes.specs.Operations.{AreLookedAt, values_seen}
 use Rattle.script_progress.specs.declared.cause.Failure.{Failure}
 use Rattle.script_progress.specs.declared.progress.Progress.{Progress}
-use Rattle.script_progress.specs.Script.{Site, Run, courses_within, run_after, stays_at}
+use Rattle.script_progress.specs.Calls.{ChildCall, child_call, is_on_child}
+use Rattle.script_progress.specs.Calls.ChildCall.{deletes, restarts}
+use Rattle.script_progress.specs.Script.{Site, Run, courses_within, modules_by_slot_in, run_after, stays_at}
 use Rattle.script_progress.specs.Fault.{Cause, fault}
-use Rattle.script_progress.specs.Fault.Cause.{no_memory}
+use Rattle.script_progress.specs.Fault.Cause.{no_memory, no_super}
 use Rattle.script_progress.specs.InMemory.{cause_of}
 use Rattle.script_progress.specs.Stops.{StopsAt}
 
@@ -103,6 +107,25 @@ pub record IsFailed (s : Site) (past : Past) (i : Instruction) (e : Failure) (hs
 abbrev pub CarriesOutLate : Site → Past → Instruction → Result Bool Failure → ProgressForm → List App → View → View → Type 0
 CarriesOutLate s past i (Ok stays) a tree v w = IsCarriedOut s past false stays i a tree v w
 CarriesOutLate s past i (Err e) a tree v w = IsFailed s past i e a.held v w
+
+-- The slot of the child that a call may leave as it is was taken between these two moments, if its process isn't held.
+abbrev pub IsCallTaken : ChildCall → Run → View → View → Type 0
+IsCallTaken (deletes super id) r v w = IsChildTaken r.courses (child_place super id r.apps) v w
+IsCallTaken (restarts super id) r v w = IsChildTaken r.courses (child_place super id r.apps) v w
+IsCallTaken c r v w = Unit {0}
+
+-- So were the slots by which an instruction goes. A removal goes by the processes of its module, up to one that is up, unless a
+-- supervisor uses that.
+abbrev pub TakesSlots : Instruction → Run → View → View → Type 0
+TakesSlots (apply c) r v w = is_on_child c ≡ true → IsCallTaken (child_call c) r v w
+TakesSlots (remove p) r v w = supervises p.name r.apps ≡ false → AreLookedAt (modules_by_slot_in r) p.name r.courses v w
+TakesSlots i r v w = Unit {0}
+
+-- The handler took the slots by which an instruction goes from the one moment to the other, unless the supervisor of a child wasn't
+-- there. A child that is left as it is stays by what the handler has seen then.
+abbrev pub GoesByLooks : Past → Instruction → Result Bool Failure → View → View → Type 0
+GoesByLooks past i (Ok stays) v w = TakesSlots i past.run v w × (stays ≡ true → stays_at (values_seen w) i past.run ≡ true)
+GoesByLooks past i (Err e) v w = cause_of e.cause ≢ no_super → TakesSlots i past.run v w
 
 -- what is reported where an instruction is on no child
 abbrev pub on_no_child : {X : Type 0} → Result X Failure → Result Bool Failure

@@ -12,7 +12,7 @@ ghost use Rattle.script_progress.specs.InMemory.{cause_of, site_of};
 ghost use Rattle.script_progress.specs.Calls.AppCall.{stops};
 ghost use Rattle.script_progress.specs.Calls.{app_call, first_atom};
 ghost use Rattle.script_progress.specs.Script.{called_after, target_library};
-ghost use Rattle.script_progress.specs.Steps.{CarriesOutLate, HasDone, Past, progress_of};
+ghost use Rattle.script_progress.specs.Steps.{CarriesOutLate, HasDone, GoesByLooks, Past, progress_of};
 ghost use Rattle.script_progress.specs.Stops.{AsksMemory, app_takes_memory, may_start};
 ghost use Rattle.held_processes.specs.Following.{AreLonger};
 
@@ -56,6 +56,8 @@ pub fn apply<R: Wait>(
     ensures longer { AreLonger seat.old.view seat.new.view }
     ensures carried { CarriesOutLate (site_of site.now) past (apply (call_of call.now))
         result (progress_of progress.new) progress.new.tree seat.old.view seat.new.view }
+    ensures looked { GoesByLooks past (apply (call_of call.now)) result
+        seat.old.view seat.new.view }
 {
     match call.name.as_str() {
         "application" => on_no_child(call_app(progress, rt, alloc, site, seat, app_call(call))),

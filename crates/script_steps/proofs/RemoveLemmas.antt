@@ -1,16 +1,17 @@
 -- A module that isn't loaded any more.
-use Rattle.std.proofs.Common.{◌≡◌, ℕ, ◌||◌, Bool, false, List, if◌then◌else◌, refl, sym, ap, ◌∙◌, None, Some, Ok}
+use Rattle.std.proofs.Common.{◌≡◌, ℕ, ◌||◌, Bool, false, true≢false, List, if◌then◌else◌, refl, sym, ap, subst, ◌∙◌, None, Some, Result, Ok, Err}
 use Rattle.proc_table.specs.declared.view.View.{View}
 use Rattle.held_processes.specs.Following.{AllFollow, AreLonger}
-use Rattle.held_processes.specs.Operations.{uses_up, modules_by_slot, values_seen}
+use Rattle.held_processes.specs.Operations.{AreLookedAt, uses_up, modules_by_slot, values_seen}
 use Rattle.relup_instruction.specs.Instruction.{PurgingForm}
 use Rattle.relup_instruction.specs.Instruction.Instruction.{remove}
 use Rattle.loaded_modules.specs.Loaded.{NamedModules, without_module}
 use Rattle.script_progress.specs.Tree.{App, supervises}
+use Rattle.script_progress.specs.declared.cause.Failure.{Failure}
 use Rattle.script_progress.specs.Fault.{remove_fault}
 use Rattle.script_progress.specs.Fault.Cause.{in_use}
 use Rattle.script_progress.specs.Script.{Site}
-use Rattle.script_progress.specs.Steps.{CarriesOut, HasDone, Past, ProgressForm}
+use Rattle.script_progress.specs.Steps.{CarriesOut, GoesByLooks, HasDone, Past, ProgressForm, on_no_child}
 use Rattle.held_processes.proofs.SlotLemmas.{longer_still}
 use Rattle.script_progress.proofs.SeenLemmas.{seen_of}
 
@@ -24,6 +25,14 @@ nothing_reported : (past : Past) (name : List ℕ) (a : ProgressForm) (tree : Li
     → b ≡ (supervises name tree || uses_up (values_seen w) (modules_by_slot tree) name past.run.courses) → b ≡ false → remove_fault name (values_seen w) past.run ≡ None
 nothing_reported past name a tree v w b done is unused =
     ap (λ (c : Bool). if c then Some in_use else None) (sym (reported_here past name a tree v w done) ∙ (sym is ∙ unused))
+
+-- the slots of its processes were taken
+pub removal_looks : {X : Type 0} (past : Past) (p : PurgingForm) (r : Result X Failure) (a : ProgressForm) (tree : List App) (v w : View) → HasDone past a tree v
+    → (supervises p.name tree ≡ false → AreLookedAt (modules_by_slot tree) p.name past.run.courses v w) → GoesByLooks past (remove p) (on_no_child r) v w
+removal_looks past p (Ok x) a tree v w done looked =
+    (subst (λ (apps : List App). supervises p.name apps ≡ false → AreLookedAt (modules_by_slot apps) p.name past.run.courses v w) done.apps looked, λ stays. absurd (true≢false (sym stays)))
+removal_looks past p (Err e) a tree v w done looked =
+    λ _. subst (λ (apps : List App). supervises p.name apps ≡ false → AreLookedAt (modules_by_slot apps) p.name past.run.courses v w) done.apps looked
 
 -- nothing runs it
 pub removed_well : (s : Site) (past : Past) (p : PurgingForm) (m : List ℕ) (a : ProgressForm) (next : NamedModules) (tree : List App) (v w : View) (b : Bool) → HasDone past a tree v → AreLonger v w

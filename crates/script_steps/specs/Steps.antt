@@ -5,7 +5,7 @@ use Rattle.proc_table.specs.declared.view.View.{View}
 use Rattle.library.specs.Library.{Library}
 use Rattle.relup_instruction.specs.declared.instruction.Direction.{Direction}
 use Rattle.relup_instruction.specs.Instruction.{ChangeForm, Instruction}
-use Rattle.relup_instruction.specs.Instruction.Instruction.{apply}
+use Rattle.relup_instruction.specs.Instruction.Instruction.{apply, remove}
 use Rattle.loaded_modules.specs.Loaded.{NamedModules, module_named}
 use Rattle.script_progress.specs.Tree.{App}
 use Rattle.held_processes.specs.Course.{ModulesBySlot}
@@ -21,10 +21,11 @@ use Rattle.script_progress.specs.InMemory.{cause_of}
 use Rattle.script_progress.specs.Steps.{HasDone, IsCause, IsCauseIn, Past, ProgressForm}
 use Rattle.script_progress.specs.Stops.{UnlessMemory, change_asks, fetch_asks, is_memory, is_stuck_at}
 
--- The instruction makes a call.
-abbrev pub is_call : Instruction → Bool
-is_call (apply c) = true
-is_call i = false
+-- whether an instruction may go by a look at processes: it makes a call, or removes a module
+abbrev pub goes_by_looks : Instruction → Bool
+goes_by_looks (apply c) = true
+goes_by_looks (remove p) = true
+goes_by_looks i = false
 
 -- The processes of all these modules are suspended, or some of them, since memory was refused for one that wasn't held.
 abbrev pub AreSuspended : {X : Type 0} → Followed → ModulesBySlot → List (List ℕ) → Result X Failure → HeldSlots → View → Type 0

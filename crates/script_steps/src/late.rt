@@ -2,8 +2,8 @@
 ghost use Rattle.std.specs.Prelude.{◌≡◌, false};
 ghost use Rattle.relup_instruction.specs.Instruction.{instruction_of};
 ghost use Rattle.script_progress.specs.InMemory.{site_of};
-ghost use Rattle.script_progress.specs.Steps.{CarriesOut, CarriesOutLate, HasDone, IsLate, Past, progress_of};
-ghost use Rattle.script_steps.specs.Steps.{is_call};
+ghost use Rattle.script_progress.specs.Steps.{CarriesOut, CarriesOutLate, GoesByLooks, HasDone, IsLate, Past, progress_of};
+ghost use Rattle.script_steps.specs.Steps.{goes_by_looks};
 ghost use Rattle.held_processes.specs.Following.{AreLonger};
 
 use crate::change::change_code;
@@ -38,14 +38,17 @@ pub fn carry_out_late<R: Wait>(
     ensures longer { AreLonger seat.old.view seat.new.view }
     ensures carried { CarriesOutLate (site_of site.now) past (instruction_of instr.now)
         result (progress_of progress.new) progress.new.tree seat.old.view seat.new.view }
+    ensures looked { GoesByLooks past (instruction_of instr.now) result
+        seat.old.view seat.new.view }
 {
     match instr {
         Instr::Apply(call) => apply(progress, rt, alloc, site, seat, call),
+        Instr::Remove(purging) => on_no_child(remove(progress, rt, site, seat, purging)),
         _ => on_no_child(carry_out_other(progress, rt, alloc, site, seat, instr)),
     }
 }
 
-// One that makes no call.
+// One that goes by no look at processes.
 fn carry_out_other<R: Wait>(
     progress: &mut Progress,
     rt: &R,
@@ -57,7 +60,7 @@ fn carry_out_other<R: Wait>(
     ghost past: { Past }
     requires table { seat.old.table ≡ site.now.table.now }
     requires late { IsLate (instruction_of instr.now) }
-    requires other { is_call (instruction_of instr.now) ≡ false }
+    requires other { goes_by_looks (instruction_of instr.now) ≡ false }
     requires done { HasDone past (progress_of progress.old) progress.old.tree seat.old.view }
     ensures table { seat.new.table ≡ seat.old.table }
     ensures longer { AreLonger seat.old.view seat.new.view }
@@ -80,7 +83,6 @@ fn carry_out_other<R: Wait>(
             do_plain(progress, rt, site, seat, Plain::Start, names);
             Ok(())
         }
-        Instr::Remove(purging) => remove(progress, rt, site, seat, purging),
         Instr::Purge(_) => Ok(()),
         Instr::RestartEmulator => Ok(()),
         _ => unreachable!(),

@@ -1,11 +1,11 @@
 //! `remove`: a module isn't loaded any more.
 ghost use Rattle.std.specs.Prelude.{◌≡◌, ◌||◌, false};
 ghost use Rattle.held_processes.specs.Following.{AllFollow, AreLonger, Followed};
-ghost use Rattle.held_processes.specs.Operations.{uses_up, modules_by_slot, values_seen};
+ghost use Rattle.held_processes.specs.Operations.{AreLookedAt, uses_up, modules_by_slot, values_seen};
 ghost use Rattle.relup_instruction.specs.Instruction.{purging_of};
 ghost use Rattle.relup_instruction.specs.Instruction.Instruction.{remove};
 ghost use Rattle.script_progress.specs.InMemory.{site_of};
-ghost use Rattle.script_progress.specs.Steps.{CarriesOut, HasDone, Past, progress_of};
+ghost use Rattle.script_progress.specs.Steps.{CarriesOut, GoesByLooks, HasDone, Past, on_no_child, progress_of};
 ghost use Rattle.script_progress.specs.Tree.{supervises};
 
 use held_processes::Users;
@@ -29,6 +29,8 @@ pub(crate) fn remove<R: Wait>(
     ensures longer { AreLonger seat.old.view seat.new.view }
     ensures carried { CarriesOut (site_of site.now) past false (remove (purging_of purging.now))
         result (progress_of progress.new) progress.new.tree seat.old.view seat.new.view }
+    ensures looked { GoesByLooks past (remove (purging_of purging.now)) (on_no_child result)
+        seat.old.view seat.new.view }
 {
     if is_in_use(progress, rt, site, seat, purging) {
         return Err(failure_at_start(Cause::InUse));
@@ -54,6 +56,9 @@ fn is_in_use<R: Wait>(
         || uses_up (values_seen seat.new.view) (modules_by_slot progress.now.tree)
         (purging_of purging.now).name followed.courses) }
     ensures follow { AllFollow followed.first followed.courses progress.now.held seat.new.view }
+    ensures looked { supervises (purging_of purging.now).name progress.now.tree ≡ false
+        → AreLookedAt (modules_by_slot progress.now.tree) (purging_of purging.now).name
+        followed.courses seat.old.view seat.new.view }
 {
     let users = Users {
         tree: &progress.tree,

@@ -2,7 +2,7 @@ use Rattle.std.proofs.Common.{◌≡◌, Some, None, ap, sym, subst, ◌∙◌}
 use Rattle.std.specs.Option.{option_copied}
 use Rattle.std.specs.Result.{IfOk}
 use Rattle.rel_list.specs.Keyed.{entry_of}
-use Rattle.node_processes.specs.Fresh.{fresh, fresh_entry, running_entry}
+use Rattle.node_processes.specs.Fresh.{fresh_processes, fresh_entry, running_entry}
 use Rattle.node_start.specs.Running.{started_in}
 use Rattle.node_processes.specs.Processes.{Processes}
 use Rattle.node_start.proofs.RunningLemmas.{running_is, startable_so, fresh_behind}
@@ -31,10 +31,10 @@ returns-in-Some-clause-fresh g c =
     let found : running_entry c.in-Ok.list.now ≡ Some (entry_of c.in-Some.listed.now) =
     running_is c.releases.result.now c.in-Ok.list.now (Some c.in-Some.listed.now) c.releases.ensures.entries (sym (ap option_copied c.in-Some.is) ∙ c.running_of.ensures) in
     let behind = fresh_behind c.as_slice.result.now c.as_slice-in-Some.result.now c.in-Some.listed.now c.in-Ok.list.now c.as_slice.ensures.value c.as_slice-in-Some.ensures.value found in
-    subst (λ (f : Processes). IfOk c.start_release.result (λ s. started_in s c.start_release.new.seat.view ≡ f)) (behind ∙ ap fresh c.in-Ok.ensures.releases.1) c.start_release.ensures.fresh
+    subst (λ (f : Processes). IfOk c.start_release.result (λ s. started_in s c.start_release.new.seat.view ≡ f)) (behind ∙ ap fresh_processes c.in-Ok.ensures.releases.1) c.start_release.ensures.fresh
 
 pub returns-in-None-clause-fresh : goal.returns-in-None-clause-fresh
 returns-in-None-clause-fresh g c =
     let found : running_entry c.in-Ok.list.now ≡ None =
     running_is c.releases.result.now c.in-Ok.list.now None c.releases.ensures.entries (sym (ap option_copied c.in-None.is) ∙ c.running_of.ensures) in
-    subst (λ (f : Processes). IfOk c.start_release-in-None.result (λ s. started_in s c.start_release-in-None.new.seat.view ≡ f)) (sym (ap fresh_entry found) ∙ ap fresh c.in-Ok.ensures.releases.1) c.start_release-in-None.ensures.fresh
+    subst (λ (f : Processes). IfOk c.start_release-in-None.result (λ s. started_in s c.start_release-in-None.new.seat.view ≡ f)) (sym (ap fresh_entry found) ∙ ap fresh_processes c.in-Ok.ensures.releases.1) c.start_release-in-None.ensures.fresh

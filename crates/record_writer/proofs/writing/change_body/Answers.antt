@@ -18,4 +18,4 @@ returns-clause-spells c =
     c.requires.listed c.requires.allowed c.requires.versions c.body_of.ensures.read_back
 
 pub returns-clause-reports : goal.returns-clause-reports
-returns-clause-reports c = where_ok c.body_of.result (reported_by_record (event_of c.args.event.now) c.args.list.now c.releases-releases.ensures.distinct c.requires.listed)
+returns-clause-reports c = where_ok c.body_of.result (reported_by_record (event_of c.args.event.now) c.args.list.now (record { distinct = c.releases-releases.ensures.distinct; one_temporary = c.releases-releases.ensures.one_temporary }) c.requires.listed)

@@ -7,9 +7,9 @@ use Rattle.script_progress.specs.Apps.{CallsApp}
 use Rattle.script_progress.specs.Calls.{AppCall, ChildCall}
 use Rattle.script_progress.specs.Children.{CallsChild}
 use Rattle.script_progress.specs.InMemory.{site_of}
-use Rattle.script_progress.specs.Steps.{CarriesOutLate, progress_of}
+use Rattle.script_progress.specs.Steps.{CarriesOutLate, GoesByLooks, progress_of}
 use Rattle.script_progress.specs.Stops.{AsksMemory, app_takes_memory}
-use Rattle.script_progress.proofs.CallLemmas.{app_called, child_called, other_raises, raised}
+use Rattle.script_progress.proofs.CallLemmas.{app_called, child_called, child_looked, no_child_called, no_child_raised, other_raises, raised}
 use Rattle.script_progress.proofs.calls.apply.Goals as goal
 
 pub returns-in-application-clause-carried : goal.returns-in-application-clause-carried
@@ -35,3 +35,22 @@ returns-in_default-clause-carried g c =
     let call = call_of c.args.call.now in
     raised (site_of c.args.site.now) g.past call c.raise.result (progress_of c.args.progress.now) c.args.progress.now.tree c.args.seat.now.view c.requires.1.1.1
     (other_raises call c.requires.1.1.0 (λ is. c.in_default.not-application (c.as_str.ensures.value ∙ is)) (λ is. c.in_default.not-supervisor (c.as_str.ensures.value ∙ is))) c.raise.ensures
+
+pub returns-in-application-clause-looked : goal.returns-in-application-clause-looked
+returns-in-application-clause-looked g c =
+    let w = c.call_app.new in
+    subst (λ (r : Result Bool Failure). GoesByLooks g.past (apply (call_of c.args.call.now)) r c.args.seat.now.view w.seat.view) (sym c.on_no_child.ensures)
+    (no_child_called g.past (call_of c.args.call.now) c.call_app.result c.args.seat.now.view w.seat.view (ap (λ (n : List ℕ). bytes_eq n (codes "application")) (sym c.as_str.ensures.value ∙ c.in-application.is)))
+
+pub returns-in-supervisor-clause-looked : goal.returns-in-supervisor-clause-looked
+returns-in-supervisor-clause-looked g c =
+    let w = c.call_child.new in
+    child_looked (site_of c.args.site.now) g.past (call_of c.args.call.now) c.call_child.result (progress_of w.progress) w.progress.tree c.args.seat.now.view w.seat.view
+    (ap (λ (n : List ℕ). bytes_eq n (codes "supervisor")) (sym c.as_str.ensures.value ∙ c.in-supervisor.is))
+    (subst (λ (k : ChildCall). CallsChild g.past k c.call_child.result (progress_of w.progress) w.progress.tree c.args.seat.now.view w.seat.view) c.child_call.ensures c.call_child.ensures.called)
+
+pub returns-in_default-clause-looked : goal.returns-in_default-clause-looked
+returns-in_default-clause-looked g c =
+    let call = call_of c.args.call.now in
+    no_child_raised g.past call c.raise.result c.args.seat.now.view
+    (other_raises call c.requires.1.1.0 (λ is. c.in_default.not-application (c.as_str.ensures.value ∙ is)) (λ is. c.in_default.not-supervisor (c.as_str.ensures.value ∙ is)))

@@ -5,3 +5,6 @@ ghost-apply g a = g.past
 
 abbrev pub ghost-carry_out_other : goal.ghost-carry_out_other
 ghost-carry_out_other g a = g.past
+
+abbrev pub ghost-remove : goal.ghost-remove
+ghost-remove g a = g.past

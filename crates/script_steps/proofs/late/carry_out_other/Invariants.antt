@@ -8,6 +8,3 @@ ghost-load g a = g.past
 
 abbrev pub ghost-do_plain : goal.ghost-do_plain
 ghost-do_plain g a = g.past
-
-abbrev pub ghost-remove : goal.ghost-remove
-ghost-remove g a = g.past

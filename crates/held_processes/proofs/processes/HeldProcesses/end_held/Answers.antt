@@ -1,4 +1,4 @@
-use Rattle.std.proofs.Common.{◌∙◌, ap, sym}
+use Rattle.std.proofs.Common.{◌∙◌, ap, refl, sym}
 use Rattle.std.specs.Option.{option_copied, option_map}
 use Rattle.started_members.specs.declared.member.StartedProcess.{StartedProcess}
 use Rattle.held_processes.specs.declared.children.HeldEnd.TheVariants.{Stays, GivenUp, NotHeld}
@@ -15,7 +15,7 @@ returns-in-Some-true-clause-ended g c =
     let f = c.requires.1 in
     let so = held_so (cs q.pid.slot).hold c.in-Some-true.field-0 (held_stays c.args.stay q.pid (values_seen v) cs) (sym c.in-Some-true.is ∙ c.held_stays.ensures g.followed.first cs v f) in
     ends_held g.followed.first c.args.stay cs v Stays c.args.self.now v c.args.members.now c.in-Some.member.now q (sym c.first.ensures.value ∙ ap option_copied c.in-Some.is)
-    (sym c.process.ensures ∙ ap (option_map (λ p. p.now)) c.in-Some-process.is) (sym so.1 ∙ c.in-Some-true.field-0-test, f)
+    (sym c.process.ensures ∙ ap (option_map (λ p. p.now)) c.in-Some-process.is) (sym so.1 ∙ c.in-Some-true.field-0-test, so.0, f, refl)
 
 pub returns-in-Some-false-clause-ended : goal.returns-in-Some-false-clause-ended
 returns-in-Some-false-clause-ended g c =
@@ -34,4 +34,4 @@ returns-in-None-clause-ended g c =
     let f = c.requires.1 in
     ends_held g.followed.first c.args.stay cs v NotHeld c.args.self.now v c.args.members.now c.in-Some.member.now q (sym c.first.ensures.value ∙ ap option_copied c.in-Some.is)
     (sym c.process.ensures ∙ ap (option_map (λ p. p.now)) c.in-Some-process.is)
-    (free_so (cs q.pid.slot).hold (held_stays c.args.stay q.pid (values_seen v) cs) (sym c.in-None.is ∙ c.held_stays.ensures g.followed.first cs v f), f)
+    (free_so (cs q.pid.slot).hold (held_stays c.args.stay q.pid (values_seen v) cs) (sym c.in-None.is ∙ c.held_stays.ensures g.followed.first cs v f), f, refl)

@@ -1,7 +1,7 @@
 use Rattle.std.proofs.Common.{rules, refl, sym, subst, Err}
 use Rattle.rel_session.specs.InMemory.{AnswersAction}
 use Rattle.rel_session.specs.Node.{Place, Reply}
-use Rattle.rel_session.specs.Transition.{Acts, StopsWithin}
+use Rattle.rel_session.specs.Transition.{Acts, BootsStore, StopsWithin}
 use Rattle.rel_session.specs.Transition.Action.{reboots_node}
 use Rattle.rel_session.specs.declared.place.Place.TheVariants as memory
 use Rattle.node_command.specs.declared.error.HandlerError.TheVariants as handler_error
@@ -42,7 +42,7 @@ returns-in-Err-clause-rebooted g c =
     let Stops : Place → Reply → Type 0 = λ p a. StopsWithin p (reboots_node vsn) a in
     stops_from_there g.D.Disk laws Does Stops (Err c.in-Err.error) c.args.self (memory.Made n) (memory.Made new) c.in-Made.is
     (never_stops g.D.Disk laws Does Stops (Err c.in-Err.error) (memory.Made n) (memory.Made new)
-    (commits_none g.D.Disk laws Does n (search rules) (rebooting vsn) (change_size (rebooting vsn)) (IsRebooted vsn) (λ events extent ps a after is. is) new refl c.in-Err.ensures.commits c.in-Err.error c.in-Err.ensures.refused))
+    (commits_none g.D.Disk laws Does n (search rules) (rebooting vsn) (change_size (rebooting vsn)) (IsRebooted BootsStore vsn) (λ events extent ps a after is. is) new refl c.in-Err.ensures.commits c.in-Err.error c.in-Err.ensures.refused))
 
 -- it was, and the node was booted
 pub returns-in-Ok-clause-rebooted : goal.returns-in-Ok-clause-rebooted

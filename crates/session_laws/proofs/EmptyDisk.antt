@@ -1,0 +1,111 @@
+-- A session on an empty disk.
+use Rattle.std.proofs.Common.{Option, None, Some, ◌≡◌, ◌≢◌, ◌⊎◌, inl, inr, ⊎_elim, ℕ, true, false, List, [], ◌∷◌, ◌++◌, refl, sym, ap, ◌∙◌, subst, append_assoc}
+use Rattle.rel_list.specs.Releases.{Bundle}
+use Rattle.rel_list.specs.Event.Event.{made, boot as booting}
+use Rattle.session_input.specs.Commands.{Command}
+use Rattle.rel_session.specs.Device.{Device}
+use Rattle.session_input.specs.Feed.{Feed}
+use Rattle.node_command.specs.Files.{bundle_brought, made_size}
+use Rattle.node_command.specs.Place.{own_refusal}
+use Rattle.rel_unpack.specs.Refusal.{Refusal}
+use Rattle.rel_unpack.specs.Unpacking.{Brought}
+use Rattle.rel_unpack.specs.Source.{Source}
+use Rattle.rel_session.specs.Files.{Files, files_behind, source_of}
+use Rattle.rel_session.specs.Node.{Place, at_rest, Reply}
+use Rattle.rel_session.specs.Node.Place.{raw}
+use Rattle.rel_session.specs.Run.{Executes, MayLeave, Replies, Ending}
+use Rattle.session_laws.specs.RunLaws.{acknowledged_at, BecomesKnown, NoneFails, NoneAcknowledged, BeginsWithAMaking}
+use Rattle.rel_session.specs.Transition
+use Rattle.rel_session.specs.Transition.Action.{answers, makes_node, changes_node, installs, reboots_node, boots_node, reports_start, calls}
+use Rattle.session_laws.proofs.AcknowledgedEvents.{first_answered, loses_nothing}
+use Rattle.rel_session.proofs.DeviceLemmas.{IsDevice}
+use Rattle.rel_session.proofs.StoppedReplies.{or_not}
+use Rattle.session_laws.proofs.Transitions.{rest_acknowledged}
+
+-- A reply on an empty disk leaves it empty, or the device failed, or a release was made.
+pub record IsMade (a : Reply) : Type 0 where
+  pub bundle : Bundle
+  pub acknowledged : a.outcome.acknowledged ≡ made bundle ∷ booting ∷ []
+  pub after : acknowledged_at a.after ≡ made bundle ∷ booting ∷ []
+
+abbrev OnEmpty : Reply → Type 0
+OnEmpty a = ((a.outcome.acknowledged ≡ []) × ((a.after ≡ raw []) ⊎ (a.outcome.failed ≡ true))) ⊎ IsMade a
+
+on_empty_as : (a b : Reply) → a ≡ b → OnEmpty b → OnEmpty a
+on_empty_as a b is of = subst OnEmpty (sym is) of
+
+makes_with : (p : Bundle) (size : ℕ) (why : Option Refusal) (a : Reply) → Transition.MakesWith [] p size why a → OnEmpty a
+makes_with p size (Some why) a is = on_empty_as a _ is (inl (refl, inl refl))
+makes_with p size None a (inl (fits, is)) = on_empty_as a _ is (inr (record { bundle = p; acknowledged = refl; after = refl }))
+makes_with p size None a (inr (over_it, is)) = on_empty_as a _ is (inl (refl, inl refl))
+
+makes_fails : (p : Bundle) (why : Option Refusal) (a : Reply) → Transition.FailsToMake [] p why a → OnEmpty a
+makes_fails p (Some why) a is = on_empty_as a _ is (inl (refl, inl refl))
+makes_fails p None a (torn, kept, is) = on_empty_as a _ is (inl (refl, inr refl))
+
+makes : (b : Brought) (a : Reply) → Transition.MakesNode (raw []) b a → OnEmpty a
+makes b a (inl is) = makes_with (bundle_brought b) (made_size b) (own_refusal b) a is
+makes b a (inr is) = makes_fails (bundle_brought b) (own_refusal b) a is
+
+boots : (a : Reply) → Transition.BootsBytes [] a → OnEmpty a
+boots a (inl (events, list, extent, after, image, is)) = cc image.image_of.store
+boots a (inr (inl (why, reported, is))) = on_empty_as a _ is (inl (refl, inl refl))
+boots a (inr (inr (torn, is))) = on_empty_as a _ is (inl (refl, inr refl))
+
+acts : (does : Transition.Action) (a : Reply) → Transition.ActsWith Transition.BootsOrNot (raw []) does a → OnEmpty a
+acts (answers text) a is = on_empty_as a _ is (inl (refl, inl refl))
+acts (makes_node found) a is = makes found a is
+acts (changes_node change) a is = on_empty_as a _ is (inl (refl, inl refl))
+acts (installs vsn) a is = on_empty_as a _ is (inl (refl, inl refl))
+acts (reboots_node vsn) a is = on_empty_as a _ is (inl (refl, inl refl))
+acts boots_node a is = boots a is
+acts reports_start a is = on_empty_as a _ is (inl (refl, inl refl))
+acts (calls c) a is = on_empty_as a _ is (inl (refl, inl refl))
+
+-- where its node is lost too
+without_node : (b : Reply) → OnEmpty b → OnEmpty (Transition.without_node b)
+without_node b (inl (none, inl there)) = inl (none, inl (ap at_rest there))
+without_node b (inl (none, inr failed)) = inl (none, inr failed)
+without_node b (inr of) = inr (record { bundle = of.bundle; acknowledged = of.acknowledged; after = rest_acknowledged b.after ∙ of.after })
+
+stops : (does : Transition.Action) (a : Reply) → Transition.StopsWithin (raw []) does a → OnEmpty a
+stops does a (b, is, lost) = on_empty_as a _ lost (without_node b (acts does b is))
+
+left_on_empty : (source : Source) (p : Place) (c : Command) (a : Reply) → p ≡ raw [] → MayLeave source p c a → OnEmpty a
+left_on_empty source p c a empty (inl (does, comes, is)) = acts does a (or_not (raw []) does a (subst (λ q. Transition.Acts q does a) empty is))
+left_on_empty source p c a empty (inr (does, comes, stopped)) = stops does a (subst (λ q. Transition.StopsWithin q does a) empty stopped)
+
+-- where it was left empty
+still_empty : (a : Reply) → OnEmpty a → a.outcome.failed ≡ false → a.outcome.acknowledged ≡ [] → a.after ≡ raw []
+still_empty a (inl (none, inl there)) works nothing = there
+still_empty a (inl (none, inr failed)) works nothing = let lost : true ≡ false = sym failed ∙ works in absurd cc
+still_empty a (inr of) works nothing = let lost : made of.bundle ∷ booting ∷ [] ≡ [] = sym of.acknowledged ∙ nothing in absurd cc
+
+-- the first reply that acknowledges an event
+first_event : (base : Source) (files : Files) (p : Place) (commands : Feed Command) (ending : Ending) (first : List Reply) (a : Reply) (rest : List Reply) → p ≡ raw []
+    → Replies base files p commands ending (first ++ a ∷ rest) → NoneFails first → NoneAcknowledged first → a.outcome.acknowledged ≢ [] → IsMade a
+first_event base files p commands ending [] a rest empty right works none some =
+    let n = first_answered base files p commands ending a rest right in
+    ⊎_elim (λ (nothing : (a.outcome.acknowledged ≡ []) × ((a.after ≡ raw []) ⊎ (a.outcome.failed ≡ true))). absurd (some nothing.0)) (λ (of : IsMade a). of)
+    (left_on_empty (source_of base files) p n.command a empty n.is)
+first_event base files p commands ending (b ∷ first) a rest empty right (worked, works) (nothing, none) some =
+    let n = first_answered base files p commands ending b (first ++ a ∷ rest) right in
+    let there = still_empty b (left_on_empty (source_of base files) p n.command b empty n.is) worked nothing in
+    first_event base (files_behind files n.command) b.after n.rest ending first a rest there n.right works none some
+
+-- the store is known behind such a reply
+becomes_known : (p : Place) (first : List Reply) (a : Reply) → a.outcome.acknowledged ≢ [] → BecomesKnown p (first ++ a ∷ [])
+becomes_known p [] a some = inl (inr some)
+becomes_known p (b ∷ first) a some = inr (becomes_known b.after first a some)
+
+module _ {D : Type 0} (v : Device D) (laws : IsDevice v) where
+  pub begins_with_a_making : (base : Source) → BeginsWithAMaking v base
+  begins_with_a_making base files commands ending first a rest old new right empty leads works none some =
+      let of = first_event base files (raw []) commands ending first a rest refl right works none some in
+      let same : first ++ a ∷ rest ≡ (first ++ a ∷ []) ++ rest = sym (append_assoc first (a ∷ []) rest) in (
+        of.bundle,
+        of.acknowledged,
+        of.after,
+        loses_nothing v laws base files (raw []) commands ending (first ++ a ∷ []) rest old new (subst (Replies base files (raw []) commands ending) same right) empty
+            (subst (λ l. Executes v (raw []) l old new) same leads) (becomes_known (raw []) first a some),
+      )

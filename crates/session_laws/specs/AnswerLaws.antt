@@ -1,0 +1,271 @@
+-- What is so of the answers of whole sessions.
+use Rattle.std.specs.Prelude.{◌≡◌, ◌≢◌, ◌⊎◌, Bool, true, false, ℕ, List, [], ◌∷◌, ◌++◌, None, Some}
+use Rattle.std.specs.List.{AllByRecursion}
+use Rattle.erl_term.specs.Lines.{is_one_line}
+use Rattle.erl_term.specs.Value.{Value}
+use Rattle.rel_files.specs.File.{HasVersions}
+use Rattle.library.specs.Library.{IsLibrary}
+use Rattle.rel_list.specs.Releases.{Bundle, Entry, Releases, bundle_in, has_current}
+use Rattle.rel_list.specs.Event.{Event, booted, list_after}
+use Rattle.rel_list.specs.Event.Event.{restart_installed, boot as booting}
+use Rattle.node_processes.specs.ModuleVersions.{HaveModuleVersions}
+use Rattle.node_store.specs.Compaction.{compacted}
+use Rattle.node_store.specs.Image.{holds_a_store, IsImageOf}
+use Rattle.rel_handler.specs.Refusals.{IsBootRefusal}
+use Rattle.rel_handler.specs.declared.error.BootError.{BootError}
+use Rattle.rel_handler.specs.declared.error.BootError.TheVariants as boot_error
+use Rattle.node_store.specs.Events.{Events, Stored, at_rest_since, BeginWith}
+use Rattle.session_input.specs.Commands.{Command}
+use Rattle.session_input.specs.Commands.Command.{create, set_unpacked, relup}
+use Rattle.relup_command.specs.Answer.{AreLinePaths}
+use Rattle.rel_session.specs.Device.{Device, HasFailed}
+use Rattle.session_input.specs.Feed.{Feed}
+use Rattle.session_input.specs.Feed.Feed.{next}
+use Rattle.rel_unpack.specs.Source.{Source, GivesOne, GivesEach}
+use Rattle.rel_session.specs.Files.{Files}
+use Rattle.node_answer.specs.Lines.{installed_text}
+use Rattle.rel_session.specs.Node.{Place, Reply, releases_after}
+use Rattle.rel_session.specs.Node.Place.{raw, closed, running, dead}
+use Rattle.node_answer.specs.Refusals.{refusal_line}
+use Rattle.rel_session.specs.Booting.{boot_line}
+use Rattle.node_answer.specs.Refusals.NodeRefusal.{device, full}
+use Rattle.rel_session.specs.Run.{EndsInFull, Starts, Holds, Executes, Replies, Ending, answers_of, commands_in, events_of, IsRun}
+use Rattle.session_laws.specs.RunLaws.{MayBe, NoneFails}
+use Rattle.rel_session.specs.Transition.{Transition}
+
+-- none of the replies leaves an event in doubt
+abbrev pub NoneInDoubt : List Reply → Type 0
+NoneInDoubt [] = Unit {0}
+NoneInDoubt (a ∷ more) = (a.outcome.in_doubt ≡ None) × NoneInDoubt more
+
+-- Where the disk's count of failures did not rise, none of the replies is a failure, and nothing is in doubt.
+abbrev pub FailsOnlyWithTheDevice : {D : Type 0} → Device D → Source → Type 0
+FailsOnlyWithTheDevice {D} v base =
+    (files : Files) (p : Place) (commands : Feed Command) (ending : Ending) (replies : List Reply) (old new : D)
+    → Replies base files p commands ending replies → Executes v p replies old new → (HasFailed v old new → ⊥)
+    → NoneFails replies × NoneInDoubt replies
+
+-- that the device failed in the boot behind an installation, whose own line stands before that
+abbrev pub ReportsBootFailureBehind : List ℕ → Type 0
+ReportsBootFailureBehind answer =
+    (other : List ℕ) × (descr : Value) × (stale : List (List ℕ))
+    × (answer ≡ installed_text other descr stale ++ boot_line boot_error.Device)
+
+-- that the device failed, in a command or in a boot
+abbrev pub ReportsFailure : List ℕ → Type 0
+ReportsFailure answer =
+    (answer ≡ refusal_line device) ⊎ ((answer ≡ boot_line boot_error.Device) ⊎ ReportsBootFailureBehind answer)
+
+-- The answer of a reply with an event in doubt reports that the device failed.
+abbrev pub ReportsDoubt : Source → Type 0
+ReportsDoubt source =
+    (p : Place) (c : Command) (a : Reply) (e : Event)
+    → Transition source p c a → a.outcome.in_doubt ≡ Some e
+    → (a.outcome.failed ≡ true) × ReportsFailure a.answer
+
+-- Nothing is in doubt of the store, and its start record was last right behind some of its events.
+abbrev pub HasNoDoubt : Stored → Type 0
+HasNoDoubt s = (s ≡ at_rest_since s.known.ran s.known.acknowledged s.extent) × BeginWith s.known.ran s.known.acknowledged
+
+-- A device that does not fail leaves no choice there: bytes, or a store with nothing in doubt.
+abbrev pub IsCertain : Place → Type 0
+IsCertain (raw bytes) = Unit {0}
+IsCertain (closed s) = HasNoDoubt s
+IsCertain (running events extent ps) = Unit {0}
+IsCertain (dead s) = HasNoDoubt s
+
+-- The store of a node is as short as a compaction leaves it.
+abbrev pub IsCompact : Place → Type 0
+IsCompact (running events extent ps) = extent ≡ compacted extent (releases_after events)
+IsCompact p = Unit {0}
+
+-- one of these events has a record behind which a long store is compacted: each has but a boot
+abbrev pub HaveRecord : Events → Type 0
+HaveRecord [] = ⊥
+HaveRecord (booting ∷ events) = HaveRecord events
+HaveRecord (e ∷ events) = Unit {0}
+
+-- a boot has started a one-shot there, for which the store wasn't compacted
+abbrev pub RunsOneShot : Place → Type 0
+RunsOneShot (running events extent ps) = has_current (releases_after events) ≡ true
+RunsOneShot p = ⊥
+
+-- Where these events were committed, such a store was left; behind a restart, unless its boot has started a one-shot.
+abbrev pub LeavesCompactStore : Events → Place → Type 0
+LeavesCompactStore (restart_installed v ∷ events) p = RunsOneShot p ⊎ IsCompact p
+LeavesCompactStore events p = HaveRecord events → IsCompact p
+
+-- So each command did: memory was refused to no compaction.
+abbrev pub LeaveCompactStores : List Reply → Type 0
+LeaveCompactStores [] = Unit {0}
+LeaveCompactStores (a ∷ more) = LeavesCompactStore a.outcome.acknowledged a.after × LeaveCompactStores more
+
+-- the same answers, and the same events, acknowledged and in doubt
+abbrev pub AreSame : List Reply → List Reply → Type 0
+AreSame [] [] = Unit {0}
+AreSame (a ∷ first) (b ∷ second) = (a.answer ≡ b.answer) × (a.outcome ≡ b.outcome) × AreSame first second
+AreSame first second = ⊥
+
+-- Where neither the device fails nor memory is refused to a compaction, and a read of a file has one answer, all the commands of
+-- an input have one answer each, and the session one ending, where it came to its end.
+abbrev pub HaveOneAnswer : Source → Type 0
+HaveOneAnswer base =
+    GivesOne base → (files : Files) (p : Place) (commands : Feed Command) (a b : Ending) (first second : List Reply)
+    → IsCertain p → EndsInFull a → EndsInFull b → NoneFails first → NoneFails second
+    → LeaveCompactStores first → LeaveCompactStores second
+    → Replies base files p commands a first → Replies base files p commands b second → (a ≡ b) × AreSame first second
+
+-- So sessions over the same commands from one place, in which neither was, have written the same text, on whatever disks.
+abbrev pub HaveOneText : {D : Type 0} → Device D → Source → Type 0
+HaveOneText {D} v base =
+    GivesOne base → (files : Files) (p : Place) (commands : Feed Command) (a b : Ending) (old new other later : D) (text written : List ℕ)
+    → IsCertain p → EndsInFull a → EndsInFull b → (HasFailed v old new → ⊥) → (HasFailed v other later → ⊥)
+    → (run : IsRun v base files p commands a old new text) (again : IsRun v base files p commands b other later written)
+    → LeaveCompactStores run.replies → LeaveCompactStores again.replies
+    → (a ≡ b) × (text ≡ written)
+
+-- A store with nothing in doubt, whose list a boot leads to this one.
+abbrev pub StoreBootsTo : Stored → Releases → Type 0
+StoreBootsTo s list =
+    HasNoDoubt s × ((before : Releases) × (list_after s.known.acknowledged ≡ Some before) × (booted before ≡ list))
+
+-- No node runs there, and a boot leads to this list.
+abbrev pub BootsTo : Place → Releases → Type 0
+BootsTo (raw bytes) list = (before : Releases) × IsImageOf bytes before × (booted before ≡ list)
+BootsTo (closed s) list = StoreBootsTo s list
+BootsTo (running events extent ps) list = ⊥
+BootsTo (dead s) list = StoreBootsTo s list
+
+-- A boot refuses the bytes of both disks by the same line, and a node may be made on both or on neither.
+abbrev pub AreRefusedAlike : Place → Place → Type 0
+AreRefusedAlike (raw x) (raw y) =
+    (why other : BootError) × IsBootRefusal x why × IsBootRefusal y other × (boot_line why ≡ boot_line other)
+    × (holds_a_store x ≡ holds_a_store y)
+AreRefusedAlike p q = ⊥
+
+-- No node runs there, and a boot leads to one list on both disks, or is refused alike. Their bytes, their events and how far their
+-- stores reach may differ.
+abbrev pub HaveOneList : Place → Place → Type 0
+HaveOneList p q = ((list : Releases) × BootsTo p list × BootsTo q list) ⊎ AreRefusedAlike p q
+
+-- none of the answers is that a record does not fit
+abbrev pub NoneIsFull : List Reply → Type 0
+NoneIsFull [] = Unit {0}
+NoneIsFull (a ∷ more) = (a.answer ≢ refusal_line full) × NoneIsFull more
+
+-- Where the device does not fail, no record is too large for what is left of a store, and a read of a file has one answer, the
+-- list of a disk decides what is answered, with which events, and how the session ends.
+abbrev pub ListDecidesAnswers : Source → Type 0
+ListDecidesAnswers base =
+    GivesOne base → (files : Files) (p q : Place) (commands : Feed Command) (a b : Ending) (first second : List Reply)
+    → HaveOneList p q → EndsInFull a → EndsInFull b → NoneFails first → NoneFails second → NoneIsFull first → NoneIsFull second
+    → Replies base files p commands a first → Replies base files q commands b second → (a ≡ b) × AreSame first second
+
+-- the line that reports that a record does not fit stands nowhere in the text
+abbrev pub HasNoFull : List ℕ → Type 0
+HasNoFull text = (front back : List ℕ) → text ≢ front ++ (refusal_line full ++ back)
+
+-- So two sessions over the same commands on disks with one list, of whatever kinds, have written the same text, where neither text
+-- has that line.
+abbrev pub ListDecidesText : {D E : Type 0} → Device D → Device E → Source → Type 0
+ListDecidesText {D} {E} v w base =
+    GivesOne base → (files : Files) (p q : Place) (commands : Feed Command) (a b : Ending) (old new : D) (other later : E)
+    (text written : List ℕ)
+    → HaveOneList p q → EndsInFull a → EndsInFull b → (HasFailed v old new → ⊥) → (HasFailed w other later → ⊥)
+    → HasNoFull text → HasNoFull written
+    → IsRun v base files p commands a old new text → IsRun w base files q commands b other later written
+    → (a ≡ b) × (text ≡ written)
+
+-- the events of the place have a list
+abbrev pub HasList : Place → Type 0
+HasList (raw bytes) = Unit {0}
+HasList (closed s) = (list : Releases) × (list_after s.known.acknowledged ≡ Some list)
+HasList (running events extent ps) = (list : Releases) × (list_after events ≡ Some list)
+HasList (dead s) = (list : Releases) × (list_after s.known.acknowledged ≡ Some list)
+
+-- The commands have answers in which neither the device fails nor memory is refused to a compaction.
+pub record HasAnswer (base : Source) (files : Files) (p : Place) (commands : Feed Command) : Type 0 where
+  pub ending : Ending
+  pub whole : EndsInFull ending
+  pub replies : List Reply
+  pub works : NoneFails replies
+  pub compact : LeaveCompactStores replies
+  pub right : Replies base files p commands ending replies
+
+-- Each input has such answers, where each read of a file has an answer.
+abbrev pub EachHasAnAnswer : Source → Type 0
+EachHasAnAnswer base =
+    GivesEach base → (files : Files) (p : Place) (commands : Feed Command)
+    → IsCertain p → HasList p → HasAnswer base files p commands
+
+-- the paths of a command that names some in its answer
+abbrev pub HasLinePath : Command → Type 0
+HasLinePath (create path) = is_one_line path ≡ true
+HasLinePath (set_unpacked path) = is_one_line path ≡ true
+HasLinePath (relup new ups downs) = (is_one_line new ≡ true) × AreLinePaths ups × AreLinePaths downs
+HasLinePath c = Unit {0}
+
+-- each path of these commands is one
+abbrev pub HaveLinePaths : Feed Command → Type 0
+HaveLinePaths (next c rest) = HasLinePath c × HaveLinePaths rest
+HaveLinePaths commands = Unit {0}
+
+-- a release that has the versions of a file, and libraries that are what files say
+abbrev pub IsFromFiles : Bundle → Type 0
+IsFromFiles p = HasVersions p.release × AllByRecursion IsLibrary p.libraries
+
+abbrev pub AreFromFiles : Releases → Type 0
+AreFromFiles list = AllByRecursion (λ (e : Entry). IsFromFiles (bundle_in e)) list
+
+-- each release of each list that the store there may have is such a one
+abbrev pub HasVersionsAt : Place → Type 0
+HasVersionsAt (raw bytes) = Unit {0}
+HasVersionsAt (closed s) =
+    (events : Events) (list : Releases) → MayBe s events → list_after events ≡ Some list → AreFromFiles list
+HasVersionsAt (running events extent ps) = (list : Releases) → list_after events ≡ Some list → AreFromFiles list
+HasVersionsAt (dead s) =
+    (events : Events) (list : Releases) → MayBe s events → list_after events ≡ Some list → AreFromFiles list
+
+-- the module of each process there has a version
+abbrev pub HasModuleVersionsAt : Place → Type 0
+HasModuleVersionsAt (running events extent ps) = HaveModuleVersions ps
+HasModuleVersionsAt p = Unit {0}
+
+-- one of these events is an installation that ends with a restart
+abbrev pub have_restart : Events → Bool
+have_restart [] = false
+have_restart (restart_installed v ∷ events) = true
+have_restart (e ∷ events) = have_restart events
+
+-- The same of these commands, one after another, installed with a restart, those whose event is in doubt too.
+abbrev pub RestartAlike : List Reply → List Reply → Type 0
+RestartAlike (a ∷ first) (b ∷ second) = (have_restart (events_of a.outcome) ≡ have_restart (events_of b.outcome)) × RestartAlike first second
+RestartAlike first second = Unit {0}
+
+-- A text determines one run, where a read of a file has one answer and it is known which installations end with a restart: two over
+-- the same commands that came to their end, whether the device fails or not, and which write the same have the same answers and
+-- the same events, acknowledged and in doubt, command by command. It has to be known: an installation with a restart answers the
+-- line of one without, and then a second line, which might be that of the next command; and a failure in its commit is reported as
+-- that of one without.
+abbrev pub DeterminesOneRun : Source → Type 0
+DeterminesOneRun base =
+    GivesOne base → (files : Files) (p : Place) (commands : Feed Command) (a b : Ending) (first second : List Reply)
+    → HasVersionsAt p → HasModuleVersionsAt p → HaveLinePaths commands → EndsInFull a → EndsInFull b → RestartAlike first second
+    → Replies base files p commands a first → Replies base files p commands b second → answers_of first ≡ answers_of second
+    → (a ≡ b) × AreSame first second
+
+-- The commands of an input have such paths.
+abbrev pub ReadsLinePaths : Type 0
+ReadsLinePaths = (input : List ℕ) → HaveLinePaths (commands_in input)
+
+-- A store with nothing in doubt has such versions.
+abbrev pub KeepsVersions : {D : Type 0} → Device D → Type 0
+KeepsVersions {D} v = (p : Place) (disk : D) → IsCertain p → Holds v p disk → HasVersionsAt p
+
+-- Where a session begins there are no processes, and each reply keeps the versions of the modules and of the releases.
+pub record RepliesKeepVersions {D : Type 0} (v : Device D) (source : Source) : Type 0 where
+  pub first : (p : Place) (disk : D) → Starts v p disk → HasModuleVersionsAt p
+  pub modules : (p : Place) (c : Command) (a : Reply)
+      → HasVersionsAt p → HasModuleVersionsAt p → Transition source p c a → HasModuleVersionsAt a.after
+  pub releases : (p : Place) (c : Command) (a : Reply)
+      → HasLinePath c → HasVersionsAt p → HasModuleVersionsAt p → Transition source p c a → HasVersionsAt a.after

@@ -1,0 +1,12 @@
+//! Laws of whole sessions: what follows from `IsSession`, the one statement that `session` of `rel_session` keeps, whatever body
+//! keeps it.
+//!
+//! [`events`]: no crash, and no number of sessions and crashes, loses an acknowledged event, or adds one that no command asked for;
+//! what is in doubt is reported as a failure, and nothing is in doubt where nothing fails (specs/RunLaws). [`answers`]: an input has
+//! one answer, the list of a disk decides what is answered, and a text determines the events of its session (specs/AnswerLaws).
+//!
+//! Nothing here runs: each function is a law, with its premises, and is proved of the definitions of `rel_session`.
+#![tactic(auto)]
+
+pub mod answers;
+pub mod events;

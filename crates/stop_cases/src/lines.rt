@@ -1,0 +1,24 @@
+//! The lines of an answer.
+use std::alloc::AllocError;
+use text_cases::Answer;
+
+/// What is appended where memory is refused to a call, before what the same call answers that is made again.
+pub(crate) const REFUSED: &str = "NoMemory, ";
+
+/// Appends lines, parted by strokes.
+pub(crate) fn push_lines(lines: &str, answer: &mut Answer) {
+    for (i, line) in lines.lines().enumerate() {
+        if i > 0 {
+            answer.push(" / ");
+        }
+        answer.push(line);
+    }
+}
+
+/// Appends lines that were made, if memory was there for them.
+pub(crate) fn push_made_lines(made: &Result<String, AllocError>, answer: &mut Answer) {
+    match made {
+        Ok(lines) => push_lines(lines.as_str(), answer),
+        Err(_) => answer.note_no_memory(),
+    }
+}
