@@ -1,5 +1,5 @@
-//! Laws of whole sessions: what follows from `IsSession`, the one statement that `session` of `rel_session` keeps, whatever body
-//! keeps it.
+//! Laws of whole sessions: what follows from the definitions by which `rel_session` says what a session does (`IsSession`), whatever
+//! body keeps them.
 //!
 //! [`events`]: no crash, and no number of sessions and crashes, loses an acknowledged event, or adds one that no command asked for;
 //! what is in doubt is reported as a failure, and nothing is in doubt where nothing fails (specs/RunLaws). [`answers`]: an input has
