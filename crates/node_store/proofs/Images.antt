@@ -10,7 +10,7 @@ use Rattle.rel_records.specs.Format.{allows}
 use Rattle.rel_records.specs.Lists.{assigned, MakesFrom, Makes}
 use Rattle.rel_records.specs.Writing.{record_of}
 use Rattle.rel_records.proofs.EventRecords.{one-recorded}
-use Rattle.rel_records.proofs.FormatLemmas.{allows_without, only_restarts_write_them, stands_so}
+use Rattle.rel_records.proofs.FormatLemmas.{allows_without, event_allowed_in_2, only_restarts_write_them, stands_so}
 use Rattle.rel_records.proofs.ListLemmas.{makes-push, makes_once}
 use Rattle.rel_records.proofs.RecordPlaces.{one_behind}
 use Rattle.rel_store.specs.Records.{records_of, StandsEither, space, records_or_none, end_of}
@@ -156,7 +156,7 @@ pub may_have : (format : ℕ) (e : Event) (es : Releases) → (makes_one_shot e 
 may_have format e es needs = go (makes_one_shot e) refl
   where
     go : (b : Bool) → makes_one_shot e ≡ b → allows format (record_of e es) ≡ true
-    go true is = subst (λ f. allows f (record_of e es) ≡ true) (sym (needs is)) refl
+    go true is = subst (λ f. allows f (record_of e es) ≡ true) (sym (needs is)) (event_allowed_in_2 e es)
     go false is = allows_without format (record_of e es) (only_restarts_write_them e es is)
 
 -- With the record of an event the store has the records of the list behind it.

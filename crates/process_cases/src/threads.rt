@@ -5,36 +5,50 @@ use crate::clients::push_peek;
 use crate::processes::begun;
 use proc_table::{HandlerSeat, Pass, Peeked, Pid, ProcTable, Tried};
 use std::alloc::Global;
-use std::sync::Wait;
+use std::sync::{Barrier, Wait};
 use std::thread;
 use std::thread::{Threads, join};
 use text_cases::{Answer, first_word};
 
-/// What a client was answered: how many of its calls were, the sum of the replies, and the last one.
+/// How often a client looks for each of its calls, at most.
+const MOST_LOOKS: u64 = 1_000_000;
+
+/// What a client was answered: how many of its calls were, the sum of the replies, and the last one. And whether it then saw the
+/// calls of both.
 #[derive(Clone, Copy)]
 struct Heard {
     answered: u32,
     sum: u64,
     last: u32,
+    saw_all: bool,
 }
 
 const NOTHING_HEARD: Heard = Heard {
     answered: 0,
     sum: 0,
     last: 0,
+    saw_all: false,
 };
 
-// A client calls a process so many times, and then looks until it was called twice as often in all.
-fn call_often<R: Wait>(rt: &R, table: &ProcTable, pass: Pass, pid: Pid, count: u32) -> Heard
+// A client starts with the other one, calls a process so many times, and then looks for twice as many calls in all.
+fn call_often<R: Wait>(
+    rt: &R,
+    table: &ProcTable,
+    start: &Barrier,
+    pass: Pass,
+    pid: Pid,
+    count: u32,
+) -> Heard
     requires { pass.table ≡ table.now }
 {
+    let _ = start.wait(rt);
     let mut pass = pass;
     let mut heard = NOTHING_HEARD;
     for _ in 0..count {
         let answer = table.call(rt, &mut pass, pid, 1);
         heard.note(answer);
     }
-    look_until(rt, table, pass, pid, count.saturating_mul(2));
+    heard.saw_all = sees_calls(table, pass, pid, count);
     heard
 }
 
@@ -51,19 +65,20 @@ impl Heard {
     }
 }
 
-// Looks until the process was called so often.
-fn look_until<R: Wait>(rt: &R, table: &ProcTable, pass: Pass, pid: Pid, in_all: u32)
+// Whether a client, behind so many calls of its own, sees those of both.
+fn sees_calls(table: &ProcTable, pass: Pass, pid: Pid, count: u32) -> bool
     requires { pass.table ≡ table.now }
 {
     let mut pass = pass;
-    for _ in rt.forever() {
+    for _ in 0..MOST_LOOKS.saturating_mul(count as u64) {
         if let Peeked::Seen(state) = table.try_peek(&mut pass, pid) {
-            if state == in_all {
-                break;
+            if state >= count.saturating_mul(2) {
+                return true;
             }
         }
         thread::yield_now();
     }
+    false
 }
 
 // The handler holds a process and lets it go so many times.
@@ -77,9 +92,10 @@ fn hold_often<R: Wait>(rt: &R, table: &ProcTable, seat: HandlerSeat, pid: Pid, c
     }
 }
 
-/// Two clients call a process so many times each, while the handler holds it and lets it go so many times. Then each looks until
-/// the calls of both are seen, so one thread alone can't do it. Appends how many calls of each were answered, the sum of all
-/// replies and the greatest, and what another client peeks then: numbers that don't depend on which call comes first.
+/// Two clients call a process so many times each, from one moment on, while the handler holds it and lets it go so many times.
+/// Then each looks for the calls of both, so one thread alone can't do it. Appends how many calls of each were answered, the sum
+/// of all replies and the greatest, whether both saw all calls, and what another client peeks then: numbers that don't depend on
+/// which call comes first.
 pub(crate) fn push_clients<R: Threads + Wait + Sync>(
     rt: &R,
     alloc: Global,
@@ -132,10 +148,11 @@ fn both_heard<R: Threads + Wait + Sync>(
     requires one { one.table ≡ table.now }
     requires two { two.table ≡ table.now }
 {
+    let start = Barrier::new(2);
     join(
         rt,
-        || call_often(rt, table, one, pid, calls),
-        || call_often(rt, table, two, pid, calls),
+        || call_often(rt, table, &start, one, pid, calls),
+        || call_often(rt, table, &start, two, pid, calls),
     )
 }
 
@@ -144,5 +161,9 @@ fn push_heard(one: Heard, two: Heard, answer: &mut Answer) {
     answer.push_counted(" and ", two.answered as u64);
     answer.push_counted(", sum ", one.sum.saturating_add(two.sum));
     answer.push_counted(", greatest ", one.last.max(two.last) as u64);
-    answer.push(", ");
+    answer.push(if one.saw_all && two.saw_all {
+        ", both saw all, "
+    } else {
+        ", one saw less, "
+    });
 }

@@ -1,5 +1,5 @@
 -- What an installation owes, wherever it ends.
-use Rattle.std.proofs.Common.{◌≡◌, inl, inr, ℕ, ◌+◌, Bool, true, false, List, Option, Some, None, Result, Ok, Err, refl, sym, ap, subst, ◌∙◌, arith}
+use Rattle.std.proofs.Common.{◌≡◌, inl, inr, ℕ, ◌+◌, Bool, true, false, List, Option, Some, None, Result, Ok, Err, refl, sym, ap, subst, ◌∙◌, arith, if◌then◌else◌}
 use Rattle.rel_disk.specs.declared.disk.Disk.{Ghosts}
 use Rattle.rel_list.specs.declared.fault.ListError.{ListError}
 use Rattle.rel_list.specs.declared.fault.ListError.TheVariants as of_list
@@ -7,7 +7,7 @@ use Rattle.rel_list.specs.Event.{Event, list_restarted, may_be_installed}
 use Rattle.rel_list.specs.Event.Event.{installed, restart_installed}
 use Rattle.rel_list.specs.Laws.{leaves_permanent, makes_one_shot}
 use Rattle.rel_list.specs.Refusal.{brings_release, refusal}
-use Rattle.rel_list.specs.Releases.{Releases, has_current, status_of}
+use Rattle.rel_list.specs.Releases.{Releases, has_current, has_one_shot, status_of}
 use Rattle.rel_list.proofs.OwnRules.{own_of_step}
 use Rattle.rel_records.specs.Writing.{IsOfListed}
 use Rattle.relup_script.specs.Script.{restarts}
@@ -91,9 +91,11 @@ installation_is_commanded restarts vsn es f is = list_allows (installation_event
 -- Where the bytes of its record's body and those behind it fit, there is room for the next boot.
 pub room_left : (restarts : Bool) (vsn : List ℕ) (es : Releases) (x : Extent) (size : ℕ) → HasSpace x (size + room_behind restarts vsn es) → LeavesBootSpace (installation_event restarts vsn) size x es
 room_left false vsn es x size fits = leaves_boot_space (installed vsn) refl size x es
-room_left true vsn es x size (short, ends) = λ next is one.
+room_left true vsn es x size fits = λ next is one.
     let (may, made) = passed (may_be_installed (has_current es) (status_of vsn es)) (Some (list_restarted vsn es)) next (own_of_step (restart_installed vsn) es next is).1 in
     let same : list_restarted vsn es ≡ next = cc in
+    let leaves : has_one_shot (list_restarted vsn es) ≡ true = ap has_one_shot same ∙ one in
+    let (short, ends) = subst (λ b. HasSpace x (size + (if b then 5 + boot_size (list_restarted vsn es) else 0))) leaves fits in
     subst (λ l. HasSpace (extent_behind x size) (boot_size l)) same (omega (arith, short), omega (arith, ends))
 
 pub room_for_body : (x : Extent) (size behind : ℕ) → HasSpace x (size + behind) → HasSpace x size

@@ -1,7 +1,7 @@
 -- What an installation answers, and what it leaves of the node (OTP: release_handler:install_release/1).
-use Rattle.std.specs.Prelude.{◌≡◌, ◌⊎◌, ℕ, ◌+◌, Bool, true, false, List, Result, Ok, Err}
+use Rattle.std.specs.Prelude.{◌≡◌, ◌⊎◌, ℕ, ◌+◌, Bool, true, false, List, if◌then◌else◌, Result, Ok, Err}
 use Rattle.rel_disk.specs.Moments.{HasFailed}
-use Rattle.rel_list.specs.Releases.{Releases}
+use Rattle.rel_list.specs.Releases.{Releases, has_one_shot}
 use Rattle.rel_list.specs.Event.{Event, list_restarted}
 use Rattle.rel_list.specs.Event.Event.{installed, restart_installed}
 use Rattle.relup_script.specs.Script.{restarts}
@@ -41,9 +41,10 @@ install_event vsn es = installation_event (needs_restart vsn es) vsn
 abbrev pub install_size : List ℕ → Releases → ℕ
 install_size vsn es = change_size (install_event vsn es) es
 
--- how many bytes have to fit behind that body: those of the next boot's record, where there is a restart
+-- How many bytes have to fit behind that body: those of the next boot's record, where a restart leaves a one-shot. A permanent
+-- release that is installed again with a restart leaves none.
 abbrev pub room_behind : Bool → List ℕ → Releases → ℕ
-room_behind true vsn es = 5 + boot_size (list_restarted vsn es)
+room_behind true vsn es = if has_one_shot (list_restarted vsn es) then 5 + boot_size (list_restarted vsn es) else 0
 room_behind false vsn es = 0
 
 -- how many bytes have to fit in all

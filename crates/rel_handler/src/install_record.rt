@@ -3,9 +3,10 @@ ghost use Rattle.std.specs.Prelude.{◌≡◌, IfOk, None, length, string_bytes}
 ghost use Rattle.node_command.specs.Taking.{change_size};
 ghost use Rattle.node_store.specs.Commits.{IsRecordFor};
 ghost use Rattle.rel_handler.specs.Installing.{installation_event, room_behind};
-ghost use Rattle.rel_list.specs.Event.{event_of};
+ghost use Rattle.rel_list.specs.Event.{event_of, list_restarted};
 ghost use Rattle.rel_list.specs.Event.Event.{installed};
 ghost use Rattle.rel_list.specs.Refusal.{refusal};
+ghost use Rattle.rel_list.specs.Releases.{has_one_shot};
 ghost use Rattle.rel_records.specs.Lists.{HaveVersions};
 
 use record_writer::{boot_body_behind_restart, change_body};
@@ -58,7 +59,7 @@ fn installation_event(alloc: Global, vsn: &str, restarts: bool) -> Result<Event,
     }
 }
 
-// How many bytes the record of the boot behind a restart takes: none where there is no restart.
+// How many bytes the record of the boot behind an installation takes: none where it has no one-shot to take away.
 fn room_behind(
     alloc: Global,
     list: &ReleaseList,
@@ -70,6 +71,23 @@ fn room_behind(
     if !restarts {
         return Ok(0);
     }
+    if !leaves_one_shot(list, vsn) {
+        return Ok(0);
+    }
     let body = boot_body_behind_restart(alloc, list, vsn)?;
     Ok(RECORD_HEAD + body.len())
+}
+
+// Whether a release of the list is a one-shot behind an installation of this version with a restart.
+fn leaves_one_shot(list: &ReleaseList, vsn: &str) -> bool
+    ensures { result ≡ has_one_shot (list_restarted vsn.now list.now) }
+{
+    let releases = list.releases();
+    for listed in releases {
+        let itself = vsn == listed.release.vsn.as_str();
+        if listed.status.restarted(itself).is_one_shot() {
+            return true;
+        }
+    }
+    false
 }

@@ -1,3 +1,4 @@
 pub mod FileState
 pub mod Options
+pub mod Exits
 pub mod Paths

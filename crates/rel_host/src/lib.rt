@@ -1,4 +1,4 @@
-//! What a node's program takes from its host: its options, files below a folder, and a disk over a file.
+//! What a node's program takes from its host: its options, files below a folder, and a disk over a file; and how it ends.
 //!
 //! [`FileDisk`] is a `rel_disk::Disk` over a file. Its contracts are those of every disk, and say each state exactly
 //! (clauses `done` and `failed`): a call fails where the memory has no room, and once the disk counts its file as broken, every
@@ -9,15 +9,19 @@
 //!
 //! [`read_options`] has `clap`'s exact meaning of the arguments (clauses `given`, `taken` and `refused`).
 //!
+//! A [`Failure`] says why the program ends before its input, with its exit status and what it reports (specs/Exits).
+//!
 //! Only tested: what the calls do to files. Trusted: that a file has the bytes that were written to it and outlives a
 //! crash as a disk does, the toolchain with its file calls, `clap` and `thiserror`.
 #![tactic(auto)]
 
+mod failure;
 mod file_disk;
 mod options;
 mod readers;
 mod root_files;
 
+pub use failure::Failure;
 pub use file_disk::{FileDisk, OpenError};
 pub use options::{Options, OptionsError, read_options};
 pub use root_files::{RootFiles, is_below};

@@ -4,7 +4,7 @@ use Rattle.std.specs.Prelude.{◌&&◌, ◌||◌, not, nat_lt, ◌==◌}
 use Rattle.std.specs.List.{AllByRecursion}
 use Rattle.std.specs.Option.{option_map, option_and_then}
 use Rattle.std.specs.Str.{bytes_eq}
-use Rattle.std.proofs.lemmas.Bool.{cases_Bool}
+use Rattle.std.proofs.lemmas.Bool.{cases_Bool, eqb-true}
 use Rattle.std.proofs.lemmas.Bool.Decides.{nat_tests}
 use Rattle.erl_term.specs.Value.{Value}
 use Rattle.rel_files.proofs.Options.{both, passed}
@@ -25,14 +25,17 @@ use Rattle.rel_list.proofs.Orderly.{status_or, same_version, is_itself, differs_
 use Rattle.rel_records.specs.Limits.{has_one_permanent, is_small, most_releases}
 use Rattle.rel_records.specs.Record.{Assignment, Record, makes, adds, assigns, removes, images}
 use Rattle.rel_records.specs.Lists.{may_be_assigned, assign_all, completed, if_faultless, brought_by, taken_by, with_one_permanent, assigned, HaveLibraries}
-use Rattle.rel_records.specs.Statuses.{is_same}
+use Rattle.status_changes.specs.Statuses.{is_same}
 use Rattle.rel_records.specs.Writing.{is_changed, assignment_of, changes, new_libraries, record_of, IsComplete, IsWithinLimits, IsOfListed, Reports}
-use Rattle.rel_records.specs.Laws.{IsOfEvent, IsOfOneRelease, RecordsAreOfEvents, RecordsDetermineEvents}
+use Rattle.rel_records.specs.Laws.{IsOfEvent, IsOfOneRelease, RecordsAreOfEvents, RecordsDetermineEvents, StatusesAreOfEvents}
 use Rattle.rel_records.specs.Reading.{Says}
 use Rattle.library.proofs.TermCases.{are_libraries}
 use Rattle.rel_list.proofs.RestLaws.{not_temporary}
 use Rattle.rel_records.proofs.CompletionLemmas.{all_new, are_completed, brought_complete, completed_first, completed_new, first_different-recorded}
-use Rattle.rel_records.proofs.OneEvent.{FollowBy, behind_boot, behind_installation, behind_promotion, behind_reboot, behind_restart, set_where}
+use Rattle.status_changes.proofs.StatusLemmas.{same_so}
+use Rattle.status_changes.proofs.StatusesBehindEvents.{FollowBy, behind_boot, behind_installation, behind_promotion, behind_reboot, behind_restart}
+use Rattle.status_changes.proofs.EventsOfStatuses.{one_event_makes_them}
+use Rattle.rel_records.proofs.StatusRecords.{bundles-assign_all, set_so, set_where}
 use Rattle.rel_records.proofs.RecordPlaces.{assigned_so, event_of_record, kept, recorded-push, recorded-without, pushed_last}
 
 pub one-recorded : (es : Releases) → has_one_permanent (recorded es) ≡ has_one_permanent es
@@ -66,34 +69,6 @@ status_of-recorded v (e ∷ es) = go (bytes_eq v e.release.vsn) (status_of-recor
         ≡ option_map recorded_status (status_or b e (find (λ (f : Entry). bytes_eq v f.release.vsn) es))
     go true rest = refl
     go false rest = rest
-
--- the same statuses
-pub same_so : (s t : Status) → is_same s t ≡ true → s ≡ t
-same_so Unpacked Unpacked e = refl
-same_so Current Current e = refl
-same_so Old Old e = refl
-same_so Permanent Permanent e = refl
-same_so OneShot OneShot e = refl
-same_so Unpacked Current e = absurd cc
-same_so Unpacked Old e = absurd cc
-same_so Unpacked Permanent e = absurd cc
-same_so Current Unpacked e = absurd cc
-same_so Current Old e = absurd cc
-same_so Current Permanent e = absurd cc
-same_so Old Unpacked e = absurd cc
-same_so Old Current e = absurd cc
-same_so Old Permanent e = absurd cc
-same_so Permanent Unpacked e = absurd cc
-same_so Permanent Current e = absurd cc
-same_so Permanent Old e = absurd cc
-same_so Unpacked OneShot e = absurd cc
-same_so Current OneShot e = absurd cc
-same_so Old OneShot e = absurd cc
-same_so Permanent OneShot e = absurd cc
-same_so OneShot Unpacked e = absurd cc
-same_so OneShot Current e = absurd cc
-same_so OneShot Old e = absurd cc
-same_so OneShot Permanent e = absurd cc
 
 -- an assignment to another release leaves the first one
 abbrev pub AreOfOthers : List ℕ → List Assignment → Type 0
@@ -472,3 +447,10 @@ of_event v (images xs ls) es next have says one taken = absurd one
 
 pub are_of_events : RecordsAreOfEvents
 are_of_events body r es next have spelled one taken = of_event spelled.term r es next have spelled.says one (assigned_so r es next taken).0
+
+-- What a record of statuses does to a list one event does to a node.
+pub statuses_are_of_events : StatusesAreOfEvents
+statuses_are_of_events given es next so taken =
+    let (set, one) = assigned_so (assigns given) es next taken in
+    let (assigned, does) = set_so given es next set in
+    one_event_makes_them es next so (bundles-assign_all given es next assigned) (eqb-true (length (of_status is_permanent next)) 1 one) does

@@ -2,7 +2,7 @@
 use Rattle.std.proofs.Common.{◌≡◌, ℕ, Bool, true, false, ◌||◌, not, List, [], ◌∷◌, map, filter, Some, None, refl, sym, ap, subst, true≢false}
 use Rattle.std.specs.Str.{bytes_eq}
 use Rattle.std.specs.List.{list_any}
-use Rattle.std.specs.Prelude.{◌==◌, find, is_some, if◌then◌else◌}
+use Rattle.std.specs.Prelude.{find, is_some, if◌then◌else◌}
 use Rattle.std.specs.Option.{option_map}
 use Rattle.rel_files.proofs.Options.{passed}
 use Rattle.rel_list.proofs.BootLaws.{no_one_shot-booted}
@@ -14,13 +14,13 @@ use Rattle.rel_list.specs.Laws.{makes_one_shot}
 use Rattle.rel_list.specs.Releases.{Entry, Releases, has_one_shot}
 use Rattle.rel_list.specs.Status.{is_one_shot}
 use Rattle.rel_list.proofs.OneShotLaws.{none-installed, none-permanent}
-use Rattle.rel_records.specs.Format.{allows, writes_one_shot}
+use Rattle.rel_records.specs.Format.{allows, may_write_it, writes_one_shot}
 use Rattle.rel_records.specs.Image.{image_record}
 use Rattle.rel_records.specs.Laws.{ImagesWriteTheirOneShots, MakeItInFormat2, OnlyRestartsWriteOneShots}
 use Rattle.rel_records.specs.Lists.{assigned, assigned_in, MakesFrom}
-use Rattle.rel_records.specs.Record.{Assignment, Record}
-use Rattle.rel_records.specs.Statuses.{is_same}
-use Rattle.rel_records.specs.Writing.{assignment_of, changes, is_changed}
+use Rattle.rel_records.specs.Record.{Assignment, Record, makes, adds, assigns, removes, images}
+use Rattle.status_changes.specs.Statuses.{is_same}
+use Rattle.rel_records.specs.Writing.{assignment_of, changes, is_changed, record_of}
 
 -- whether one of those has a property that are made of others
 pub any-map : {A B : Type 0} (p : B → Bool) (f : A → B) (xs : List A) → list_any p (map f xs) ≡ list_any (λ (x : A). p (f x)) xs
@@ -41,12 +41,32 @@ or_else false c is = is
 
 -- a record without that status is allowed in each
 pub allows_without : (format : ℕ) (r : Record) → writes_one_shot r ≡ false → allows format r ≡ true
-allows_without format r none = or_else (format == 2) (not (writes_one_shot r)) (ap not none)
+allows_without format r none = or_else (may_write_it format r) (not (writes_one_shot r)) (ap not none)
 
--- A store of format 2 may have each record.
+-- What a store of any format may have, one of format 2 may have.
+allowed_in_2 : (format : ℕ) (r : Record) → allows format r ≡ true → allows 2 r ≡ true
+allowed_in_2 format (makes r ls o) may = refl
+allowed_in_2 format (adds r ls o) may = refl
+allowed_in_2 format (assigns given) may = refl
+allowed_in_2 format (removes v) may = refl
+allowed_in_2 format (images xs ls) may = may
+
+-- It may have the record of each event.
+pub event_allowed_in_2 : (e : Event) (es : Releases) → allows 2 (record_of e es) ≡ true
+event_allowed_in_2 (made p) es = refl
+event_allowed_in_2 (unpacked p) es = refl
+event_allowed_in_2 (installed v) es = refl
+event_allowed_in_2 (restart_installed v) es = refl
+event_allowed_in_2 (made_permanent v) es = refl
+event_allowed_in_2 (removed v) es = refl
+event_allowed_in_2 (reboot_old v) es = refl
+event_allowed_in_2 boot es = refl
+
 from_in_2 : (format : ℕ) (es : Releases) (bodies : List (List ℕ)) (end : Releases) → MakesFrom format es bodies end → MakesFrom 2 es bodies end
 from_in_2 format es [] end is = is
-from_in_2 format es (body ∷ bodies) end (r, next, spelled, taken, rest) = (r, next, spelled, (allowed_so format r es next taken).1, from_in_2 format next bodies end rest)
+from_in_2 format es (body ∷ bodies) end (r, next, spelled, taken, rest) =
+    let (may, stands) = allowed_so format r es next taken in
+    (r, next, spelled, stands_so 2 r es next (allowed_in_2 format r may) stands, from_in_2 format next bodies end rest)
 
 pub made_in_2 : MakeItInFormat2
 made_in_2 format bodies es makes_it = (from_in_2 format [] bodies es makes_it.0, makes_it.1)

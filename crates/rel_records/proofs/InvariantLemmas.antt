@@ -10,7 +10,7 @@ use Rattle.rel_list.specs.Event.{step}
 use Rattle.rel_list.specs.Event.Event.{removed}
 use Rattle.rel_records.specs.Lists.{all_come_in, added_by, assign_all, comes_in, count_new, made_by, own_status, taken_by}
 use Rattle.rel_records.specs.Record.{Assignment, Imaged, Record, makes, adds, assigns, removes, images}
-use Rattle.rel_records.proofs.OneEvent.{set_so}
+use Rattle.rel_records.proofs.StatusRecords.{set_so}
 
 -- what holds of each holds of each of the first ones, and of each behind them
 all-take : {A : Type 0} (P : A → Type 0) (n : ℕ) (xs : List A) → AllByRecursion P xs → AllByRecursion P (take n xs)

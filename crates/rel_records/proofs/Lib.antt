@@ -4,7 +4,7 @@ pub mod ReadingLemmas
 pub mod BundleLemmas
 pub mod FormatLemmas
 pub mod ListLemmas
-pub mod OneEvent
+pub mod StatusRecords
 pub mod InvariantLemmas
 pub mod RecordPlaces
 pub mod MadeLemmas
@@ -15,7 +15,6 @@ pub mod EachRelease
 pub mod StartableLemmas
 pub mod RecordLaws
 pub mod EventRecords
-pub mod StatusEvents
 pub mod AgreementLemmas
 pub mod MentionLemmas
 pub mod RestorationLemmas

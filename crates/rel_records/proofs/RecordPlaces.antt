@@ -22,6 +22,7 @@ use Rattle.rel_records.specs.Record.{Assignment, Record, makes, adds, assigns, r
 use Rattle.rel_records.specs.Lists.{may_be_assigned, added_by, assign_all, brought_by, completed, if_faultless, made_by, mismatch_in, taken_by, with_one_permanent, assigned, assigned_in, MakesFrom}
 use Rattle.rel_list.proofs.OwnRules.{never_made_again, own_of_step}
 use Rattle.rel_records.proofs.InvariantLemmas.{IsOf, kept_behind}
+pub use Rattle.status_changes.proofs.StatusLemmas.{first_recorded, rest_recorded}
 
 -- behind each record exactly one release is permanent
 pub assigned_so : (r : Record) (es next : Releases) → assigned r es ≡ Some next → (taken_by r es ≡ Some next) × (has_one_permanent next ≡ true)
@@ -58,20 +59,6 @@ as_given OneShot v es may = refl
 recorded-assigned : (t : Status) → recorded_status t ≡ t → (b : Bool) (s : Status) → recorded_status s ≡ s → recorded_status (assigned_status t b s) ≡ assigned_status t b s
 recorded-assigned t new true s old = new
 recorded-assigned t new false s old = old
-
-pub first_recorded : (e : Entry) (es : Releases) → recorded (e ∷ es) ≡ e ∷ es → recorded_status e.status ≡ e.status
-first_recorded e es is = ap status_at is
-  where
-    status_at : Releases → Status
-    status_at [] = e.status
-    status_at (f ∷ fs) = f.status
-
-pub rest_recorded : (e : Entry) (es : Releases) → recorded (e ∷ es) ≡ e ∷ es → recorded es ≡ es
-rest_recorded e es is = ap rest is
-  where
-    rest : Releases → Releases
-    rest [] = []
-    rest (f ∷ fs) = fs
 
 recorded-list_assigned : (v : List ℕ) (t : Status) (es : Releases) → recorded_status t ≡ t → recorded es ≡ es → recorded (list_assigned v t es) ≡ list_assigned v t es
 recorded-list_assigned v t [] new is = refl

@@ -12,6 +12,7 @@ use Rattle.rel_records.specs.Reading.{Spells}
 use Rattle.rel_records.specs.Record.{Assignment, Record, assigns, images}
 use Rattle.rel_records.specs.Startable.{AreStartable}
 use Rattle.rel_records.specs.Writing.{record_of, IsWithinLimits}
+use Rattle.status_changes.specs.Laws.{IsOfNode}
 
 -- A body spells one record at most.
 abbrev pub SpellsOneRecord : Type 0
@@ -66,16 +67,6 @@ pub record IsOfEvent (es next : Releases) (r : Record) : Type 0 where
 abbrev pub RecordsAreOfEvents : Type 0
 RecordsAreOfEvents =
     (body : List ℕ) (r : Record) (es next : Releases) → HaveLibraries es → Spells body r → IsOfOneRelease r → assigned r es ≡ Some next → IsOfEvent es next r
-
--- Records report some node as the one list, and what one event makes of it as the other.
-pub record IsOfNode (es next : Releases) : Type 0 where
-  pub node : Releases
-  pub behind : Releases
-  pub event : Event
-  pub orderly : IsOrderly node
-  pub reported : recorded node ≡ es
-  pub leads : step event node ≡ Some behind
-  pub makes : recorded behind ≡ next
 
 -- A record of statuses may stand behind a list only where it leaves the list as it is, or does what one event does to a node.
 abbrev pub StatusesAreOfEvents : Type 0

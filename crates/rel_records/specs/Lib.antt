@@ -3,7 +3,6 @@ pub mod ReleaseTerm
 pub mod Record
 pub mod Reading
 pub mod Format
-pub mod Statuses
 pub mod Lists
 pub mod Writing
 pub mod Depth

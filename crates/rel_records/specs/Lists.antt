@@ -17,7 +17,7 @@ use Rattle.rel_records.specs.Format.{allows}
 use Rattle.rel_records.specs.Limits.{most_releases, is_small, has_one_permanent}
 use Rattle.rel_records.specs.Record.{Assignment, Imaged, Record, makes, adds, assigns, removes, images}
 use Rattle.rel_records.specs.Reading.{Spells}
-use Rattle.rel_records.specs.Statuses.{where_they_follow}
+use Rattle.status_changes.specs.Statuses.{follow, statuses_of}
 
 -- An assignment may be made to a release that is there. None makes a release current, or a second one a one-shot.
 abbrev pub may_be_assigned : Assignment → Releases → Bool
@@ -27,6 +27,10 @@ may_be_assigned a es = may_be_given a.status a.vsn es
 abbrev pub assign_all : List Assignment → Releases → Option Releases
 assign_all [] es = Some es
 assign_all (a ∷ given) es = if may_be_assigned a es then assign_all given (list_assigned a.vsn a.status es) else None
+
+-- the list behind statuses, where they follow
+abbrev pub where_they_follow : Releases → Releases → Option Releases
+where_they_follow es next = if follow (statuses_of es) (statuses_of next) then Some next else None
 
 -- what a record of statuses makes of a list, where they follow by one event
 abbrev pub set_by : List Assignment → Releases → Option Releases

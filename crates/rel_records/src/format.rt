@@ -2,7 +2,7 @@
 ghost use Rattle.std.specs.Prelude.{◌≡◌};
 ghost use Rattle.std.specs.List.{list_any};
 ghost use Rattle.rel_list.specs.Status.{is_one_shot};
-ghost use Rattle.rel_records.specs.Format.{allows, writes_one_shot};
+ghost use Rattle.rel_records.specs.Format.{allows, may_write_it, writes_one_shot};
 ghost use Rattle.rel_records.specs.Parts.{record_read};
 
 use crate::assignment::Assignment;
@@ -13,7 +13,19 @@ use crate::reading::Record;
 pub(crate) fn allows(format: u8, said: &Record) -> bool
     ensures { result ≡ allows format (record_read said.now) }
 {
-    format == 2 || !writes_one_shot(said)
+    may_write_it(format, said) || !writes_one_shot(said)
+}
+
+// Whether the record may write the status `one_shot` in such a store.
+fn may_write_it(format: u8, said: &Record) -> bool
+    ensures { result ≡ may_write_it format (record_read said.now) }
+{
+    match said {
+        Record::Image(_) => false,
+        Record::Statuses(_) | Record::Made(_) | Record::Unpacked(_) | Record::Removed(_) => {
+            format == 2
+        }
+    }
 }
 
 // Whether the record writes the status `one_shot`.

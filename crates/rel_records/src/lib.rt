@@ -5,8 +5,8 @@
 //! relup. Its body is a printed term (`body_of`); a body spells one record at most (`Spells`, `a_body_spells_one_record`). An image
 //! says a whole list in one record, which stands first.
 //! `read_list` gives the list that records make, each taken as what it says of the list (`Makes`), or the first record that the
-//! list so far can't take (`IsBadRecord`). Only a store of format 2 has records that write the status `one_shot` (`allows`,
-//! specs/Format). Which record is that of an event (`record_of`, specs/Writing), and which the image of a list (`image_of`,
+//! list so far can't take (`IsBadRecord`). Only a store of format 2 has records that write the status `one_shot`, and none has
+//! such an image (`allows`, specs/Format). Which record is that of an event (`record_of`, specs/Writing), and which the image of a list (`image_of`,
 //! specs/Image), is said here; `record_writer` prints them.
 //! The laws: bodies make one list or one of them is bad, and never both. The record of an event makes of a list what the event
 //! makes of it, each as records report it, where the event keeps the limits of a node (`records_determine_events`): so records say

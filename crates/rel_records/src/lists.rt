@@ -79,7 +79,8 @@ fn take_record(
 }
 
 /// The list that these records of a store of this format, 1 or 2, make, each taken as what it says of the releases and their
-/// statuses. No release of it is current. In a store of format 1 no record writes the status `one_shot`.
+/// statuses. No release of it is current. In a store of format 1 no record writes the status `one_shot`, and in none an
+/// image does.
 ///
 /// Refusals: `BadRecord` with the number of the first record that the list so far can't take, and `NoMemory`.
 pub fn read_list(

@@ -16,10 +16,9 @@ use Rattle.rel_records.specs.Lists.{assign_all, assigned, own_status, set_by, Ma
 use Rattle.rel_records.specs.Record.{Record, makes, adds, assigns, removes, images}
 use Rattle.rel_records.proofs.FormatLemmas.{allowed_so}
 use Rattle.rel_records.proofs.ImageEvents.{restored_by}
-use Rattle.rel_records.proofs.OneEvent.{set_so}
 use Rattle.rel_records.proofs.OrderlyLemmas.{statuses_orderly}
 use Rattle.rel_records.proofs.RecordPlaces.{assigned_so, event_of_record, settled_behind}
-use Rattle.rel_records.proofs.StatusEvents.{bundles-assign_all}
+use Rattle.rel_records.proofs.StatusRecords.{bundles-assign_all, set_so}
 use Rattle.rel_store.specs.Layout.{format_of}
 use Rattle.node_store.specs.Events.{Events}
 use Rattle.node_store.specs.Image.{IsImageOf}

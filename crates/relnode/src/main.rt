@@ -11,7 +11,7 @@
 use counted_io::CountedWriter;
 use file_source::Files;
 use rel_disk::{Disk, MemDisk};
-use rel_host::{FileDisk, OpenError, Options, OptionsError, RootFiles, read_options};
+use rel_host::{Failure, FileDisk, Options, RootFiles, read_options};
 use rel_session::session;
 use session_input::{Input, SessionError};
 use std::alloc::Global;
@@ -25,33 +25,6 @@ const DISK: usize = 8_388_608;
 
 /// How many bytes its log of calls holds.
 const LOG: usize = 2 * DISK;
-
-/// Why the program ends before its input.
-#[derive(Clone, Copy)]
-enum Failure {
-    /// Its arguments are none that it has.
-    BadArguments,
-    /// The session ended early, or its disk could not be had.
-    Session(SessionError),
-}
-
-impl Failure {
-    /// The exit status.
-    fn exit_status(self) -> u8 {
-        match self {
-            Failure::BadArguments => 2,
-            Failure::Session(error) => error.exit_status(),
-        }
-    }
-
-    /// What is reported behind the program's name.
-    fn exit_text(self) -> &'static str {
-        match self {
-            Failure::BadArguments => "bad arguments",
-            Failure::Session(error) => error.exit_text(),
-        }
-    }
-}
 
 fn main(rt: HostRuntime) -> ExitCode {
     let Err(failure) = run(&rt, &rt, rt.alloc()) else {
@@ -83,11 +56,8 @@ fn run_on_file<R: Threads + Wait + Sync, F: Files>(
     path: &str,
     files: &F,
 ) -> Result<(), Failure> {
-    match FileDisk::open(host, alloc, path) {
-        Ok(disk) => run_on(rt, host, alloc, disk, files),
-        Err(OpenError::NoMemory) => Err(Failure::Session(SessionError::NoMemory)),
-        Err(_) => Err(Failure::Session(SessionError::Read)),
-    }
+    let disk = FileDisk::open(host, alloc, path)?;
+    run_on(rt, host, alloc, disk, files)
 }
 
 /// The options that the program was given.
@@ -99,11 +69,7 @@ fn arguments(host: &HostRuntime, alloc: Global) -> Result<Options, Failure> {
         Ok(words) => words,
         Err(_) => return Err(Failure::Session(SessionError::NoMemory)),
     };
-    match read_options(alloc, words.as_slice()) {
-        Ok(options) => Ok(options),
-        Err(OptionsError::BadArguments) => Err(Failure::BadArguments),
-        Err(OptionsError::NoMemory) => Err(Failure::Session(SessionError::NoMemory)),
-    }
+    Ok(read_options(alloc, words.as_slice())?)
 }
 
 /// A session on standard input and output, on this disk and over these files.

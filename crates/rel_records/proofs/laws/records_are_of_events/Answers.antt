@@ -1,5 +1,4 @@
-use Rattle.rel_records.proofs.EventRecords.{are_of_events}
-use Rattle.rel_records.proofs.StatusEvents.{statuses_are_of_events}
+use Rattle.rel_records.proofs.EventRecords.{are_of_events, statuses_are_of_events}
 use Rattle.rel_records.proofs.laws.records_are_of_events.Goals as goal
 
 pub returns-clause-releases : goal.returns-clause-releases

@@ -1,0 +1,3 @@
+pub mod StatusLemmas
+pub mod StatusesBehindEvents
+pub mod EventsOfStatuses

@@ -1,0 +1,278 @@
+-- The statuses that an event makes follow, as records report them.
+use Rattle.std.proofs.Common.{◌≡◌, ℕ, ◌≤◌, Bool, true, false, cond, List, [], ◌∷◌, length, filter, find, Option, Some, None, refl, sym, ap, subst, ◌∙◌, arith, true≢false}
+use Rattle.std.specs.Prelude.{◌&&◌, ◌||◌, nat_le}
+use Rattle.std.specs.List.{AllByRecursion, zip}
+use Rattle.std.specs.Str.{bytes_eq}
+use Rattle.std.proofs.lemmas.Bool.{le-leb}
+use Rattle.std.proofs.lemmas.List.Sums.{length-filter}
+use Rattle.rel_files.proofs.Options.{both_true, passed}
+use Rattle.rel_list.specs.declared.status.Status.{Status}
+use Rattle.rel_list.specs.declared.status.Status.TheVariants.{Unpacked, Current, Old, Permanent, OneShot}
+use Rattle.rel_list.specs.Event.{Event, booted, booted_status, installed_status, list_installed, list_made_permanent, list_restarted, may_be_installed, may_be_made_permanent, may_be_rebooted, permanent_status, recorded, recorded_status, replaced_status, restarted_status, status_behind, step, with_statuses}
+use Rattle.rel_list.specs.Event.Event.{boot, installed, made, made_permanent, reboot_old, removed, restart_installed, unpacked}
+use Rattle.rel_list.specs.Keyed.{IsOrderly}
+use Rattle.rel_list.specs.Releases.{Entry, HasDistinctVersions, Releases, has_current, has_one_shot, of_status, status_of}
+use Rattle.rel_list.specs.Status.{is_one_shot, is_permanent, is_temporary}
+use Rattle.rel_list.proofs.BootLaws.{first_is_none}
+use Rattle.rel_list.proofs.Orderly.{at_most_once, first_differs, none_behind, of_version, same_version, status_or}
+use Rattle.rel_list.proofs.OwnRules.{own_of_step}
+use Rattle.status_changes.specs.Laws.{EventsMakeThemFollow, KeepsReleases}
+use Rattle.status_changes.specs.Statuses.{are_installed, each_is, follow, how_many_are, is_booted, is_installed, is_left_or_changed, is_promoted, is_replaced, is_same, statuses_of}
+use Rattle.status_changes.proofs.StatusLemmas.{one_counted}
+
+-- By the status of one release
+
+-- What an installation of this release, or of another one, may do.
+record MayInstall (itself : Bool) (s before behind : Status) : Type 0 where
+  may : is_left_or_changed before behind ≡ true
+  installs : is_installed before behind ≡ true → itself ≡ true
+  replaces : is_replaced before behind ≡ true → is_temporary s ≡ true
+
+-- it is done by what makes this status of the release's
+abbrev DoesInstall : Bool → (Status → Status) → Status → Type 0
+DoesInstall itself f s = MayInstall itself s (recorded_status s) (recorded_status (f s))
+
+does_itself : (f : Status → Status) (s : Status) → is_left_or_changed (recorded_status s) (recorded_status (f s)) ≡ true → is_replaced (recorded_status s) (recorded_status (f s)) ≡ false → DoesInstall true f s
+does_itself f s may not_replaced = record { may = may; installs = λ is. refl; replaces = λ is. absurd (true≢false (sym is ∙ not_replaced)) }
+
+leaves : (s : Status) → is_left_or_changed (recorded_status s) (recorded_status (replaced_status s)) ≡ true → is_installed (recorded_status s) (recorded_status (replaced_status s)) ≡ false
+    → is_replaced (recorded_status s) (recorded_status (replaced_status s)) ≡ false → DoesInstall false replaced_status s
+leaves s may not_installed not_replaced =
+    record { may = may; installs = λ is. absurd (true≢false (sym is ∙ not_installed)); replaces = λ is. absurd (true≢false (sym is ∙ not_replaced)) }
+
+to_another : (s : Status) → is_one_shot s ≡ false → DoesInstall false replaced_status s
+to_another Unpacked none = leaves Unpacked refl refl refl
+to_another Current none = record { may = refl; installs = λ is. absurd (true≢false (sym is)); replaces = λ is. refl }
+to_another Old none = leaves Old refl refl refl
+to_another Permanent none = leaves Permanent refl refl refl
+to_another OneShot none = absurd (true≢false none)
+
+by_installation : (b : Bool) (s : Status) → is_one_shot s ≡ false → DoesInstall b (installed_status b) s
+by_installation false s none = to_another s none
+by_installation true Unpacked none = does_itself (installed_status true) Unpacked refl refl
+by_installation true Current none = does_itself (installed_status true) Current refl refl
+by_installation true Old none = does_itself (installed_status true) Old refl refl
+by_installation true Permanent none = does_itself (installed_status true) Permanent refl refl
+by_installation true OneShot none = absurd (true≢false none)
+
+by_restart : (b : Bool) (s : Status) → is_one_shot s ≡ false → DoesInstall b (restarted_status b) s
+by_restart false s none = to_another s none
+by_restart true Unpacked none = does_itself (restarted_status true) Unpacked refl refl
+by_restart true Current none = does_itself (restarted_status true) Current refl refl
+by_restart true Old none = does_itself (restarted_status true) Old refl refl
+by_restart true Permanent none = does_itself (restarted_status true) Permanent refl refl
+by_restart true OneShot none = absurd (true≢false none)
+
+-- a release that is made permanent wasn't
+by_promotion : (b : Bool) (s : Status) → is_one_shot s ≡ false → (b ≡ true → is_permanent s ≡ false) → is_promoted (recorded_status s) (recorded_status (permanent_status b s)) ≡ true
+by_promotion true Unpacked none other = refl
+by_promotion true Current none other = refl
+by_promotion true Old none other = refl
+by_promotion true Permanent none other = absurd (true≢false (other refl))
+by_promotion true OneShot none other = absurd (true≢false none)
+by_promotion false Unpacked none other = refl
+by_promotion false Current none other = refl
+by_promotion false Old none other = refl
+by_promotion false Permanent none other = refl
+by_promotion false OneShot none other = absurd (true≢false none)
+
+by_boot : (s : Status) → is_booted (recorded_status s) (recorded_status (booted_status s)) ≡ true
+by_boot Unpacked = refl
+by_boot Current = refl
+by_boot Old = refl
+by_boot Permanent = refl
+by_boot OneShot = refl
+
+-- By those of all
+
+-- no release is a one-shot
+abbrev NoneWaits : Releases → Type 0
+NoneWaits es = AllByRecursion (λ (x : Entry). is_one_shot x.status ≡ false) es
+
+none_waits : (es : Releases) → has_one_shot es ≡ false → NoneWaits es
+none_waits [] none = tt
+none_waits (x ∷ es) none = let apart = first_is_none x es none in (apart.0, none_waits es apart.1)
+
+-- the release of this version, if there is one, isn't permanent
+abbrev IsNotPermanent : List ℕ → Releases → Type 0
+IsNotPermanent v es = AllByRecursion (λ (x : Entry). bytes_eq v x.release.vsn ≡ true → is_permanent x.status ≡ false) es
+
+none_of_version : (v : List ℕ) (es : Releases) → status_of v es ≡ None → IsNotPermanent v es
+none_of_version v [] none = tt
+none_of_version v (x ∷ es) none = (λ is. absurd (true≢false (sym is ∙ first_differs v x es none)), none_of_version v es (none_behind v x es none))
+
+not_permanent : (v : List ℕ) (s : Status) (es : Releases) → HasDistinctVersions es → is_permanent s ≡ false → status_of v es ≡ Some s → IsNotPermanent v es
+not_permanent v s [] distinct not_it found = tt
+not_permanent v s (x ∷ es) distinct not_it found = go (bytes_eq v x.release.vsn) refl (not_permanent v s es distinct.1 not_it) found
+  where
+    go : (b : Bool) → bytes_eq v x.release.vsn ≡ b → (status_of v es ≡ Some s → IsNotPermanent v es) → status_or b x (find (λ (f : Entry). bytes_eq v f.release.vsn) es) ≡ Some s → IsNotPermanent v (x ∷ es)
+    go true is rest found =
+        let same : x.status ≡ s = cc found in
+        (λ own. ap is_permanent same ∙ not_it, none_of_version v es (ap (λ w. status_of w es) (same_version v x.release.vsn is) ∙ distinct.0))
+    go false is rest found = (λ own. absurd (true≢false (sym own ∙ is)), rest found)
+
+current_or_not : (v : List ℕ) (es : Releases) → HasDistinctVersions es → may_be_made_permanent (status_of v es) ≡ true → IsNotPermanent v es
+current_or_not v es distinct may = go (status_of v es) refl may
+  where
+    go : (o : Option Status) → status_of v es ≡ o → may_be_made_permanent o ≡ true → IsNotPermanent v es
+    go None is may = absurd (true≢false (sym may))
+    go (Some Unpacked) is may = absurd (true≢false (sym may))
+    go (Some Current) is may = not_permanent v Current es distinct refl is
+    go (Some Old) is may = absurd (true≢false (sym may))
+    go (Some Permanent) is may = absurd (true≢false (sym may))
+    go (Some OneShot) is may = absurd (true≢false (sym may))
+
+old_or_not : (v : List ℕ) (es : Releases) → HasDistinctVersions es → may_be_rebooted (status_of v es) ≡ true → IsNotPermanent v es
+old_or_not v es distinct may = go (status_of v es) refl may
+  where
+    go : (o : Option Status) → status_of v es ≡ o → may_be_rebooted o ≡ true → IsNotPermanent v es
+    go None is may = absurd (true≢false (sym may))
+    go (Some Unpacked) is may = absurd (true≢false (sym may))
+    go (Some Current) is may = absurd (true≢false (sym may))
+    go (Some Old) is may = not_permanent v Old es distinct refl is
+    go (Some Permanent) is may = absurd (true≢false (sym may))
+    go (Some OneShot) is may = absurd (true≢false (sym may))
+
+-- where each release gets such a status
+module _ (f : List ℕ → Status → Status) where
+  abbrev before : Releases → List Status
+  before es = statuses_of (recorded es)
+
+  abbrev behind : Releases → List Status
+  behind es = statuses_of (recorded (with_statuses f es))
+
+  -- by its own status
+  abbrev own : (Status → Status → Bool) → Entry → Bool
+  own test x = test (recorded_status x.status) (recorded_status (f x.release.vsn x.status))
+
+  all_are : (test : Status → Status → Bool) (es : Releases) → AllByRecursion (λ (x : Entry). own test x ≡ true) es → each_is test (before es) (behind es) ≡ true
+  all_are test [] all = refl
+  all_are test (x ∷ es) all = both_true (own test x) (each_is test (before es) (behind es)) all.0 (all_are test es all.1)
+
+  fewer : (test : Status → Status → Bool) (q : Entry → Bool) (es : Releases) → AllByRecursion (λ (x : Entry). own test x ≡ true → q x ≡ true) es
+      → length (filter (λ (p : Status × Status). test p.0 p.1) (zip (before es) (behind es))) ≤ length (filter q es)
+  fewer test q [] all = omega arith
+  fewer test q (x ∷ es) all = one_counted (own test x) (q x) _ _ x (filter q es) all.0 (fewer test q es all.1)
+
+  as_few : (test : Status → Status → Bool) (q : Entry → Bool) (es : Releases) → AllByRecursion (λ (x : Entry). own test x ≡ true → q x ≡ true) es
+      → how_many_are test (before es) (behind es) ≤ length (filter q es)
+  as_few test q es all =
+      subst (λ n. n ≤ length (filter q es)) (length-filter (λ (p : Status × Status). test p.0 p.1) (zip (before es) (behind es))) (fewer test q es all)
+
+  -- The release of this version is installed.
+  module _ (v : List ℕ) where
+    abbrev DoInstall : Releases → Type 0
+    DoInstall es = AllByRecursion (λ (x : Entry). DoesInstall (bytes_eq v x.release.vsn) (f x.release.vsn) x.status) es
+
+    each_may : (es : Releases) → DoInstall es → AllByRecursion (λ (x : Entry). own is_left_or_changed x ≡ true) es
+    each_may [] all = tt
+    each_may (x ∷ es) all = (all.0.may, each_may es all.1)
+
+    each_installs : (es : Releases) → DoInstall es → AllByRecursion (λ (x : Entry). own is_installed x ≡ true → bytes_eq v x.release.vsn ≡ true) es
+    each_installs [] all = tt
+    each_installs (x ∷ es) all = (all.0.installs, each_installs es all.1)
+
+    each_replaces : (es : Releases) → DoInstall es → AllByRecursion (λ (x : Entry). own is_replaced x ≡ true → is_temporary x.status ≡ true) es
+    each_replaces [] all = tt
+    each_replaces (x ∷ es) all = (all.0.replaces, each_replaces es all.1)
+
+    installs_one : (es : Releases) → IsOrderly es → DoInstall es → nat_le (how_many_are is_installed (before es) (behind es)) 1 ≡ true
+    installs_one es orderly all =
+        let once : length (of_version v es) ≤ 1 = at_most_once v es orderly.distinct in
+        let few = as_few is_installed (λ (x : Entry). bytes_eq v x.release.vsn) es (each_installs es all) in
+        le-leb (how_many_are is_installed (before es) (behind es)) 1 (omega (arith, once, few))
+
+    replaces_one : (es : Releases) → IsOrderly es → DoInstall es → nat_le (how_many_are is_replaced (before es) (behind es)) 1 ≡ true
+    replaces_one es orderly all =
+        let once : length (of_status is_temporary es) ≤ 1 = orderly.one_temporary in
+        let few = as_few is_replaced (λ (x : Entry). is_temporary x.status) es (each_replaces es all) in
+        le-leb (how_many_are is_replaced (before es) (behind es)) 1 (omega (arith, once, few))
+
+    all_installed : (es : Releases) → IsOrderly es → DoInstall es → are_installed (before es) (behind es) ≡ true
+    all_installed es orderly all =
+        both_true (each_is is_left_or_changed (before es) (behind es) && nat_le (how_many_are is_installed (before es) (behind es)) 1) (nat_le (how_many_are is_replaced (before es) (behind es)) 1)
+        (both_true (each_is is_left_or_changed (before es) (behind es)) (nat_le (how_many_are is_installed (before es) (behind es)) 1) (all_are is_left_or_changed es (each_may es all)) (installs_one es orderly all))
+        (replaces_one es orderly all)
+
+-- They follow by a boot, an installation, or an event that makes another release permanent.
+or_true : (b : Bool) → (b || true) ≡ true
+or_true true = refl
+or_true false = refl
+
+follow-boot : (ss ts : List Status) → each_is is_booted ss ts ≡ true → follow ss ts ≡ true
+follow-boot ss ts are =
+    ap (λ b. ((each_is is_same ss ts || b) || are_installed ss ts) || each_is is_promoted ss ts) are
+    ∙ ap (λ b. (b || are_installed ss ts) || each_is is_promoted ss ts) (or_true (each_is is_same ss ts))
+
+follow-installation : (ss ts : List Status) → are_installed ss ts ≡ true → follow ss ts ≡ true
+follow-installation ss ts are =
+    ap (λ b. ((each_is is_same ss ts || each_is is_booted ss ts) || b) || each_is is_promoted ss ts) are
+    ∙ ap (λ b. b || each_is is_promoted ss ts) (or_true (each_is is_same ss ts || each_is is_booted ss ts))
+
+follow-promotion : (ss ts : List Status) → each_is is_promoted ss ts ≡ true → follow ss ts ≡ true
+follow-promotion ss ts are =
+    ap (λ b. ((each_is is_same ss ts || each_is is_booted ss ts) || are_installed ss ts) || b) are
+    ∙ or_true ((each_is is_same ss ts || each_is is_booted ss ts) || are_installed ss ts)
+
+-- the statuses behind the event follow those before it
+abbrev pub FollowBy : Event → Releases → Type 0
+FollowBy e es = follow (statuses_of (recorded es)) (statuses_of (recorded (with_statuses (status_behind e) es))) ≡ true
+
+pub behind_boot : (es : Releases) → FollowBy boot es
+behind_boot es = follow-boot (before (status_behind boot) es) (behind (status_behind boot) es) (all_are (status_behind boot) is_booted es (each_booted es))
+  where
+    each_booted : (es : Releases) → AllByRecursion (λ (x : Entry). own (status_behind boot) is_booted x ≡ true) es
+    each_booted [] = tt
+    each_booted (x ∷ es) = (by_boot x.status, each_booted es)
+
+pub behind_installation : (v : List ℕ) (es : Releases) → IsOrderly es → has_one_shot es ≡ false → FollowBy (installed v) es
+behind_installation v es orderly none = follow-installation (before (status_behind (installed v)) es) (behind (status_behind (installed v)) es) (all_installed (status_behind (installed v)) v es orderly (each_does es (none_waits es none)))
+  where
+    each_does : (es : Releases) → NoneWaits es → DoInstall (status_behind (installed v)) v es
+    each_does [] all = tt
+    each_does (x ∷ es) all = (by_installation (bytes_eq v x.release.vsn) x.status all.0, each_does es all.1)
+
+pub behind_restart : (v : List ℕ) (es : Releases) → IsOrderly es → has_one_shot es ≡ false → FollowBy (restart_installed v) es
+behind_restart v es orderly none = follow-installation (before (status_behind (restart_installed v)) es) (behind (status_behind (restart_installed v)) es) (all_installed (status_behind (restart_installed v)) v es orderly (each_does es (none_waits es none)))
+  where
+    each_does : (es : Releases) → NoneWaits es → DoInstall (status_behind (restart_installed v)) v es
+    each_does [] all = tt
+    each_does (x ∷ es) all = (by_restart (bytes_eq v x.release.vsn) x.status all.0, each_does es all.1)
+
+promotes : (v : List ℕ) (es : Releases) → has_one_shot es ≡ false → IsNotPermanent v es → FollowBy (made_permanent v) es
+promotes v es none other = follow-promotion (before (status_behind (made_permanent v)) es) (behind (status_behind (made_permanent v)) es) (all_are (status_behind (made_permanent v)) is_promoted es (each_does es (none_waits es none) other))
+  where
+    each_does : (es : Releases) → NoneWaits es → IsNotPermanent v es → AllByRecursion (λ (x : Entry). own (status_behind (made_permanent v)) is_promoted x ≡ true) es
+    each_does [] all other = tt
+    each_does (x ∷ es) all other = (by_promotion (bytes_eq v x.release.vsn) x.status all.0 other.0, each_does es all.1 other.1)
+
+pub behind_promotion : (v : List ℕ) (es : Releases) → HasDistinctVersions es → has_one_shot es ≡ false → may_be_made_permanent (status_of v es) ≡ true → FollowBy (made_permanent v) es
+behind_promotion v es distinct none may = promotes v es none (current_or_not v es distinct may)
+
+pub behind_reboot : (v : List ℕ) (es : Releases) → HasDistinctVersions es → has_one_shot es ≡ false → may_be_rebooted (status_of v es) ≡ true → FollowBy (reboot_old v) es
+behind_reboot v es distinct none may = promotes v es none (old_or_not v es distinct may)
+
+pub events_make_them_follow : EventsMakeThemFollow
+events_make_them_follow (made p) es next keeps orderly is = absurd keeps
+events_make_them_follow (unpacked p) es next keeps orderly is = absurd keeps
+events_make_them_follow (removed v) es next keeps orderly is = absurd keeps
+events_make_them_follow boot es next keeps orderly is =
+    let same : booted es ≡ next = cc is in subst (λ l. follow (statuses_of (recorded es)) (statuses_of (recorded l)) ≡ true) same (behind_boot es)
+events_make_them_follow (installed v) es next keeps orderly is =
+    let own = own_of_step (installed v) es next is in
+    let same : list_installed v es ≡ next = cc (passed (may_be_installed (has_current es) (status_of v es)) (Some (list_installed v es)) next own.1).1 in
+    subst (λ l. follow (statuses_of (recorded es)) (statuses_of (recorded l)) ≡ true) same (behind_installation v es orderly own.0)
+events_make_them_follow (restart_installed v) es next keeps orderly is =
+    let own = own_of_step (restart_installed v) es next is in
+    let same : list_restarted v es ≡ next = cc (passed (may_be_installed (has_current es) (status_of v es)) (Some (list_restarted v es)) next own.1).1 in
+    subst (λ l. follow (statuses_of (recorded es)) (statuses_of (recorded l)) ≡ true) same (behind_restart v es orderly own.0)
+events_make_them_follow (made_permanent v) es next keeps orderly is =
+    let own = own_of_step (made_permanent v) es next is in
+    let (may, there) = passed (may_be_made_permanent (status_of v es)) (Some (list_made_permanent v es)) next own.1 in
+    let same : list_made_permanent v es ≡ next = cc there in
+    subst (λ l. follow (statuses_of (recorded es)) (statuses_of (recorded l)) ≡ true) same (behind_promotion v es orderly.distinct own.0 may)
+events_make_them_follow (reboot_old v) es next keeps orderly is =
+    let own = own_of_step (reboot_old v) es next is in
+    let (may, there) = passed (may_be_rebooted (status_of v es)) (Some (list_made_permanent v es)) next own.1 in
+    let same : list_made_permanent v es ≡ next = cc there in
+    subst (λ l. follow (statuses_of (recorded es)) (statuses_of (recorded l)) ≡ true) same (behind_reboot v es orderly.distinct own.0 may)
