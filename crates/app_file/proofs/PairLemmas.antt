@@ -39,7 +39,7 @@ no_key key v other = false_from_ne_true (is_word key v) (λ is. other (from_is_w
 from_no_key : (key : List ℕ) (v : Value) → is_word key v ≡ false → v ≢ atom key
 from_no_key key v is same = let wrong : false ≡ true = sym is ∙ (ap (is_word key) same ∙ is_key key) in cc
 
--- the value of the first pair of a key, if this is it, or else what is found behind it
+-- the value of the first pair of a key, if this is it, or else what is found after it
 abbrev first_or : Bool → Value × Value → Option (Value × Value) → Option Value
 first_or b p later = option_map (λ (q : Value × Value). q.1) (if b then Some p else later)
 

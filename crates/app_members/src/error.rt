@@ -6,7 +6,7 @@ use std::alloc::AllocError;
 use thiserror::Error;
 
 /// Why an application has no members with which it can start. Of several reasons the first on the way through the children is
-/// reported; that there are too many members comes behind all others.
+/// reported; that there are too many members comes after all others.
 #[derive(Clone, Copy, Debug, Error)]
 pub enum MembersError<'a> {
     /// This module, of a child, has no table or one of the other kind; or it is a top and has the table of a worker.

@@ -18,7 +18,7 @@ use Rattle.appup_file.specs.Parts.{change_in, of_supervisor, plain, with_dep_mod
 abbrev changed : List ℕ → ChangeForm → UpdateForm
 changed name c = record (plain name) { change = c }
 
--- a change with no modules behind it
+-- a change with no modules after it
 alone : (name : List ℕ) (o : Option ChangeForm) → option_map (changed name) o ≡ option_and_then (with_dep_mods nothing) (option_map (changed name) o)
 alone name None = refl
 alone name (Some c) = refl

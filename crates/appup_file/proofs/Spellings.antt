@@ -87,7 +87,7 @@ from_typed name k t c p q d u e =
     let dt = from_names_in d d'.0 d'.1 in
     subst (IsWritten name (update_members k t c p q d)) same ((λ j. update_members (kt j) (tt'.0 j) (ct j) (pt j) (qt j) (dt.0 j)), refl, tt'.1, dt.1)
 
--- what stands behind a name is, with defaults, all that is written of an instruction
+-- what stands after a name is, with defaults, all that is written of an instruction
 abbrev IsNamed : List ℕ → List ℕ → Values → AppupInstruction → Type 0
 IsNamed word name vs i = (named word name vs ≡ full_term i) × IsAppupInstruction i
 
@@ -147,7 +147,7 @@ from_load name (value a (value b no_values)) l h e = absurd cc
 from_load name (value p (value q (value d no_values))) l h e = of_purged name p q d l h e
 from_load name (value a (value b (value c (value d vs)))) l h e = absurd cc
 
--- what stands behind a module that is added or deleted
+-- what stands after a module that is added or deleted
 abbrev IsDependent : List ℕ → Values → DependentForm → Type 0
 IsDependent name vs d = (vs ≡ one (atoms_term d.dep_mods)) × (d.name ≡ name) × AllByRecursion IsName d.dep_mods
 
@@ -159,7 +159,7 @@ from_dependent name (value v no_values) d e =
     subst (IsDependent name (one v)) ns.2 (ap one read.0, refl, read.1)
 from_dependent name (value v (value w vs)) d e = absurd cc
 
--- what stands behind an application that is added
+-- what stands after an application that is added
 abbrev IsAdded : List ℕ → Values → AddedForm → Type 0
 IsAdded name vs a = (vs ≡ one (atom (start_word a.start))) × (a.name ≡ name)
 

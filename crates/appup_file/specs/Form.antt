@@ -40,7 +40,7 @@ purge_members pre post deps = value pre (value post (one deps))
 abbrev pub update_members : Value → Value → Value → Value → Value → Value → Values
 update_members mod_type timeout change pre post deps = value mod_type (value timeout (value change (purge_members pre post deps)))
 
--- a word, and a name with what stands behind it
+-- a word, and a name with what stands after it
 abbrev pub named : List ℕ → List ℕ → Values → Value
 named word name vs = command word (value (atom name) vs)
 
@@ -69,16 +69,16 @@ brutal = atom (purge_word Brutal)
 abbrev pub nothing : Value
 nothing = list no_values
 
--- what the word `supervisor` stands for behind a module (OTP: appup(4))
+-- what the word `supervisor` stands for after a module (OTP: appup(4))
 abbrev pub supervisor_members : Values
 supervisor_members = update_members static (timeout_term Default) (change_term (advanced nothing)) brutal brutal nothing
 
--- a change that is written alone behind a module
+-- a change that is written alone after a module
 abbrev pub full_change : Value → Values
 full_change (list vs) = update_members dynamic (timeout_term Default) (change_term soft) brutal brutal (list vs)
 full_change c = if is_word (codes "supervisor") c then supervisor_members else update_members dynamic (timeout_term Default) c brutal brutal nothing
 
--- what stands behind the module of an update, with the defaults of what is left out
+-- what stands after the module of an update, with the defaults of what is left out
 abbrev pub full_update : Values → Values
 full_update no_values = update_members dynamic (timeout_term Default) (change_term soft) brutal brutal nothing
 full_update (value x no_values) = full_change x
@@ -87,18 +87,18 @@ full_update (value c (value p (value q (value d no_values)))) = update_members d
 full_update (value t (value c (value p (value q (value d no_values))))) = update_members dynamic t c p q d
 full_update vs = vs
 
--- what stands behind the module of a load_module
+-- what stands after the module of a load_module
 abbrev pub full_load : Values → Values
 full_load no_values = purge_members brutal brutal nothing
 full_load (value d no_values) = purge_members brutal brutal d
 full_load vs = vs
 
--- what stands behind a module that is added or deleted
+-- what stands after a module that is added or deleted
 abbrev pub full_dependent : Values → Values
 full_dependent no_values = one nothing
 full_dependent vs = vs
 
--- what stands behind an application that is added
+-- what stands after an application that is added
 abbrev pub full_added : Values → Values
 full_added no_values = one (atom (start_word Permanent))
 full_added vs = vs

@@ -85,7 +85,7 @@ with_timed t c p q d u = option_and_then (with_purges c p q d) (with_timeout t u
 abbrev pub with_typed : Value → Value → Value → Value → Value → Value → UpdateForm → Option UpdateForm
 with_typed k t c p q d u = option_and_then (with_timed t c p q d) (with_mod_type k u)
 
--- what is written behind the module of an update
+-- what is written after the module of an update
 abbrev pub update_row : Values → UpdateForm → Option UpdateForm
 update_row no_values u = Some u
 update_row (value x no_values) u = with_last x u
@@ -112,7 +112,7 @@ abbrev pub purged_load : List ℕ → Value → Value → Value → Option LoadF
 purged_load name p q d =
     option_and_then (λ pre. option_and_then (λ post. option_map (λ ns. record { name = name; pre = pre; post = post; dep_mods = ns }) (names_in d)) (purge_mode_in q)) (purge_mode_in p)
 
--- what is written behind the module of a load_module
+-- what is written after the module of a load_module
 abbrev pub load_in : List ℕ → Values → Option LoadForm
 load_in name no_values = Some (plain_load name [])
 load_in name (value d no_values) = option_map (plain_load name) (names_in d)
@@ -139,7 +139,7 @@ app_in s name no_values =
     else None
 app_in s name vs = None
 
--- a word behind the first three, a name and terms
+-- a word after the first three, a name and terms
 abbrev pub other_named_in : List ℕ → List ℕ → Values → Option AppupInstruction
 other_named_in s name vs =
     if bytes_eq s (codes "delete_module") then option_map delete_module (dependent_in name vs)
@@ -154,7 +154,7 @@ named_in s name vs =
     else if bytes_eq s (codes "add_module") then option_map add_module (dependent_in name vs)
     else other_named_in s name vs
 
--- what stands behind the word of an instruction that only an appup may have
+-- what stands after the word of an instruction that only an appup may have
 abbrev pub headed_in : List ℕ → Values → Option AppupInstruction
 headed_in s no_values = None
 headed_in s (value v vs) = option_and_then (λ name. named_in s name vs) (name_in v)

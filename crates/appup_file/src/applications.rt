@@ -22,7 +22,7 @@ fn start_in(row: &[Term]) -> Option<StartType>
     }
 }
 
-// What is written behind an application that is added.
+// What is written after an application that is added.
 pub(crate) fn added_in(
     alloc: Global,
     name: &str,
@@ -40,7 +40,7 @@ pub(crate) fn added_in(
     }))
 }
 
-// An application that is removed or restarted; nothing is written behind it.
+// An application that is removed or restarted; nothing is written after it.
 pub(crate) fn app_in(
     alloc: Global,
     word: &str,

@@ -80,7 +80,7 @@ fn unpurged_load(
     }
 }
 
-// What is written behind the module of a `load_module`.
+// What is written after the module of a `load_module`.
 pub(crate) fn load_in(
     alloc: Global,
     name: &str,
@@ -98,7 +98,7 @@ pub(crate) fn load_in(
     }
 }
 
-// What is written behind a module that is added or deleted.
+// What is written after a module that is added or deleted.
 pub(crate) fn dependent_in(
     alloc: Global,
     name: &str,

@@ -55,7 +55,7 @@ fn other_named_in(
     }
 }
 
-// What stands behind the word of an instruction.
+// What stands after the word of an instruction.
 fn headed_in(alloc: Global, word: &str, members: &[Term]) -> Result<Option<AppupInstr>, AllocError>
     ensures { IfOk result (λ o.
         option_map appup_instruction_of o ≡ headed_in word.now (members_of members.now)) }

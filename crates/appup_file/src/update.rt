@@ -182,7 +182,7 @@ impl Update {
         }
     }
 
-    // A timeout, and what stands behind it.
+    // A timeout, and what stands after it.
     fn with_timed(
         self,
         alloc: Global,
@@ -200,7 +200,7 @@ impl Update {
         }
     }
 
-    // Whether its code is static or dynamic, and what stands behind it.
+    // Whether its code is static or dynamic, and what stands after it.
     fn with_typed(
         self,
         alloc: Global,
@@ -219,7 +219,7 @@ impl Update {
         }
     }
 
-    // What is written behind the module.
+    // What is written after the module.
     fn with_row(self, alloc: Global, row: &[Term]) -> Result<Option<Update>, AllocError>
         ensures { IfOk result (λ o.
             option_map update_of o ≡ update_row (members_of row.now) (update_of self)) }
@@ -243,7 +243,7 @@ impl Update {
     }
 }
 
-// An update of a module, with what is written behind it.
+// An update of a module, with what is written after it.
 pub(crate) fn update_in(
     alloc: Global,
     name: &str,

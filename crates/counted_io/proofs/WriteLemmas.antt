@@ -20,7 +20,7 @@ Appends-twice (Some o) None new xs ys a b = absurd a
 Appends-twice (Some o) (Some m) None xs ys a b = absurd b
 Appends-twice (Some o) (Some m) (Some n) xs ys a b = b ∙ ap (λ k. k ++ ys) a ∙ append_assoc o xs ys
 
--- all that stands behind the first n
+-- all that stands after the first n
 rest_of-drop : (xs : List ℕ) (n : ℕ) → take (length xs - n) (drop n xs) ≡ drop n xs
 rest_of-drop xs n = grind (arith, common_steps)
 

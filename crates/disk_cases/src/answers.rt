@@ -11,20 +11,20 @@ use text_cases::Answer;
 /// The answer in one of eight modes. Sizes and places are in bytes.
 ///
 /// `disk`: what the sessions of the text answer, one after another on a disk. The disk is as in
-/// [`disk_of`]; behind ` | ` stand the sessions, as in [`follow`]. `node`: the same on an empty disk
+/// [`disk_of`]; after ` | ` stand the sessions, as in [`follow`]. `node`: the same on an empty disk
 /// of 4,096 bytes. `store`: the same on such a disk with a new store, whose only record is `[].` and
 /// whose start slot has the text `14.2 A` and a new line. In both the text has the sessions alone.
 /// `start`: the text is that of the start slot of a new store, and the session opens the store and
 /// reads its start.
 ///
-/// `damaged`: behind a byte, as a number, stand sessions, as in [`push_damaged`].
+/// `damaged`: after a byte, as a number, stand sessions, as in [`push_damaged`].
 ///
 /// `append`: what [`crate::disk_callers::append`] of `abc` to a disk answers, and what a read gives
 /// then. In the text `fail N` the call N fails, and in `part N` with a part of its effect.
 ///
 /// `twice`: what five calls answer, two times over, of a failing disk within another, as in
 /// [`crate::disks::five_calls`]. The text is the number of the call that fails on the one without, and of
-/// that on the one within, which has room for one byte. How many calls have failed is reported behind
+/// that on the one within, which has room for one byte. How many calls have failed is reported after
 /// each five, and at the end how many on the one within.
 ///
 /// `fault`: the text of a fault of a device.

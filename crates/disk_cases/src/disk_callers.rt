@@ -5,13 +5,13 @@ ghost use Rattle.rel_disk.specs.Moments.{LeavesOnly, HasFailed};
 
 use rel_disk::{DeviceFault, Disk};
 
-// Writes behind the end, and hands the disk back at each refusal.
+// Writes after the end, and hands the disk back at each refusal.
 pub(crate) fn append<D: Disk>(disk: D, bytes: &[u8]) -> Result<D, (DeviceFault, D)>
     requires { Only (D.seen disk) (D.may_leave disk) }
     ensures added { IfOk result (λ after. D.seen after ≡ D.seen disk ++ bytes.now) }
     ensures durable { IfOk result (λ after. Only (D.seen after) (D.may_leave after)) }
 
-    // At each moment a crash leaves what was there, with or without more behind it.
+    // At each moment a crash leaves what was there, with or without more after it.
     ensures kept { IfOk result
         (λ after. LeavesOnly D.moment D.left_since disk after
         (λ c. take (length (D.seen disk)) c ≡ D.seen disk)) }

@@ -21,7 +21,7 @@ use text_cases::{Answer, first_word, number};
 ///   synced. `shorten LENGTH`: it is cut and synced.
 /// - `create BODY`: a store is made, with this first record and no start text.
 /// - `open`: the store is opened, and its records are counted. Steps on the open store may follow,
-///   each behind `; `. [`crate::steps::follow_steps`] has them.
+///   each after `; `. [`crate::steps::follow_steps`] has them.
 /// - `both A B`: the store is opened, and the records A and B are added by
 ///   [`crate::store_callers::append_both`].
 /// - `node A B ..`: a node of the release A is made, and follows the other words as commands, at
@@ -32,7 +32,7 @@ use text_cases::{Answer, first_word, number};
 ///   start. [`crate::files::ReleaseFiles`] has the releases and their relups. No process runs.
 /// - `unpack B`: the node is booted and takes B in, and no list is reported.
 /// - `fail N SESSION`, `part N SESSION`: the call N of the device fails in this session, in the
-///   second with a part of its effect. How many calls have failed is reported behind it.
+///   second with a part of its effect. How many calls have failed is reported after it.
 pub(crate) fn follow<H: Wait, D: Disk + Drop>(
     rt: &H,
     alloc: Global,

@@ -8,7 +8,7 @@ use std::alloc::{AllocError, Global};
 use std::fmt::Debug;
 use text_cases::{Answer, first_word, number};
 
-/// Appends how many records an opened store has, and what these steps answer, each behind `; `. They
+/// Appends how many records an opened store has, and what these steps answer, each after `; `. They
 /// are parted by `; `, and are the calls of a store and of a start record:
 ///
 /// - `append BODY`, `compact BODY`, `reserve N`, `fits N`, `write_slot TEXT`, `write_start ERTS VSN`, `read_start`.

@@ -99,7 +99,7 @@ reports_done reported v w first old new same (rose, kept) = (λ it. absurd cc, �
 pub reports_since : {V : Type 0} (reported : ConsultError) (r : Result V ConsultError) (first old new : ℕ) → old ≡ first → Reports reported r old new → Reports reported r first new
 reports_since reported r first old new same reports = subst (λ n. Reports reported r n new) same reports
 
--- what is taken of a reader behind so many bytes
+-- what is taken of a reader after so many bytes
 pub takes_more : (old mid new : Option (List ℕ)) (bytes : List ℕ) (most : ℕ) → ReadSoFar old mid bytes → length bytes + most ≤ 1048577 → TakesAtMost most mid new → TakesAtMost 1048577 old new
 takes_more old mid new bytes most s fits (piece, short, taken) = (bytes ++ piece, omega (arith, length-append bytes piece), consumes_more old mid new bytes piece s.read taken)
 

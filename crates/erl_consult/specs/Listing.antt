@@ -22,7 +22,7 @@ Lists bytes text = (rs : List Reading) × Reads 64 bytes rs × (text ≡ lines_o
 abbrev pub IsShort : List ℕ → Type 0
 IsShort bytes = length bytes ≤ 1048576
 
--- so many bytes of the reader were put behind the others
+-- so many bytes of the reader were put after the others
 abbrev pub HasTaken : ℕ → Option (List ℕ) → Option (List ℕ) → List ℕ → List ℕ → Type 0
 HasTaken count known left old new = (piece : List ℕ) × (length piece ≡ count) × (new ≡ old ++ piece) × Consumes known left piece
 

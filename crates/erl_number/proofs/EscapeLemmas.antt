@@ -1,4 +1,4 @@
--- What stands behind a backslash, byte by byte.
+-- What stands after a backslash, byte by byte.
 use Rattle.std.proofs.Common.{◌≡◌, ℕ, ◌+◌, ◌*◌, ◌-◌, ◌<◌, ◌≤◌, ◌^◌, ◌%◌, Bool, true, false, ◌&&◌, ◌||◌, if◌then◌else◌, nat_lt, nat_le, eqb, List, [], ◌∷◌, length, drop, get_or, Option, Some, None, slice_get, refl, sym, ◌∙◌, ap, arith}
 use Rattle.std.specs.Char.{is_digit, digit_value}
 use Rattle.std.specs.Str.Parse.{digits_value}
@@ -107,7 +107,7 @@ octal_three bytes at a b c code size ea eb ec is three =
     let value : code ≡ digits_value 8 (i.byte ∷ k.byte ∷ m.byte ∷ []) = omega (arith, i.value, k.value, m.value) in
     rw row (λ j. scalar (value j) (three j))
 
--- behind `x`
+-- after `x`
 pub hexadecimal_end : (bytes : List ℕ) (at : ℕ) → byte_in (slice_get bytes (at + 1)) ≡ None → unfinished ≡ hexadecimal (drop (at + 1) bytes)
 hexadecimal_end bytes at e = sym (next_none bytes (at + 1) _ e)
 
@@ -143,7 +143,7 @@ hexadecimal_other bytes at x e other none =
     let fails = no_digit 16 bytes (at + 1) x none (slice_get_byte (slice_get bytes (at + 1)) x e) in
     sym (next_some bytes (at + 1) x _ e ∙ rw (other, fails) refl)
 
--- behind `x` and a hexadecimal digit
+-- after `x` and a hexadecimal digit
 pub paired_end : (bytes : List ℕ) (at x : ℕ) → byte_in (slice_get bytes at) ≡ None → unfinished ≡ paired x (drop at bytes)
 paired_end bytes at x e = sym (next_none bytes at _ e)
 
@@ -172,7 +172,7 @@ paired_digit bytes at first a b code size ea eb is three =
 pub paired_other : (bytes : List ℕ) (at x y : ℕ) → byte_in (slice_get bytes at) ≡ Some y → digit_in 16 (slice_get bytes at) ≡ None → senseless ≡ paired x (drop at bytes)
 paired_other bytes at x y e none = sym (next_some bytes at y _ e ∙ rw (no_digit 16 bytes at y none (slice_get_byte (slice_get bytes at) y e)) refl)
 
--- behind `^`
+-- after `^`
 pub caret_end : (bytes : List ℕ) (at : ℕ) → byte_in (slice_get bytes at) ≡ None → unfinished ≡ caret (drop at bytes)
 caret_end bytes at e = sym (next_none bytes at _ e)
 
@@ -265,7 +265,7 @@ braced_closed bytes at to code size h e some is long =
     ∙ (ap (λ ds. scalar (digits_value 16 ds) (length (hex_digits (drop at bytes)) + 3)) (ap bare_digits row ∙ bare)
     ∙ sym (rw (h.behind) (next_some bytes to 125 _ e ∙ rw more refl))))
 
--- behind a backslash
+-- after a backslash
 pub escape_end : (bytes : List ℕ) (at : ℕ) → byte_in (slice_get bytes at) ≡ None → unfinished ≡ escape (drop at bytes)
 escape_end bytes at e = sym (next_none bytes at _ e)
 

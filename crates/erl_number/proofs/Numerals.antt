@@ -133,7 +133,7 @@ behind_base-capped : (start base size at : ℕ) (xs : List ℕ) → behind_base 
 behind_base-capped start base size at [] = refl
 behind_base-capped start base size at (x ∷ xs) = ap (λ n. if is_alphanumeric x then n else faulty (BadToken at)) (in_base-capped start base size (x ∷ xs))
 
--- behind decimal digits
+-- after decimal digits
 pub digits_base : (start at to number : ℕ) (bytes row : List ℕ) → IsRow start at to bytes row → slice_get bytes to ≡ Some 35 → number ≡ capped (spelled_by 10 row)
     → behind_base start number ((to + 1) - at) (to + 1) (drop (to + 1) bytes) ≡ digits_numeral start at (drop at bytes)
 digits_base start at to number bytes row r e is =
@@ -169,7 +169,7 @@ digits_whole start at to number bytes row r differs plain is =
     (λ j. whole (is j) (size j))
     ∙ sym (ap capped_numeral (r.is ∙ (plain_digits start at to bytes row differs ∙ ap (λ b. if b then faulty (Unsupported start) else whole (spelled_by 10 row) (length row)) plain)))
 
--- behind a base
+-- after a base
 pub base_end : (start base size at : ℕ) (bytes : List ℕ) → slice_get bytes at ≡ None → cut_off ≡ capped_numeral (behind_base start base size at (drop at bytes))
 base_end start base size at bytes e = sym (ap (λ xs. capped_numeral (behind_base start base size at xs)) (drop_none bytes at e))
 
@@ -215,7 +215,7 @@ bytes_eq_length (x ∷ xs) (y ∷ ys) e = go (eqb x y) (bytes_eq xs ys) e (bytes
     go true b e f = ap suc (f e)
     go false b e f = absurd cc
 
--- behind it, digits of the base alone, or others too
+-- after it, digits of the base alone, or others too
 in_base-row : (start base size : ℕ) (bytes : List ℕ) (at end : ℕ) → end ≡ at + length (leading (goes_on_with InDigits) (drop at bytes)) → goes_on_as_float (drop end bytes) ≡ false → (b : Bool)
     → (is_in 2 36 base && bytes_eq (digit_row base (drop at bytes)) (leading (goes_on_with InDigits) (drop at bytes))) ≡ b
     → in_base start base size (drop at bytes)
@@ -282,7 +282,7 @@ ended-run at end bytes e =
             rw small (e ∙ ap (λ q. ended q (drop (length (leading (goes_on_with InText) xs)) xs)) place)
         go false t e = let same : p ≡ p + 0 = omega arith in ap (λ q. ended q (x ∷ xs)) same
 
--- the byte behind a run is none of it
+-- the byte after a run is none of it
 behind_run : (p : ℕ → Bool) (xs : List ℕ) (x : ℕ) (ys : List ℕ) → drop (length (leading p xs)) xs ≡ x ∷ ys → p x ≡ false
 behind_run p [] x ys e = absurd cc
 behind_run p (z ∷ zs) x ys e = go (p z) refl e (behind_run p zs x ys)
@@ -301,7 +301,7 @@ ended_some at end x bytes e s =
 pub ended_none : (at end : ℕ) (bytes : List ℕ) → end ≡ at + length (leading (goes_on_with InText) (drop at bytes)) → slice_get bytes end ≡ None → cut_off ≡ ended at (drop at bytes)
 ended_none at end bytes e s = sym (ended-run at end bytes e ∙ ap (ended end) (drop_none bytes end s))
 
--- behind `$`
+-- after `$`
 pub character_none : (at : ℕ) (bytes : List ℕ) → slice_get bytes at ≡ None → cut_off ≡ capped_numeral (character_numeral at (drop at bytes))
 character_none at bytes e = sym (ap (λ xs. capped_numeral (character_numeral at xs)) (drop_none bytes at e))
 
@@ -330,7 +330,7 @@ character_itself at x c to code long bytes e small differs is fits same l =
     ∙ sym (ap capped_numeral (itself_plain at x bytes e small differs
     ∙ ap (character_number 1 at (drop (at + 1) bytes)) (ap (λ y. itself y (drop (at + 1) bytes)) (sym byte) ∙ is)))
 
--- behind `$` and a backslash
+-- after `$` and a backslash
 character_escape : (at : ℕ) (bytes : List ℕ) → slice_get bytes at ≡ Some 92 → character_numeral at (drop at bytes) ≡ character_number 2 at (drop (at + 1) bytes) (escape (drop (at + 1) bytes))
 character_escape at bytes e = ap (character_numeral at) (drop_some bytes at 92 e)
 

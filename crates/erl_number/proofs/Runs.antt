@@ -20,7 +20,7 @@ sealed-IsUtf8 bs u =
     let whole : (length bs == length bs) ≡ true = grind (arith, nat_tests) in
     rw (utf8_valid_len-IsUtf8 bs u, whole) (append-nil (take (length bs) bs) ∙ take-length bs)
 
--- what is read of bytes that go on behind their first part that is UTF-8
+-- what is read of bytes that go on after their first part that is UTF-8
 pub sealed_first : (bytes rest valid text more : List ℕ) → rest ≡ bytes → text ≡ valid → rest ≡ valid ++ more → length valid ≡ utf8_valid_len rest
     → text ++ seal (nat_lt (length text) (length bytes)) ≡ sealed bytes
 sealed_first bytes rest valid text more same is cut first =

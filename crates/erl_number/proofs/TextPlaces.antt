@@ -13,7 +13,7 @@ use Rattle.erl_number.specs.Escapes.Character.{means}
 use Rattle.erl_number.specs.Views.{seal}
 use Rattle.erl_number.proofs.Parts.{byte_valid}
 
--- behind a byte that is a character of its own the text may be cut
+-- after a byte that is a character of its own the text may be cut
 pub byte_cut : (valid : List ℕ) (b : Bool) (at x : ℕ) → IsUtf8 valid → slice_get (valid ++ seal b) at ≡ Some x → x < 128 → IsCharBoundary valid (at + 1)
 byte_cut valid b at x utf8 e small =
     let byte : get_or (valid ++ seal b) at 0 ≡ x = get_or_from_slice_get (valid ++ seal b) at x 0 e in
@@ -68,7 +68,7 @@ scalar_first c bs rest utf8 e = left (scalar c) (scalars (chars rest)) (sym (ap 
     left true y e = refl
     left false y e = e
 
--- the place behind a character, counted from the end
+-- the place after a character, counted from the end
 pub place_behind : (valid : List ℕ) (at c : ℕ) (rest : List ℕ) → at < length valid → drop at valid ≡ encode c ++ rest → length valid - length rest ≡ at + len_utf8 c
 place_behind valid at c rest l e =
     let long : length (drop at valid) ≡ length (encode c) + length rest = ap length e ∙ length-append (encode c) rest in
@@ -84,7 +84,7 @@ itself_at valid b at c rest l utf8 e =
     let size : length (encode c) ≡ (length valid - length rest) - at = omega (arith, place_behind valid at c rest l e, length-encode c) in
     itself-encode c (get_or (valid ++ seal b) at 0) (drop (at + 1) (valid ++ seal b)) (rest ++ seal b) (scalar_first c (drop at valid) rest utf8 e) bytes ∙ ap (means c) size
 
--- behind it the text may be cut
+-- after it the text may be cut
 pub character_cut : (valid : List ℕ) (at c : ℕ) (rest : List ℕ) → at < length valid → IsUtf8 (drop at valid) → drop at valid ≡ encode c ++ rest
     → (at < length valid - length rest) × IsCharBoundary valid (length valid - length rest)
 character_cut valid at c rest l utf8 e =

@@ -41,25 +41,25 @@ scalar c size = if nat_lt c 0xD800 || is_in 0xE000 0x10FFFF c then means c size 
 abbrev pub octal : List ℕ → Character
 octal xs = let ds = take 3 (leading (λ c. is_digit c 8) xs) in scalar (digits_value 8 ds) (length ds)
 
--- hexadecimal digits up to a brace, behind `x{`
+-- hexadecimal digits up to a brace, after `x{`
 abbrev pub braced : List ℕ → Character
 braced xs =
     let ds = leading (λ c. is_digit c 16) xs in
     with_next (drop (length ds) xs) (λ y ys. if y == 125 && nat_lt 0 (length ds) then scalar (digits_value 16 ds) (length ds + 3) else senseless)
 
--- two hexadecimal digits, behind `x`
+-- two hexadecimal digits, after `x`
 abbrev pub paired : ℕ → List ℕ → Character
 paired x xs = with_next xs (λ y ys. if is_digit y 16 then means (digits_value 16 (x ∷ y ∷ [])) 3 else senseless)
 
--- behind `x`
+-- after `x`
 abbrev pub hexadecimal : List ℕ → Character
 hexadecimal xs = with_next xs (λ y ys. if y == 123 then braced ys else if is_digit y 16 then paired y ys else senseless)
 
--- a control character by the letter above it, behind `^`
+-- a control character by the letter above it, after `^`
 abbrev pub caret : List ℕ → Character
 caret xs = with_next xs (λ y ys. if is_in 64 95 y || is_in 97 122 y then means (y % 32) 2 else senseless)
 
--- the character that a letter behind a backslash stands for, if not for itself
+-- the character that a letter after a backslash stands for, if not for itself
 abbrev pub letter_character : ℕ → Option ℕ
 letter_character x =
     if x == 98 then Some 8 else if x == 100 then Some 127 else if x == 101 then Some 27
@@ -71,7 +71,7 @@ abbrev pub by_name : Option ℕ → ℕ → List ℕ → Character
 by_name (Some c) x xs = means c 1
 by_name None x xs = itself x xs
 
--- what stands behind a backslash
+-- what stands after a backslash
 abbrev pub escape : List ℕ → Character
 escape bytes =
     with_next bytes (λ x xs. if is_digit x 8 then octal (x ∷ xs) else if x == 120 then hexadecimal xs else if x == 94 then caret xs else by_name (letter_character x) x xs)

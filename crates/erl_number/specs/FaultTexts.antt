@@ -13,7 +13,7 @@ term_fault_text (Unsupported at) = codes "Unsupported " ++ decimal at
 term_fault_text (Deep at) = codes "Deep " ++ decimal at
 term_fault_text NoMemory = codes "NoMemory"
 
--- a name, and behind it the place if there is one
+-- a name, and after it the place if there is one
 abbrev pub placed_text : List ℕ → Option ℕ → List ℕ
 placed_text name (Some at) = name ++ (codes " " ++ decimal at)
 placed_text name None = name

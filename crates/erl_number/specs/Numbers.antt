@@ -19,7 +19,7 @@ abbrev pub begins : (ℕ → Bool) → List ℕ → Bool
 begins p [] = false
 begins p (x ∷ xs) = p x
 
--- digits behind the first: between two of them `_` may stand
+-- digits after the first: between two of them `_` may stand
 abbrev pub more_digits : ℕ → List ℕ → List ℕ
 more_digits base [] = []
 more_digits base (x ∷ xs) =
@@ -38,7 +38,7 @@ abbrev pub goes_on_as_float : List ℕ → Bool
 goes_on_as_float [] = false
 goes_on_as_float (x ∷ xs) = x == 46 && begins (λ y. is_digit y 10) xs
 
--- a number that begins at this place, with these bytes behind it
+-- a number that begins at this place, with these bytes after it
 abbrev pub unless_float : ℕ → List ℕ → Numeral → Numeral
 unless_float start rest n = if goes_on_as_float rest then faulty (Unsupported start) else n
 
@@ -46,19 +46,19 @@ unless_float start rest n = if goes_on_as_float rest then faulty (Unsupported st
 abbrev pub is_alphanumeric : ℕ → Bool
 is_alphanumeric x = is_digit x 36
 
--- the number behind a base and `#`, of so many bytes with these: all letters, digits and `_` are taken for digits
+-- the number after a base and `#`, of so many bytes with these: all letters, digits and `_` are taken for digits
 abbrev pub in_base : ℕ → ℕ → ℕ → List ℕ → Numeral
 in_base start base size xs =
     let row = leading (λ x. is_alphanumeric x || x == 95) xs in
     unless_float start (drop (length row) xs)
     (if is_in 2 36 base && bytes_eq (digit_row base xs) row then whole (spelled_by base row) (size + length row) else faulty (BadNumber start))
 
--- behind a base and `#`: at is the place of what stands there
+-- after a base and `#`: at is the place of what stands there
 abbrev pub behind_base : ℕ → ℕ → ℕ → ℕ → List ℕ → Numeral
 behind_base start base size at [] = cut_off
 behind_base start base size at (x ∷ xs) = if is_alphanumeric x then in_base start base size (x ∷ xs) else faulty (BadToken at)
 
--- behind a row of decimal digits
+-- after a row of decimal digits
 abbrev pub behind_digits : ℕ → ℕ → List ℕ → List ℕ → Numeral
 behind_digits start at row [] = whole (spelled_by 10 row) (length row)
 behind_digits start at row (x ∷ xs) =
@@ -80,7 +80,7 @@ character_number size at xs (means c n) = whole c (size + n)
 character_number size at xs senseless = faulty (BadToken at)
 character_number size at xs unfinished = ended (at + 1) xs
 
--- behind `$`
+-- after `$`
 abbrev pub character_numeral : ℕ → List ℕ → Numeral
 character_numeral at [] = cut_off
 character_numeral at (x ∷ xs) =

@@ -17,7 +17,7 @@ use Rattle.erl_number.specs.declared.run.Run.{Run}
 use Rattle.erl_number.specs.declared.run.Run.TheVariants.{InName, InQuotes, InComment, InDigits, InBlanks, InText}
 use Rattle.erl_number.specs.Texts.{is_bare_name_byte}
 
--- what stands at a place, as the bytes of a text have it: `specs/Texts` puts 256 behind the last that is UTF-8
+-- what stands at a place, as the bytes of a text have it: `specs/Texts` puts 256 after the last that is UTF-8
 abbrev pub stands_at : At → Option ℕ
 stands_at (Byte x) = Some x
 stands_at NotUtf8 = Some 256
@@ -32,7 +32,7 @@ byte_in None = None
 abbrev pub IsBehind : Text → ℕ → ℕ → Type 0
 IsBehind text at to = (at < to) × (to ≤ 2 ^ 63) × IsCharBoundary text.valid.now to
 
--- a character from this place on, by the place behind it
+-- a character from this place on, by the place after it
 abbrev pub character_value : ℕ → Escaped → Character
 character_value at (Means c to) = means c (to - at)
 character_value at Senseless = senseless
@@ -53,7 +53,7 @@ abbrev pub digit_in : ℕ → Option ℕ → Option ℕ
 digit_in base (Some x) = if is_digit x base then Some (digit_value x) else None
 digit_in base None = None
 
--- the digits of a base that the bytes begin with; where they are joined, each may stand behind a `_`
+-- the digits of a base that the bytes begin with; where they are joined, each may stand after a `_`
 abbrev pub digits_here : Bool → ℕ → List ℕ → List ℕ
 digits_here joined base [] = []
 digits_here joined base (x ∷ xs) =
@@ -63,7 +63,7 @@ digits_here joined base (x ∷ xs) =
 abbrev pub capped : ℕ → ℕ
 capped n = min n (2 ^ 63 + 1)
 
--- a number without its sign from this place on, by the place behind it
+-- a number without its sign from this place on, by the place after it
 abbrev pub numeral_value : ℕ → CodeNumeral → Numeral
 numeral_value at (Whole n to) = whole n (to - at)
 numeral_value at (Faulty f) = faulty f

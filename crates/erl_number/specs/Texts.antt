@@ -3,7 +3,7 @@ use Rattle.std.specs.Prelude.{ℕ, Bool, ◌||◌, List, [], ◌∷◌, ◌++◌
 use Rattle.std.specs.Str.Lossy.{utf8_valid_len}
 use Rattle.erl_number.specs.Escapes.{is_in}
 
--- the bytes as far as they are UTF-8, and behind them, where there are more, a number that is no byte
+-- the bytes as far as they are UTF-8, and after them, where there are more, a number that is no byte
 abbrev pub sealed : List ℕ → List ℕ
 sealed bytes = take (utf8_valid_len bytes) bytes ++ (if utf8_valid_len bytes == length bytes then [] else 256 ∷ [])
 

@@ -2,7 +2,7 @@
 use Rattle.std.specs.Prelude.{ℕ, Bool, true, false, List, [], ◌∷◌, ◌++◌}
 use Rattle.erl_number.specs.declared.text.Text.{Text}
 
--- behind bytes that are UTF-8: a number that is no byte, if more follow
+-- after bytes that are UTF-8: a number that is no byte, if more follow
 abbrev pub seal : Bool → List ℕ
 seal true = 256 ∷ []
 seal false = []

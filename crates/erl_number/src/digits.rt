@@ -16,11 +16,11 @@ const TOO_LARGE: u64 = 9_223_372_036_854_775_809;
 pub struct Digits {
     /// The number that they spell, or 2^63 + 1 where it is larger.
     pub number: u64,
-    /// The place behind them.
+    /// The place after them.
     pub to: usize,
 }
 
-/// The digits of a base from this place on. Where they are joined, each may stand behind a `_`.
+/// The digits of a base from this place on. Where they are joined, each may stand after a `_`.
 pub fn read_digits(text: Text<'_>, from: usize, base: u8, joined: bool) -> Digits
     requires from { from ≤ 2 ^ 63 }
     requires low { 2 ≤ base }

@@ -1,4 +1,4 @@
-//! What stands behind a backslash.
+//! What stands after a backslash.
 ghost use Rattle.std.specs.Prelude.{◌≡◌, ℕ, ◌+◌, ◌-◌, ◌<◌, ◌^◌, ◌||◌, drop, slice_get, slice_index};
 ghost use Rattle.std.specs.Str.{IsCharBoundary};
 ghost use Rattle.erl_number.specs.Escapes.{is_in, escape, octal as octal_escape, hexadecimal as hexadecimal_escape, braced as braced_escape, paired as paired_escape, caret as caret_escape, by_name as by_name_escape, letter_character, scalar as scalar_character};
@@ -11,7 +11,7 @@ use crate::text::Text;
 /// What bytes spell as a character.
 #[derive(Clone, Copy)]
 pub enum Escaped {
-    /// The character, and the place behind it.
+    /// The character, and the place after it.
     Means(char, usize),
     /// None.
     Senseless,
@@ -19,7 +19,7 @@ pub enum Escaped {
     Unfinished,
 }
 
-/// What stands behind a backslash, from this place on.
+/// What stands after a backslash, from this place on.
 pub fn escape_at(text: Text<'_>, at: usize) -> Escaped
     requires { IsCharBoundary text.valid.now at }
     ensures is { character_value at result ≡ escape (drop at (text_bytes text.entry)) }
@@ -71,7 +71,7 @@ fn hexadecimal(text: Text<'_>, at: usize) -> Escaped
     }
 }
 
-/// Two hexadecimal digits, of which this is the first, behind an `x` at this place.
+/// Two hexadecimal digits, of which this is the first, after an `x` at this place.
 fn paired(text: Text<'_>, at: usize, first: u8) -> Escaped
     requires first { digit_in 16 (slice_get (text_bytes text) (at + 1)) ≡ Some first }
     requires room { at + 1 < 2 ^ 63 }
@@ -89,7 +89,7 @@ fn paired(text: Text<'_>, at: usize, first: u8) -> Escaped
     }
 }
 
-/// Hexadecimal digits in braces, behind an `x` at this place.
+/// Hexadecimal digits in braces, after an `x` at this place.
 fn braced(text: Text<'_>, at: usize) -> Escaped
     requires { at + 1 < 2 ^ 63 }
     ensures is { character_value at result ≡ braced_escape (drop (at + 2) (text_bytes text.entry)) }
@@ -145,7 +145,7 @@ fn by_name(text: Text<'_>, at: usize, byte: u8) -> Escaped
     }
 }
 
-/// The character that a byte behind a backslash stands for, if not for its own.
+/// The character that a byte after a backslash stands for, if not for its own.
 fn letter_character(byte: u8) -> Option<char>
     ensures { result ≡ letter_character byte }
 {

@@ -15,7 +15,7 @@ pub enum TermFault {
     BadNumber(usize),
     /// The innermost bracket or quote that is open at the end.
     Unclosed(usize),
-    /// A whole term has no dot behind it: the place of what stands there instead, or of the text's end.
+    /// A whole term has no dot after it: the place of what stands there instead, or of the text's end.
     MissingDot(usize),
     /// A form of Erlang that isn't read.
     Unsupported(usize),

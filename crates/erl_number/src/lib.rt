@@ -1,9 +1,9 @@
 //! The numbers of Erlang texts.
 //!
 //! `Text::of` takes bytes as far as they are UTF-8 (`sealed`, specs/Texts). `numeral_at` answers the number without a sign
-//! that stands at a place of a text, with the place behind it: the `numeral` of the bytes from that place on
+//! that stands at a place of a text, with the place after it: the `numeral` of the bytes from that place on
 //! (specs/Numbers), or 2^63 + 1 where that is larger. Else it answers the number's fault, or that the text ends within it.
-//! A number is spelled in digits, with a base and `#` in front of them or without, or as a character behind `$`, which
+//! A number is spelled in digits, with a base and `#` in front of them or without, or as a character after `$`, which
 //! may be an escape (`escape_at`, specs/Escapes).
 //! `in_range` answers a number with its sign where 64 bits hold it, and `run_end` where bytes in a row end that a token or
 //! a comment goes on with.

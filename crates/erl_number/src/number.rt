@@ -18,7 +18,7 @@ const LARGEST: u64 = 9_223_372_036_854_775_807;
 /// A number without its sign.
 #[derive(Clone, Copy)]
 pub enum Numeral {
-    /// The number, or 2^63 + 1 where it is larger, and the place behind it.
+    /// The number, or 2^63 + 1 where it is larger, and the place after it.
     Whole(u64, usize),
     /// It has a fault.
     Faulty(TermFault),
@@ -86,7 +86,7 @@ fn behind_base(text: Text<'_>, start: usize, at: usize, base: u64, from: usize) 
     }
 }
 
-/// The digits behind a base and its `#`, from the place `from` on. The number begins at `at`, and at `start` with its sign.
+/// The digits after a base and its `#`, from the place `from` on. The number begins at `at`, and at `start` with its sign.
 fn in_base(text: Text<'_>, start: usize, at: usize, base: u64, from: usize) -> Numeral
     requires onward { at < from }
     requires digit { begins (λ x. is_digit x 36) (drop from (text_bytes text)) ≡ true }
@@ -170,7 +170,7 @@ fn of_escape(text: Text<'_>, at: usize) -> Numeral
     }
 }
 
-/// The text ends behind this place, or is no longer UTF-8 there.
+/// The text ends after this place, or is no longer UTF-8 there.
 fn ended(text: Text<'_>, at: usize) -> Numeral
     requires { at ≤ 2 ^ 63 }
     ensures is { (from : ℕ) → numeral_value from result

@@ -9,7 +9,7 @@ ghost use Rattle.erl_number.specs.Escapes.Character.{means};
 #[derive(Clone, Copy)]
 pub enum At {
     Byte(u8),
-    /// Bytes that are not UTF-8. Nothing behind them is read.
+    /// Bytes that are not UTF-8. Nothing after them is read.
     NotUtf8,
     End,
 }
@@ -66,7 +66,7 @@ impl<'a> Text<'a> {
     pub fn byte(self, place: usize) -> Option<u8>
         ensures is { result ≡ byte_in (slice_get (text_bytes self.entry) place) }
         ensures within { IfSome result (λ _. place < 2 ^ 63) }
-        // Behind a byte that is a character of its own the text may be cut.
+        // After a byte that is a character of its own the text may be cut.
         ensures cut { IfSome result
             (λ byte. byte < 128 → IsCharBoundary self.entry.valid.now (place + 1)) }
     {
@@ -102,7 +102,7 @@ impl<'a> Text<'a> {
         &valid[from..to]
     }
 
-    /// The character that begins at a place, and the place behind it.
+    /// The character that begins at a place, and the place after it.
     pub(crate) fn character_at(self, at: usize) -> (char, usize)
         requires within { at < length self.valid.now }
         requires begins { IsCharBoundary self.valid.now at }

@@ -34,7 +34,7 @@ abbrev pub ClosesEach : List Token → Type 0
 ClosesEach [] = Unit {0}
 ClosesEach (t ∷ ts) = (opened (t ∷ ts) ≤ closed (t ∷ ts)) × ClosesEach ts
 
--- as many brackets are closed as are opened, and each behind its opening
+-- as many brackets are closed as are opened, and each after its opening
 pub record IsEven (ts : List Token) : Type 0 where
   pub same : opened ts ≡ closed ts
   pub ends : ClosesEach ts

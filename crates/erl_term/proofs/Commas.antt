@@ -6,7 +6,7 @@ use Rattle.erl_term.specs.declared.term.Term.{Term}
 use Rattle.erl_term.specs.Value.{value_of, members_of}
 use Rattle.erl_term.specs.Printing.{with_commas, text_of, texts_of}
 
--- one more text, behind others
+-- one more text, after others
 pub with_commas-more : (t : List ℕ) (ts : List (List ℕ)) (s : List ℕ) → with_commas ((t ∷ ts) ++ s ∷ []) ≡ with_commas (t ∷ ts) ++ 44 ∷ s
 with_commas-more t [] s = refl
 with_commas-more t (u ∷ us) s = ap (λ x. t ++ (44 ∷ x)) (with_commas-more u us s) ∙ sym (append_assoc t (44 ∷ with_commas (u ∷ us)) (44 ∷ s))
@@ -34,7 +34,7 @@ prints-first f [] i d h z old out mid new e m n = absurd (omega arith)
 prints-first f (x ∷ xs) zero d h z old out mid new e m n = n ∙ ap (λ y. y ++ f x) (m ∙ e ∙ append-nil old)
 prints-first f (x ∷ xs) (suc i) d h z old out mid new e m n = absurd (omega arith)
 
--- the next text is written out of the next member, behind a comma
+-- the next text is written out of the next member, after a comma
 pub prints-next : {X : Type 0} (f : X → List ℕ) (xs : List X) (i : ℕ) (d : X) → i < length xs → 0 < i → (old out mid new : List ℕ) →
     out ≡ old ++ with_commas (map f (take i xs)) → mid ≡ out ++ 44 ∷ [] → new ≡ mid ++ f (get_or xs i d) → new ≡ old ++ with_commas (map f (take (i + 1) xs))
 prints-next f xs i d h z old out mid new e m n =
@@ -52,7 +52,7 @@ prints-end (Ok v) f xs i h begin end old mid out new m o n =
     n ∙ ap (λ y. y ++ end) all ∙ append_assoc (old ++ begin) texts end ∙ append_assoc old begin (texts ++ end)
 prints-end (Err e) f xs i h begin end old mid out new m o n = tt
 
--- numbers that fit bytes are small, whatever stands behind them
+-- numbers that fit bytes are small, whatever stands after them
 pub all_bytes : (bs : List ℕ) → ((i : ℕ) → get_or bs i 0 < 256) → (k d : ℕ) → k < length bs → get_or bs k d < 256
 all_bytes [] h k d l = absurd (omega arith)
 all_bytes (b ∷ bs) h zero d l = h zero

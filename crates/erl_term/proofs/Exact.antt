@@ -19,7 +19,7 @@ use Rattle.erl_term.proofs.Viability.{plain, terms_are_rows, rows_are_terms, rea
 use Rattle.erl_term.proofs.Innermost.{inside_innermost, begun_has_none, whole_has_none}
 use Rattle.erl_term.proofs.Refusals.{place_reports}
 
--- the end within what begins behind these reports the machine's fault
+-- the end within what begins after these reports the machine's fault
 cut_reports : (limit : ℕ) (is : List Item) (p : Progress) (at : ℕ) → run limit nothing_read is ≡ Ok p → ReportsCut is at (cut_off p.state at)
 cut_reports limit is p at e = go p.state e
   where

@@ -54,7 +54,7 @@ even_has_none is even i (before, after, split, opens, members) =
     never_open (tokens before) (tokens after) i.token opens (are_even (tokens after) members)
     (subst ClosesEach (ap tokens split ∙ map-append (λ i. i.token) before (i ∷ after)) even.ends)
 
--- behind whole terms no bracket is open
+-- after whole terms no bracket is open
 pub begun_has_none : (limit : ℕ) (is : List Item) (done : List Reading) → run limit nothing_read is ≡ Ok (progress done begun) → (i : Item) → IsInnermost is i → ⊥
 begun_has_none limit is done e =
     let (first, row, split, terms, none) = run_stands limit nothing_read (progress done begun) [] is (nothing_stands limit) e in

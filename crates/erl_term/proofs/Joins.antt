@@ -33,7 +33,7 @@ parted : (t : Token) (ts : List Token) → IsNoText t → IsParted t ts
 parted t [] h = tt
 parted t (u ∷ us) h = joined-no_text t u h
 
--- a token that stands behind a term
+-- a token that stands after a term
 abbrev pub IsEnd : Token → Type 0
 IsEnd comma = Unit {0}
 IsEnd dot = Unit {0}
@@ -69,7 +69,7 @@ rest_begin : (ps : Phrases) (us : List Token) → BeginWithEnd us → BeginWithE
 rest_begin no_phrases us e = e
 rest_begin (phrase p ps) us e = tt
 
--- The tokens of a term are apart, and from what stands behind it.
+-- The tokens of a term are apart, and from what stands after it.
 mutual
   pub term_apart : (p : Phrase) (us : List Token) → BeginWithEnd us → AreApart us → AreApart (tokens_of p ++ us)
   term_apart (a_name s) us e h = (parted (name s) us tt, h)

@@ -20,7 +20,7 @@ came limit is before after i split viable =
     viable_prefix limit (tokens before ++ i.token ∷ []) (tokens after)
     (subst (λ ts. Viable limit ts) (ap tokens split ∙ (map-append (λ i. i.token) before (i ∷ after) ∙ sym (append_assoc (tokens before) (i.token ∷ []) (tokens after)))) viable)
 
--- a dot may come behind a whole term alone
+-- a dot may come after a whole term alone
 whole_at_dot : (limit : ℕ) (is : List Item) → MayCome limit (tokens is) dot → (done : List Reading) × (r : Reading) × (run limit nothing_read is ≡ Ok (progress done (whole r)))
 whole_at_dot limit is may =
     let (p, runs) = viable_runs limit is (viable_prefix limit (tokens is) (dot ∷ []) may) in

@@ -1,4 +1,4 @@
--- A row of tokens that spells a term leads the machine behind that term.
+-- A row of tokens that spells a term leads the machine after that term.
 use Rattle.std.proofs.Common.{◌≡◌, ℕ, ℤ, pos, negsuc, suc, ◌+◌, ◌<◌, ◌≤◌, List, [], ◌∷◌, ◌++◌, length, nat_lt, Bool, true, false, if◌then◌else◌, Option, Some, None, Result, Ok, Err, refl, sym, ◌∙◌, ap, subst, arith, append_assoc, append-nil, zero-add}
 use Rattle.std.proofs.lemmas.Bool.Decides.{nat_tests}
 use Rattle.std.proofs.lemmas.Bool.{and_from}
@@ -163,7 +163,7 @@ with_members l ps = record l { members = more l.members ps }
 abbrev pub with_phrase : Level → Phrase → Level
 with_phrase l p = record l { members = with_member (meaning p) (worth (is_same (bracket_of l.members) Binary) p) l.members }
 
--- the state behind a bracket
+-- the state after a bracket
 abbrev pub behind : Level → List Level → ℕ → State
 behind l ls to = put (reading (enclosed l.members) l.from to) [] ls
 
@@ -174,13 +174,13 @@ next_closing limit done s l ls c may e =
     let k : kind_of c.token ≡ closing (bracket_of l.members) = ap kind_of e ∙ kind_of-closes (bracket_of l.members) in
     rw (k, may (bracket_of l.members) c.to, is_same-refl (bracket_of l.members)) refl
 
--- where a member may begin, a row that spells a phrase that fits leads behind it
+-- where a member may begin, a row that spells a phrase that fits leads after it
 abbrev pub Passes : ℕ → Phrase → Type 0
 Passes limit p = (done : List Reading) (s : State) (ls : List Level) (row is : List Item)
     → open_levels s ≡ Some ls → length ls + depth p ≤ limit → HasSegments p → StandsIn (is_binary ls) p → tokens row ≡ tokens_of p
     → run limit (progress done s) (row ++ is) ≡ run limit (progress done (put (reading (meaning p) (first_from row) (last_to row)) (worth (is_binary ls) p) ls)) is
 
--- behind a bracket, or behind one of its members, the members that are left and the end of the bracket lead behind it
+-- after a bracket, or after one of its members, the members that are left and the end of the bracket lead after it
 abbrev pub PassesMembers : ℕ → Phrases → (Phrases → List Token) → State → Level → List Level → Type 0
 PassesMembers limit ps spelled s l ls = (done : List Reading) (row is : List Item) (c : Item)
     → suc (length ls) + depths ps ≤ limit → Holds (bracket_of l.members) ps → tokens row ≡ spelled ps → c.token ≡ closes (bracket_of l.members)
@@ -247,7 +247,7 @@ ends limit s l ls may done row is c e t =
     rw (no_tokens row e) (goes limit (progress done s) (progress done (behind l ls c.to)) c is (next_closing limit done s l ls c may t)
     ∙ ap (λ m. run limit (progress done (behind (record l { members = m }) ls c.to)) is) (more-none l.members))
 
--- one member more, and then those behind it
+-- one member more, and then those after it
 one_more : (limit : ℕ) (s : State) (p : Phrase) (ps : Phrases) (l : Level) (ls : List Level) → Passes limit p
     → ((l : Level) (ls : List Level) → PassesMembers limit ps rest_tokens (inside Later l ls) l ls)
     → open_levels s ≡ Some (l ∷ ls) → (done : List Reading) (row is : List Item) (c : Item)
@@ -301,7 +301,7 @@ mutual
       goes limit (progress done (inside Later l ls)) (progress done (inside Next l ls)) i (row ++ (c ∷ is)) (rw is_comma refl)
       ∙ one_more limit (inside Next l ls) p ps l ls (passes limit p) (rest_passes limit ps) refl done row is c fits holds rest t
 
--- behind a whole term the dot ends it
+-- after a whole term the dot ends it
 pub dot_ends : (limit : ℕ) (done : List Reading) (r : Reading) (d : Item) (is : List Item) → d.token ≡ dot
     → run limit (progress done (whole r)) (d ∷ is) ≡ run limit (progress (done ++ r ∷ []) begun) is
 dot_ends limit done r d is e = goes limit (progress done (whole r)) (progress (done ++ r ∷ []) begun) d is (rw e refl)

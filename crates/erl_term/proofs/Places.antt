@@ -7,13 +7,13 @@ pub record AreSame {A : Type 0} (x a y b : List A) (i j : A) : Type 0 where
   pub here : i ≡ j
   pub after : a ≡ b
 
--- the second stands behind the first
+-- the second stands after the first
 pub record IsBefore {A : Type 0} (x a y b : List A) (i j : A) : Type 0 where
   pub between : List A
   pub further : y ≡ x ++ (i ∷ between)
   pub behind : a ≡ between ++ (j ∷ b)
 
--- places in one list are one, or one of them stands behind the other
+-- places in one list are one, or one of them stands after the other
 pub places : {A : Type 0} (x a y b : List A) (i j : A) → x ++ (i ∷ a) ≡ y ++ (j ∷ b) → AreSame x a y b i j ⊎ (IsBefore x a y b i j ⊎ IsBefore y b x a j i)
 places [] a [] b i j e = inl (record { before = refl; here = (cc); after = (cc) })
 places [] a (k ∷ y) b i j e = inr (inl (record { between = y; further = (cc); behind = (cc) }))

@@ -70,7 +70,7 @@ passed-over quote from at (x ∷ xs) rest =
     ∙ (behind-behind [] [] 1 (length xs) (quoted quote from (at + 1 + length xs) 0 rest)
     ∙ (λ i. behind [] (size i) (quoted quote from (place i) 0 rest)))
 
--- a backslash and what stands for a character behind it
+-- a backslash and what stands for a character after it
 stand-escape : (quote c : ℕ) (bs : List ℕ) → (92 == quote) ≡ false → ((rest : List ℕ) → escape (bs ++ rest) ≡ means c (length bs)) → StandFor quote (92 ∷ bs) (encode_utf8 c)
 stand-escape quote c bs other is from at rest =
     let size : 1 + length bs ≡ length (92 ∷ bs) = omega arith in
@@ -86,7 +86,7 @@ stand-characters : (quote : ℕ) (f : ℕ → List ℕ) (cs : List ℕ) → AllB
 stand-characters quote f [] h = stand-none quote
 stand-characters quote f (c ∷ cs) h = stand-append quote (f c) (flat_map f cs) (encode_utf8 c) (encodes cs) h.0 (stand-characters quote f cs h.1)
 
--- what stands for a text, up to the quote behind it
+-- what stands for a text, up to the quote after it
 pub quoted-closed : (quote from at : ℕ) (bs s rest : List ℕ) → StandFor quote bs s → quoted quote from at 0 (bs ++ (quote ∷ rest)) ≡ closed s (length bs + 1)
 quoted-closed quote from at bs s rest h =
     let ends : (quote == quote) ≡ true = grind (arith, nat_tests) in

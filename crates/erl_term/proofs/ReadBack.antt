@@ -31,7 +31,7 @@ use Rattle.erl_term.proofs.Passes.{last_to-end}
 
 -- Rows
 
--- the items of a text from its place on, whatever stands behind it
+-- the items of a text from its place on, whatever stands after it
 pub record Row (at : ℕ) (s rest : List ℕ) (ts : List Token) : Type 0 where
   pub items : List Item
   pub spelled : tokens items ≡ ts
@@ -287,7 +287,7 @@ no_digit : (xs : List ℕ) → AllByRecursion (λ x. x ≤ 32) xs → goes_on_as
 no_digit [] h = refl
 no_digit (x ∷ xs) h = let blank : x ≤ 32 = h.0 in grind (arith, nat_tests)
 
--- With a dot and blanks behind it, the text of a term within the limits reads as that term.
+-- With a dot and blanks after it, the text of a term within the limits reads as that term.
 pub reads_back : (limit : ℕ) (v : Value) (s : List ℕ) → s ≡ text_of v → IsUtf8 s → IsWithin limit v → FitsTerm v → ReadsAs limit s v
 reads_back limit v s e u h f blanks b = go (subst (λ t. Spells v (brackets v) t) (sym e) (spells v h.0 f))
   where

@@ -70,7 +70,7 @@ never_inside limit is p b t v bytes e k h (inr viable) = go (next limit p (plain
         may_not_come limit is p (plain t) e n
         (viable_prefix limit (tokens is ++ t ∷ []) (closes b ∷ []) (subst (λ ts. Viable limit ts) (sym (append_assoc (tokens is) (t ∷ []) (closes b ∷ []))) viable))
 
--- the innermost bracket may be closed, at once or behind a member
+-- the innermost bracket may be closed, at once or after a member
 comes_inside : (limit : ℕ) (is : List Item) (done : List Reading) (slot : Slot) (l : Level) (ls : List Level) (t : Token) (v : Value) (bytes : Option (List ℕ)) (bs : List ℕ)
     → run limit nothing_read is ≡ Ok (progress done (inside slot l ls)) → kind_of t ≡ leaf v bytes → added bytes (l ∷ ls) ≡ Some bs
     → IsInside limit (tokens is) t (closes (bracket_of l.members))

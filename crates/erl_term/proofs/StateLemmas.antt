@@ -349,7 +349,7 @@ separate_stands limit (inside Next l ls) row c t h k e = absurd (cc)
 separate_stands limit begun row c t h k e = absurd (cc)
 separate_stands limit (whole r) row c t h k e = absurd (cc)
 
--- one term more behind others
+-- one term more after others
 AreTerms-end : (limit : ℕ) (is row : List Item) (d : Item) (rs : List Reading) (r : Reading) → AreTerms limit is rs → IsTerm limit row r → d.token ≡ dot
     → AreTerms limit (is ++ (row ++ d ∷ [])) (rs ++ r ∷ [])
 AreTerms-end limit is row d [] r e t k = (row, [], d, ap (λ y. y ++ (row ++ d ∷ [])) e, k, t, refl)

@@ -1,4 +1,4 @@
--- The tokens of the texts of bare names and numbers, whatever stands before and behind.
+-- The tokens of the texts of bare names and numbers, whatever stands before and after.
 use Rattle.std.proofs.Common.{◌≡◌, ℕ, zero, suc, lit<, ℤ, pos, negsuc, ◌+◌, ◌-◌, ◌<◌, ◌^◌, Bool, true, false, ◌||◌, ◌==◌, nat_lt, nat_le, List, [], ◌∷◌, ◌++◌, length, get_or, drop, filter, codes, if◌then◌else◌, refl, ap, subst, ◌∙◌, not, arith}
 use Rattle.std.specs.Char.{is_digit, digit_value}
 use Rattle.std.specs.List.{list_all, list_any}
@@ -21,11 +21,11 @@ use Rattle.erl_token.specs.Lexing.Start.{token_of}
 use Rattle.erl_term.specs.Printing.{has_bare_form, is_bare, reserved_words}
 use Rattle.erl_term.specs.Within.{IsShortName}
 
--- a byte that stands behind a term, in the text of one: a comma, a dot or the end of a bracket
+-- a byte that stands after a term, in the text of one: a comma, a dot or the end of a bracket
 abbrev pub is_stop : ℕ → Bool
 is_stop x = x == 44 || (x == 46 || (x == 62 || (x == 93 || x == 125)))
 
--- what stands behind a term: such a byte, and no digit behind a full stop
+-- what stands after a term: such a byte, and no digit after a full stop
 abbrev pub IsBehind : List ℕ → Type 0
 IsBehind [] = ⊥
 IsBehind (x ∷ xs) = (is_stop x ≡ true) × (goes_on_as_float (x ∷ xs) ≡ false)
@@ -50,7 +50,7 @@ pub lex_passes : (xs rest : List ℕ) (at : ℕ) → lex at (length xs) (xs ++ r
 lex_passes [] rest at = ap (λ n. lex n 0 rest) (omega arith)
 lex_passes (x ∷ xs) rest at = lex_passes xs rest (at + 1) ∙ ap (λ n. lex n 0 rest) (omega arith)
 
--- a token, and what stands behind it
+-- a token, and what stands after it
 pub lex_token : (x : ℕ) (xs rest : List ℕ) (at : ℕ) (t : Token) →
     start_of at (class_of x) x (xs ++ rest) ≡ token_of (record { token = t; size = length (x ∷ xs) }) →
     lex at 0 (x ∷ (xs ++ rest)) ≡ record { token = t; from = at; to = at + length (x ∷ xs) } ∷ lex (at + length (x ∷ xs)) 0 rest
@@ -119,7 +119,7 @@ digits_alone (d ∷ ds) h =
     let other : (d == 95) ≡ false = grind (arith, nat_tests) in
     rw other (ap (λ xs. d ∷ xs) (digits_alone ds h.1))
 
--- behind the digits of a number stands neither a base nor what makes a float of it
+-- after the digits of a number stands neither a base nor what makes a float of it
 behind_digits-stop : (start at : ℕ) (ds rest : List ℕ) → IsBehind rest → behind_digits start at ds rest ≡ whole (spelled_by 10 ds) (length ds)
 behind_digits-stop start at ds [] b = elim b [ ]
 behind_digits-stop start at ds (x ∷ xs) b =
@@ -143,7 +143,7 @@ numeral-digits start at (d ∷ ds) rest h b =
     ∙ (ap (behind_digits start at (d ∷ ds)) (drop-append_seam (d ∷ ds) rest)
     ∙ (behind_digits-stop start at (d ∷ ds) rest b ∙ ap (λ n. whole n (length (d ∷ ds))) worth)))
 
--- behind a sign a number stands at once
+-- after a sign a number stands at once
 signed-number : (at n : ℕ) (ds rest : List ℕ) → IsNumeral 10 ds → digits_value 10 ds ≡ suc n → n < 2 ^ 63 → IsBehind rest
     → signed at 45 (ds ++ rest) ≡ record { token = number (negsuc n); size = length (45 ∷ ds) }
 signed-number at n [] rest h e l b = absurd (omega (arith, h.0))

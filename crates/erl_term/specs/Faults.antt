@@ -15,15 +15,15 @@ rows (p ∷ ps) = tokens_of p ++ (dot ∷ rows ps)
 abbrev pub Fit : ℕ → List Phrase → Type 0
 Fit limit ps = AllByRecursion (Fits limit) ps
 
--- some tokens behind these make them whole terms
+-- some tokens after these make them whole terms
 abbrev pub Viable : ℕ → List Token → Type 0
 Viable limit ts = (more : List Token) × (ps : List Phrase) × Fit limit ps × (ts ++ more ≡ rows ps)
 
--- the token may stand behind these
+-- the token may stand after these
 abbrev pub MayCome : ℕ → List Token → Token → Type 0
 MayCome limit ts t = Viable limit (ts ++ t ∷ [])
 
--- the innermost open bracket may be closed so, at once or behind such a member
+-- the innermost open bracket may be closed so, at once or after such a member
 abbrev pub IsInside : ℕ → List Token → Token → Token → Type 0
 IsInside limit ts member close = MayCome limit ts close ⊎ Viable limit (ts ++ member ∷ close ∷ [])
 
@@ -71,7 +71,7 @@ IsOpening t = ⊥
 abbrev pub AreMembers : List Token → Type 0
 AreMembers ts = (ps : Phrases) × ((ts ≡ members_tokens ps) ⊎ (ts ≡ members_tokens ps ++ comma ∷ []))
 
--- the innermost bracket that is open behind these
+-- the innermost bracket that is open after these
 abbrev pub IsInnermost : List Item → Item → Type 0
 IsInnermost all i = (before after : List Item) × (all ≡ before ++ (i ∷ after)) × IsOpening i.token × AreMembers (tokens after)
 

@@ -22,7 +22,7 @@ ReadsOrFails = (limit : ℕ) (bytes : List ℕ) → ((rs : List Reading) × Read
 abbrev pub HasOneFault : Type 0
 HasOneFault = (limit : ℕ) (bytes : List ℕ) (f g : TermFault) → IsFault limit bytes f → IsFault limit bytes g → f ≡ g
 
--- The bytes of a term that is read, from its first to its last, with a dot behind them read as that term alone.
+-- The bytes of a term that is read, from its first to its last, with a dot after them read as that term alone.
 abbrev pub EachTermStandsAlone : Type 0
 EachTermStandsAlone =
     (limit : ℕ) (bytes : List ℕ) (before after : List Reading) (r : Reading) → Reads limit bytes (before ++ (r ∷ after))

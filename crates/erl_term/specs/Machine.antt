@@ -125,7 +125,7 @@ abbrev pub put : Reading → List ℕ → List Level → State
 put r bs [] = whole r
 put r bs (l ∷ ls) = inside Later (record l { members = with_member r.term bs l.members }) ls
 
--- the innermost bracket is closed behind this place
+-- the innermost bracket is closed after this place
 abbrev pub shut : Level → List Level → Bracket → ℕ → Option State
 shut l ls b to = if is_same (bracket_of l.members) b then Some (put (record { term = enclosed l.members; from = l.from; to = to }) [] ls) else None
 

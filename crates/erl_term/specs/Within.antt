@@ -42,7 +42,7 @@ abbrev mutual
 abbrev pub IsWithin : ℕ → Value → Type 0
 IsWithin limit v = HasShortNames v × (brackets v ≤ limit)
 
--- With a dot and any blanks behind it, the text reads as this one term, from its first byte to its last.
+-- With a dot and any blanks after it, the text reads as this one term, from its first byte to its last.
 abbrev pub ReadsAs : ℕ → List ℕ → Value → Type 0
 ReadsAs limit text v =
     (blanks : List ℕ) → AllByRecursion (λ x. x ≤ 32) blanks

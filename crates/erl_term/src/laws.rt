@@ -25,7 +25,7 @@ pub fn a_text_has_one_fault()
     ensures { HasOneFault }
 {}
 
-/// The bytes of a term that is read, from its first to its last, with a dot behind them read as that term alone. So a term
+/// The bytes of a term that is read, from its first to its last, with a dot after them read as that term alone. So a term
 /// is what its own bytes spell, whatever stands around it.
 pub fn each_term_stands_alone()
     ensures { EachTermStandsAlone }

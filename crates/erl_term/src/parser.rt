@@ -107,7 +107,7 @@ impl Parser {
         }
     }
 
-    /// The terms, if the text ends here, behind so many bytes.
+    /// The terms, if the text ends here, after so many bytes.
     pub fn finish(self, size: usize) -> Result<Vec<Spanned>, TermFault>
         ensures { GivesTerms result (at_end size (progress_of self).done (progress_of self).state) }
     {
@@ -373,7 +373,7 @@ impl Parser {
         }
     }
 
-    /// A comma behind a member.
+    /// A comma after a member.
     fn separate(&mut self, item: &Item<'_>) -> Result<(), TermFault>
         requires { item.now.token ≡ Comma }
         ensures step { Gives result (progress_of self.new)
@@ -389,7 +389,7 @@ impl Parser {
         }
     }
 
-    /// A dot behind a term.
+    /// A dot after a term.
     fn end(&mut self, item: &Item<'_>) -> Result<(), TermFault>
         requires { item.now.token ≡ Dot }
         ensures step { Gives result (progress_of self.new)

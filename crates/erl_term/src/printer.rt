@@ -16,7 +16,7 @@ use crate::printer::atoms::print_atom;
 use crate::printer::lists::{is_string, print_bytes, print_string};
 use std::alloc::{AllocError, Global};
 
-/// The text of a term, with no blanks and no dot behind it.
+/// The text of a term, with no blanks and no dot after it.
 pub fn print(alloc: Global, term: &Term) -> Result<String, AllocError>
     ensures printed { IfOk result (λ s. string_bytes s ≡ text_of (value_of term.now)) }
 

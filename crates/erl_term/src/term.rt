@@ -32,6 +32,6 @@ pub struct Spanned {
     pub term: Term,
     /// The place of its first byte.
     pub from: usize,
-    /// The place behind its last byte; its dot stands from here on.
+    /// The place after its last byte; its dot stands from here on.
     pub to: usize,
 }

@@ -36,7 +36,7 @@ take_leading_stays (suc n) p s (x ∷ c) d l = go (p x) l (take_leading_stays n 
     go true l f = ap (λ r. x ∷ r) (f (omega (arith, l)))
     go false l f = refl
 
--- what stands behind a place within stays, up to the stop
+-- what stands after a place within stays, up to the stop
 pub drop_stays : (n : ℕ) (c d : List ℕ) → n ≤ length c → (drop n (c ++ d) ≡ drop n c ++ d) × (drop n (c ++ stop) ≡ drop n c ++ stop)
 drop_stays n c d l = (drop-append-le n c d l, drop-append-le n c stop l)
 

@@ -212,7 +212,7 @@ no_whole_text (Close Square) h = refl
 no_whole_text (Close Binary) h = refl
 no_whole_text t h = refl
 
--- the first token as it stands by itself, in front of those behind it
+-- the first token as it stands by itself, in front of those after it
 pub first_item : (bytes : List ℕ) (from at b : ℕ) (k : Class) (i : CodeItem) → lexed bytes from ≡ lexed bytes at → slice_get bytes at ≡ Some b → k ≡ class_of b
     → class_of b ≢ Blank → class_of b ≢ Percent → IsSpelled (spelling at k b (drop (at + 1) bytes)) at i → items_from bytes from ≡ put_item (item_value i) (items_from bytes i.to)
 first_item bytes from at b k i same e is not_blank not_percent spelled =

@@ -62,7 +62,7 @@ begins_token bytes at b e not_blank not_percent =
     begins_at bytes at b e
     ∙ ap (λ t. goes_on at t (λ n. lex (at + 1) n (drop (at + 1) bytes))) (starts_token (class_of b) at b (drop (at + 1) bytes) not_blank not_percent)
 
--- the token that this byte begins, and those behind it
+-- the token that this byte begins, and those after it
 pub takes_spelling : (bytes : List ℕ) (at b : ℕ) (k : Class) → slice_get bytes at ≡ Some b → k ≡ class_of b → k ≢ Blank → k ≢ Percent
     → 0 < (spelling at k b (drop (at + 1) bytes)).size
     → lexed bytes at ≡ (let s = spelling at k b (drop (at + 1) bytes) in record { token = s.token; from = at; to = at + s.size } ∷ lexed bytes (at + s.size))

@@ -96,7 +96,7 @@ in_base_stays start start' base size c d k n e l =
     passed true row e = (refl, e, cc)
     passed false row e = absurd cc
 
--- what stands behind a base takes a byte
+-- what stands after a base takes a byte
 base_least : (start base size at : ℕ) (d : List ℕ) (k n : ℕ) → behind_base start base size at d ≡ whole k n → size < n
 base_least start base size at [] k n e = absurd cc
 base_least start base size at (x ∷ d) k n e = go (is_alphanumeric x) refl e

@@ -37,7 +37,7 @@ pub chars_more : (ps : List Piece) (i : ℕ) (d : Piece) → i < length ps → I
     chars (flat_map piece_bytes (take (i + 1) ps)) ≡ chars (flat_map piece_bytes (take i ps)) ++ chars (piece_bytes (get_or ps i d))
 chars_more ps i d l u = ap chars (bytes_more ps i d l) ∙ chars-append (flat_map piece_bytes (take i ps)) (piece_bytes (get_or ps i d)) u
 
--- the pieces before one, that one, and those behind it
+-- the pieces before one, that one, and those after it
 bytes_around : (ps : List Piece) (i : ℕ) (d : Piece) → i < length ps →
     flat_map piece_bytes ps ≡ flat_map piece_bytes (take i ps) ++ (piece_bytes (get_or ps i d) ++ flat_map piece_bytes (drop (suc i) ps))
 bytes_around [] i d l = absurd (omega arith)

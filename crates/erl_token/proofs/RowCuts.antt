@@ -30,7 +30,7 @@ use Rattle.erl_number.proofs.Runs.{sealed-IsUtf8}
 abbrev Goods : List Item → Type 0
 Goods is = list_all (λ i. is_of_term i.token) is ≡ true
 
--- where a row ends that stands behind this place
+-- where a row ends that stands after this place
 abbrev ends_at : ℕ → List Item → ℕ
 ends_at p [] = p
 ends_at p (i ∷ is) = ends_at i.to is
@@ -288,7 +288,7 @@ find at zero (x ∷ xs) before i is e = go (class_of x) refl before e (λ n befo
     go Percent h before e more = later (comment_size xs) (more (comment_size xs) before e)
     go k h before e more = token (spelling at k x xs) before (ap (λ c. goes_on at (start_of at c x xs) (λ n. lex (at + 1) n xs)) h) e more
 
--- what stands behind a row
+-- what stands after a row
 record Behind (p : ℕ) (bytes : List ℕ) (row more : List Item) : Type 0 where
   pub own : List ℕ
   pub rest : List ℕ
@@ -328,7 +328,7 @@ first_small at x xs i is e never = small_class x (λ other. let same : i.token �
         let first : record { token = stray x; from = at; to = at + 1 } ≡ i = cc in
         sym (ap (λ j. j.token) first)
 
--- the first byte behind a row that a dot follows
+-- the first byte after a row that a dot follows
 record Small (bytes : List ℕ) : Type 0 where
   pub first : ℕ
   pub rest : List ℕ
@@ -441,7 +441,7 @@ reads_cut bytes own from to row ends (slice, dotted) cut =
     ∙ (ap (λ r. join (lex 0 0 (sealed (r ++ stop)))) slice ∙ (ap (λ r. join (lex 0 0 r)) dotted
     ∙ (ap join cut ∙ (join_dot (moved from row) (0 + length own) ∙ ap (λ n. join (moved from row) ++ the_dot n ∷ []) size))))
 
--- A row that was found, with the dot behind it.
+-- A row that was found, with the dot after it.
 cut_found : (bytes : List ℕ) (i : Item) (row : List Item) (j : Item) (more : List Item) (f : Found 0 0 (sealed bytes) i (row ++ (j ∷ more)))
     → Found 0 0 (sealed bytes) j more → Behind i.from (drop f.place (sealed bytes)) (i ∷ row) (j ∷ more) → Goods (i ∷ row) → j.token ≡ dot
     → items_of (slice_range bytes i.from (last_to (i ∷ row)) ++ stop) ≡ join (moved i.from (i ∷ row)) ++ the_dot (last_to (i ∷ row) - i.from) ∷ []

@@ -48,7 +48,7 @@ ends_first : (at x : ℕ) (xs : List ℕ) (is : List Item) → (x == 10 || nat_l
 ends_first at x xs [] h t = ends [] (x ∷ xs) x xs h (sym (append-nil (x ∷ xs))) t
 ends_first at x xs (i ∷ is) h (l, t) = (record { gap = l.gap; own = l.own; behind = l.behind; is = l.is; gaps = ends (l.own ++ l.behind) l.gap x xs h l.is l.gaps; some = l.some; from = l.from; to = l.to }, t)
 
--- a comment, in front of what is tiled behind it
+-- a comment, in front of what is tiled after it
 comment_first : (at : ℕ) (xs : List ℕ) (is : List Item) → Tile false (at + comment_size xs) (drop (comment_size xs) xs) is → Tile true at xs is
 comment_first at [] [] t = refl
 comment_first at [] (i ∷ is) (l, t) =
@@ -68,7 +68,7 @@ comment_first at (x ∷ xs) is t = go (x == 10 || nat_lt 255 x) refl t (λ u. co
         let small : nat_le x 255 ≡ true = grind (arith, nat_tests) in
         one_first true true x at xs is (λ b g e. rw (no_line, small) e) (more behind)
 
--- a token of so many bytes, in front of what is tiled behind it
+-- a token of so many bytes, in front of what is tiled after it
 token_first : (x at : ℕ) (xs : List ℕ) (s : Spelling) (is : List Item) → 0 < s.size → s.size ≤ length xs + 1
     → Tile false (at + 1 + (s.size - 1)) (drop (s.size - 1) xs) is → Tile false at (x ∷ xs) (record { token = s.token; from = at; to = at + s.size } ∷ is)
 token_first x at xs s is some most t =

@@ -6,7 +6,7 @@ use Rattle.std.specs.List.{list_all}
 abbrev pub bytes_of : List ℕ → Option (List ℕ)
 bytes_of ns = if list_all (λ n. nat_lt n 256) ns then Some ns else None
 
--- the characters are bytes and stand behind those that were there, or they are not all bytes
+-- the characters are bytes and stand after those that were there, or they are not all bytes
 abbrev pub IsAdded : Bool → List ℕ → List ℕ → List ℕ → Type 0
 IsAdded true cs old new = (bytes_of cs ≡ Some cs) × (new ≡ old ++ cs)
 IsAdded false cs old new = bytes_of cs ≡ None

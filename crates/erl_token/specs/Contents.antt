@@ -29,7 +29,7 @@ IsAlone c = (chars (encode_utf8 c) ≡ c ∷ []) × IsUtf8 (encode_utf8 c)
 abbrev pub IsQuote : ℕ → Type 0
 IsQuote x = (x ≡ 34) ⊎ (x ≡ 39)
 
--- what follows the quote at this place, by the place behind the next quote
+-- what follows the quote at this place, by the place after the next quote
 abbrev pub IsQuoted : Quoted → ℕ → CodeQuoted → Type 0
 IsQuoted q from (Closed c to) = (q ≡ closed (content_bytes c) (to - (from + 1))) × (from + 1 < to)
 IsQuoted q from (Faulty f) = q ≡ faulty f

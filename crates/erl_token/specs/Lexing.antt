@@ -78,7 +78,7 @@ text_in_quotes (faulty f) = alone (broken some_text f)
 abbrev pub in_range : ℕ → ℤ → ℕ → Spelling
 in_range at z size = if is_int z then record { token = number z; size = size } else alone (broken some_number (BadNumber at))
 
--- the number with its sign, which takes so many bytes with the blanks behind it
+-- the number with its sign, which takes so many bytes with the blanks after it
 abbrev pub numbered : ℕ → (ℕ → ℤ) → ℕ → Numeral → Spelling
 numbered at sign size (whole n m) = in_range at (sign n) (size + m)
 numbered at sign size (faulty_number f) = alone (broken some_number f)
@@ -87,7 +87,7 @@ numbered at sign size cut_off = alone (cut some_number)
 abbrev pub sign_of : ℕ → ℕ → ℤ
 sign_of x n = if x == 45 then neg_ℤ (pos n) else pos n
 
--- behind a sign: blanks, and a number
+-- after a sign: blanks, and a number
 abbrev pub signed : ℕ → ℕ → List ℕ → Spelling
 signed at x xs = let n = length (leading (λ y. nat_le y 32) xs) in numbered at (sign_of x) (n + 1) (numeral at (at + 1 + n) (drop n xs))
 
@@ -96,12 +96,12 @@ abbrev pub doubled : Token → ℕ → List ℕ → Spelling
 doubled t x [] = alone (cut t)
 doubled t x (y ∷ ys) = if y == x then record { token = t; size = 2 } else alone (stray x)
 
--- what may stand behind a full stop that is a dot: a blank, a comment or the end
+-- what may stand after a full stop that is a dot: a blank, a comment or the end
 abbrev pub ends_a_term : List ℕ → Bool
 ends_a_term [] = true
 ends_a_term (x ∷ xs) = nat_le x 32 || x == 37
 
--- The token at this place: the class of its first byte, that byte, and those behind it. No blank and no comment begins one.
+-- The token at this place: the class of its first byte, that byte, and those after it. No blank and no comment begins one.
 abbrev pub spelling : ℕ → Class → ℕ → List ℕ → Spelling
 spelling at Comma x xs = alone comma
 spelling at OpenTuple x xs = alone open_tuple
@@ -126,7 +126,7 @@ abbrev pub comment_size : List ℕ → ℕ
 comment_size [] = 0
 comment_size (x ∷ xs) = if x == 10 || nat_lt 255 x then 0 else comment_size xs + 1
 
--- a token, from its first byte to behind its last
+-- a token, from its first byte to after its last
 pub record Item : Type 0 where
   pub token : Token
   pub from : ℕ
@@ -146,7 +146,7 @@ abbrev pub goes_on : ℕ → Start → (ℕ → List Item) → List Item
 goes_on at (gap n) rest = rest n
 goes_on at (token_of s) rest = record { token = s.token; from = at; to = at + s.size } ∷ rest (s.size - 1)
 
--- The tokens of the bytes from this place on, behind so many that belong to what began before them.
+-- The tokens of the bytes from this place on, after so many that belong to what began before them.
 abbrev pub lex : ℕ → ℕ → List ℕ → List Item
 lex at n [] = []
 lex at (suc n) (x ∷ xs) = lex (at + 1) n xs

@@ -10,7 +10,7 @@ pub data Quoted : Type 0 where
   closed : List ℕ → ℕ → Quoted
   faulty : TermFault → Quoted
 
--- behind so many bytes that stand for these
+-- after so many bytes that stand for these
 abbrev pub behind : List ℕ → ℕ → Quoted → Quoted
 behind text size (closed rest n) = closed (text ++ rest) (size + n)
 behind text size q = q
@@ -20,13 +20,13 @@ abbrev pub unclosed : ℕ → ℕ → List ℕ → TermFault
 unclosed from at [] = Unclosed from
 unclosed from at (x ∷ xs) = if nat_lt 255 x then BadToken at else unclosed from (at + 1) xs
 
--- behind the backslash at this place, an escape and what follows it by its length
+-- after the backslash at this place, an escape and what follows it by its length
 abbrev pub escaped : ℕ → ℕ → List ℕ → (ℕ → Quoted) → Character → Quoted
 escaped from at xs rest (means c size) = behind (encode_utf8 c) 1 (rest size)
 escaped from at xs rest senseless = faulty (BadToken at)
 escaped from at xs rest unfinished = faulty (unclosed from (at + 1) xs)
 
--- What stands from this place on, up to the next such quote, behind so many bytes of an escape that began before them:
+-- What stands from this place on, up to the next such quote, after so many bytes of an escape that began before them:
 -- from is the place of the quote that opens it.
 abbrev pub quoted : ℕ → ℕ → ℕ → ℕ → List ℕ → Quoted
 quoted quote from at n [] = faulty (Unclosed from)

@@ -29,7 +29,7 @@ moved_item n i = record { token = i.token; from = i.from - n; to = i.to - n }
 abbrev pub moved : ℕ → List Item → List Item
 moved n is = map (moved_item n) is
 
--- A row of tokens of a term, in front of a dot: its bytes, from its first to its last, with a dot behind them are a text
+-- A row of tokens of a term, in front of a dot: its bytes, from its first to its last, with a dot after them are a text
 -- of the same tokens and a dot.
 abbrev pub RowsStandAlone : Type 0
 RowsStandAlone =

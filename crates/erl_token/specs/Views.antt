@@ -46,7 +46,7 @@ lexed bytes at = lex at 0 (drop at bytes)
 abbrev pub items_from : List ℕ → ℕ → List Item
 items_from bytes at = join (lexed bytes at)
 
--- the first of these tokens, which ends behind this place, and those from its end on
+-- the first of these tokens, which ends after this place, and those from its end on
 abbrev pub IsFirst : List ℕ → List Item → ℕ → Item → Type 0
 IsFirst bytes all at i = (all ≡ i ∷ items_from bytes i.to) × (at < i.to)
 

@@ -25,7 +25,7 @@ pub enum Content<'a> {
 }
 
 impl<'a> Content<'a> {
-    /// More stands behind it.
+    /// More stands after it.
     pub(crate) fn and(self, alloc: Global, more: Content<'a>) -> Result<Content<'a>, AllocError>
         ensures { IfOk result
             (λ c. content_bytes c ≡ content_bytes self.entry ++ content_bytes more.entry) }
@@ -41,7 +41,7 @@ impl<'a> Content<'a> {
         Ok(Content::Row(row))
     }
 
-    /// A character stands behind it.
+    /// A character stands after it.
     pub(crate) fn and_character(
         self,
         alloc: Global,

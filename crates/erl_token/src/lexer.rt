@@ -287,7 +287,7 @@ fn number(text: Text<'_>, at: usize) -> Item<'_>
     numbered(numeral_at(text, at, at), at, false)
 }
 
-/// A number behind its sign, which is this byte, and blanks.
+/// A number after its sign, which is this byte, and blanks.
 fn signed(text: Text<'_>, at: usize, byte: u8) -> Item<'_>
     requires { at < 2 ^ 63 }
     ensures { IsSpelled (signed_spelling at byte

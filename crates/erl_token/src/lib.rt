@@ -9,7 +9,7 @@
 //! What stands between quotes is not copied: it is kept in pieces (`Content`), and written out by
 //! `Content::to_text` as a text and by `push_characters` as bytes.
 //! The functions of `laws` say of the definitions that the items of a text tile it, and that a row of tokens that is cut
-//! out of its text, with a dot behind it, has the same tokens.
+//! out of its text, with a dot after it, has the same tokens.
 //!
 //! Only tested: texts against Erlang/OTP (docs/MEASUREMENTS.md). Trusted: the toolchain alone.
 #![tactic(auto)]

@@ -12,7 +12,7 @@ use std::alloc::{AllocError, Global};
 /// What follows a quote.
 #[derive(Drop)]
 pub enum Quoted<'a> {
-    /// What stands up to the next such quote, and the place behind that.
+    /// What stands up to the next such quote, and the place after that.
     Closed(Content<'a>, usize),
     /// No such quote closes it, or something else is wrong before that.
     Faulty(TermFault),
@@ -62,7 +62,7 @@ pub fn quoted_from<'a>(
     }
 }
 
-/// The fault of a quote that the text's end leaves open, seen from a place behind it.
+/// The fault of a quote that the text's end leaves open, seen from a place after it.
 fn unclosed(text: Text<'_>, from: usize, at: usize) -> TermFault
     requires { at ≤ length text.valid.now }
     ensures { result ≡ unclosed_fault from at (drop at (text_bytes text.entry)) }

@@ -42,7 +42,7 @@ pub enum Token<'a> {
     Cut(Like),
 }
 
-/// A token, from its first byte to behind its last.
+/// A token, from its first byte to after its last.
 #[derive(Drop)]
 pub struct Item<'a> {
     pub token: Token<'a>,

@@ -1,4 +1,4 @@
--- The courses that the handler follows behind the start and the stop of an application.
+-- The courses that the handler follows after the start and the stop of an application.
 use Rattle.std.proofs.Common.{◌≡◌, ◌≢◌, ℕ, zero, suc, ◌+◌, ◌<◌, ◌≤◌, ◌==◌, Bool, true, false, ◌&&◌, if◌then◌else◌, true≢false, List, [], ◌∷◌, ◌++◌, length, reverse, take, Option, Some, None, Result, Ok, Err, slice_index_or, slice_set, refl, ap, sym, subst, ◌∙◌, arith, append-nil}
 use Rattle.std.specs.Option.{option_map_or}
 use Rattle.std.proofs.lemmas.Bool.Decides.{nat_tests}
@@ -71,14 +71,14 @@ not_out : (o : Bool) (n : Option ℕ) (r : ℕ) → (if o then None else n) ≡ 
 not_out true n r e = absurd (cc)
 not_out false n r e = refl
 
--- a step at a slot that isn't held before and behind it
+-- a step at a slot that isn't held before and after it
 step_free : (first : View) (cs ds : Courses) (hs : HeldSlots) (v w : View) (p : ℕ) → AllFollow first cs hs v → p < slots → slice_index_or hs p None ≡ None
     → Steps (past_of first cs p) p (ds p) v None w → ((q : ℕ) → q ≢ p → ds q ≡ cs q) → AllFollow first ds hs w
 step_free first cs ds hs v w p f inside free s others =
     subst (λ (l : HeldSlots). AllFollow first ds l w) (ap (λ (o : Option HeldForm). slice_set hs p o) (sym free) ∙ set-get_or hs p None)
     (step_all first cs cs ds hs v w p None f inside s others)
 
--- what was seen stays legal behind a hold and a release
+-- what was seen stays legal after a hold and a release
 pub legal_behind : (p : ℕ) (es : List HistoryEntry) (v : View) (h : Holding) (u w : View) → AllLegal v → HeldAtLast p v h u → Released p es u w → AllLegal w
 legal_behind p es v h u w legal at r q = dite (ℕ_discrete q p)
     (λ is. subst (λ z. IsLegal (seen w z)) (sym is) r.legal)
@@ -208,7 +208,7 @@ stands_known first cs hs v pid h u f none at =
     let value : h.value ≡ replay (seen v p ++ s.between) = s.value ∙ ap replay s.seen_is in
     ap (stands pid) value ∙ (λ j. ((then_alike.round ∙ first_alike.round) j == pid.round) && (then_alike.stands ∙ first_alike.stands) j)
 
--- the course of a slot behind it
+-- the course of a slot after it
 abbrev ended_if : Bool → Course → Course
 ended_if b c = if b then add_alone given_up c else c
 

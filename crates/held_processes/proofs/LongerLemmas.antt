@@ -1,4 +1,4 @@
--- What the handler had seen of each slot stays in front behind what is done to applications and to children of supervisors.
+-- What the handler had seen of each slot stays in front after what is done to applications and to children of supervisors.
 use Rattle.std.proofs.Common.{◌≡◌, ℕ, Bool, true, false, List, [], ◌∷◌, reverse, Option, Some, None, Result, Ok, Err, sym, subst}
 use Rattle.proc_table.specs.declared.pid.Pid.{Pid}
 use Rattle.proc_table.specs.declared.view.View.{View}

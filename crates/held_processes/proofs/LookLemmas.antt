@@ -18,7 +18,7 @@ use Rattle.held_processes.proofs.AnyLemmas.{any_found}
 use Rattle.held_processes.proofs.FollowLemmas.{past_of}
 use Rattle.held_processes.proofs.TakenLemmas.{IsFoundMore, free_user, taken_later, taken_since}
 
--- all follow behind a look at one slot
+-- all follow after a look at one slot
 pub looked_at : (first : View) (cs : Courses) (hs : HeldSlots) (v w : View) (p : ℕ) (place : Option HeldForm) → AllFollow first cs hs v → place ≡ slice_index_or hs p None
     → Steps (past_of first cs p) p (cs p) v place w → AllFollow first cs hs w
 looked_at first cs hs v w p place f there s = record {
@@ -32,7 +32,7 @@ looked_at first cs hs v w p place f there s = record {
       (λ ne. subst (λ (x : Part). Follows first.lent q (part_of first.parts q) (cs q) x (slice_index_or hs q None)) (sym (s.elsewhere.others q ne)) (f.each q inside));
 }
 
--- none of the slots so far has one, as they are seen behind a look at another
+-- none of the slots so far has one, as they are seen after a look at another
 pub looked_none : (users : ModulesBySlot) (name : List ℕ) (cs : Courses) (v w : View) (n : ℕ) → ((q : ℕ) → q ≢ n → part_of w.parts q ≡ part_of v.parts q)
     → ((p : ℕ) → p < n → is_up_user (values_seen v) users name cs p ≡ false) → is_up_user (values_seen w) users name cs n ≡ false
     → (p : ℕ) → p < n + 1 → is_up_user (values_seen w) users name cs p ≡ false
@@ -47,14 +47,14 @@ not_user users name cs v p none = ap (λ (a : Bool). a && is_some (up_at (value_
 abbrev pub AreTaken : ModulesBySlot → List ℕ → Courses → View → ℕ → View → Type 0
 AreTaken users name cs v n w = (p : ℕ) → p < n → is_free_user users name cs p ≡ true → HasTaken p v w
 
--- behind a look at one more
+-- after a look at one more
 pub one_taken : (first : View) (users : ModulesBySlot) (name : List ℕ) (cs : Courses) (v u w : View) (n : ℕ) → IsFoundMore v u → IsLookedAt (past_of first cs n) n u w → AreTaken users name cs v n u
     → AreTaken users name cs v (n + 1) w
 one_taken first users name cs v u w n more looked so_far p below free = dite (ℕ_discrete p n)
     (λ is. subst (λ q. HasTaken q v w) (sym is) (taken_since n v u w more (looked.taken (subst (λ q. (cs q).hold ≡ not_held) is (free_user users name cs p free)))))
     (λ ne. taken_later p v u w (so_far p (omega (arith, below, ne)) free) looked.found)
 
--- and behind one that is no process of the module
+-- and after one that is no process of the module
 pub none_taken : (users : ModulesBySlot) (name : List ℕ) (cs : Courses) (v u : View) (n : ℕ) → runs name (users n) ≡ false → AreTaken users name cs v n u → AreTaken users name cs v (n + 1) u
 none_taken users name cs v u n none so_far p below free = dite (ℕ_discrete p n)
     (λ is. let no : is_free_user users name cs p ≡ false = ap (λ (b : Bool). b && not (is_held (cs p).hold)) (subst (λ q. runs name (users q) ≡ false) (sym is) none) in absurd (true≢false (sym free ∙ no)))

@@ -1,4 +1,4 @@
--- The handler holds nothing behind what is made of a hold and a release, as starts and stops of applications are.
+-- The handler holds nothing after what is made of a hold and a release, as starts and stops of applications are.
 use Rattle.std.proofs.Common.{◌≡◌, ℕ, false, List, [], ◌∷◌, Option, Result, Ok, Err, refl, ap, sym, subst, ◌∙◌, reverse}
 use native.Mathlib.Decide.{ℕ_discrete}
 use mathlib.Core.Logic.{dite}

@@ -42,7 +42,7 @@ is_kept (Of users) cs lent p first x place f e = on_other (modules_by_slot users
 is_kept UntilPoint cs lent p first x None f e = let free : IsFree (cs p) x = f.at in ap (λ k. at_point k (cs p)) free.hold
 is_kept UntilPoint cs lent p first x (Some h) f e = let held : IsHeld p (cs p) x h = f.at in not_at_point (cs p).hold (cs p) (sym (ap is_until_point held.hold) ∙ e)
 
--- The places that are left of all are as their courses say, and what stood in the others is behind the end of the script.
+-- The places that are left of all are as their courses say, and what stood in the others is after the end of the script.
 pub record IsEnding (first : View) (cs : Courses) (behind : Course → Course) (left : HeldSlots) (v : View) : Type 0 where
   pub handler : v.number ≡ 0
   pub count : v.count ≡ first.count

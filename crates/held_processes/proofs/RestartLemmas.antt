@@ -60,7 +60,7 @@ state_given_up first stay (Process q) cs v NotHeld hs w not f = sym (ap is_held 
 state_given_up first stay Ended cs v e hs w not f = ap is_given_up f.0
 state_given_up first stay (Supervisor m) cs v e hs w not f = ap is_given_up f.0
 
--- what is known of what stands for a child that doesn't stay, behind a look alone
+-- what is known of what stands for a child that doesn't stay, after a look alone
 pub record Looked (first : View) (stay : Stay) (cs : Courses) (m : MemberState) (e : HeldEnd) (hs : HeldSlots) (v w : View) : Type 0 where
   pub seen : View
   pub are_seen : AreSeen first cs seen
@@ -110,7 +110,7 @@ state_looked first stay cs Ended hs hs' v u look e not before f longer looked = 
 state_looked first stay cs (Process q) hs hs' v u look e not before f longer looked = process_looked first stay cs q hs hs' v u look e not before f longer looked
 state_looked first stay cs (Supervisor m) hs hs' v u look e not before f longer looked = absurd (true≢false (sym looked.0))
 
--- what was seen stays legal behind a look and an end
+-- what was seen stays legal after a look and an end
 legal_look : (stay : Stay) (m : MemberState) (b : Bool) (v w : View) → AllLegal v → StateLookedAt stay m b v w → AllLegal w
 legal_look stay Ended b v w legal is = subst AllLegal (sym is.1) legal
 legal_look stay (Process q) b v w legal (h, u, at, reported, r) = legal_behind q.pid.slot [] v h u w legal at r

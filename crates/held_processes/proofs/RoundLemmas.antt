@@ -50,12 +50,12 @@ replay_alike : (x y : Value) (es : List HistoryEntry) → StandAlike x y → Sta
 replay_alike x y [] a = a
 replay_alike x y (e ∷ es) a = replay_alike (after x e.event) (after y e.event) es (after_alike x y e.event a)
 
--- entries of others behind a history leave what stands there
+-- entries of others after a history leave what stands there
 pub others_behind : (v : Value) (g es : List HistoryEntry) → own 0 es ≡ [] → LegalFrom v (g ++ es) → StandAlike (replay_from v g) (replay_from v (g ++ es))
 others_behind v [] es none legal = others_leave v es none legal
 others_behind v (e ∷ g) es none legal = others_behind (after v e.event) g es none legal.2
 
--- so do those between and behind the handler's blocks
+-- so do those between and after the handler's blocks
 stand_alike : (lent : List ℕ) (first : List HistoryEntry) (bs : List (List HistoryEntry)) (h : List HistoryEntry) → Stand lent first bs h → IsLegal h
     → StandAlike (replay_from (replay first) (added bs)) (replay h)
 stand_alike lent first [] h s legal =

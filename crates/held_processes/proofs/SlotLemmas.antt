@@ -151,7 +151,7 @@ adds past p c v h e y f plain may is =
       };
     }
 
--- it is followed behind a step
+-- it is followed after a step
 pub followed_then : (past : SlotPast) (p : ℕ) (c d : Course) (v w : View) (place next : Option HeldForm) → IsFollowed past p c v place → Steps past p d v next w → IsFollowed past p d w next
 followed_then past p c d v w place next f s = record {
   handler = s.elsewhere.number ∙ f.handler;

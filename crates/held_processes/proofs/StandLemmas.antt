@@ -14,14 +14,14 @@ strangers_both lent a b x y = record {
   alone = λ none i. x.alone none i ++ y.alone none i;
 }
 
--- entries of others come behind the blocks
+-- entries of others come after the blocks
 pub stand_more : (lent : List ℕ) (first : List HistoryEntry) (bs : List (List HistoryEntry)) (h between : List HistoryEntry) → Stand lent first bs h → AreStrangers lent between
     → Stand lent first bs (h ++ between)
 stand_more lent first [] h e s a = (s.0 ++ e, strangers_both lent s.0 e s.1 a, ap (λ l. l ++ e) s.2 ∙ append_assoc first s.0 e)
 stand_more lent first (b ∷ bs) h e s a =
     (s.0, s.1 ++ e, s.2, strangers_both lent s.1 e s.3 a, ap (λ l. l ++ e) s.4 ∙ append_assoc (s.0 ++ b) s.1 e)
 
--- a block comes behind them
+-- a block comes after them
 pub stand_block : (lent : List ℕ) (first : List HistoryEntry) (bs : List (List HistoryEntry)) (h b : List HistoryEntry) → Stand lent first bs h → Stand lent first (b ∷ bs) (h ++ b)
 stand_block lent first bs h b s = (h, [], s, no_strangers lent, sym (append-nil (h ++ b)))
 

@@ -111,7 +111,7 @@ scene_at followed apps = record { values = values_seen followed.first; apps = ap
 abbrev pub places_for : Tables → Option (List ℕ) → Scene → List Pid
 places_for tables top s = pids_for (length (app_starts tables top)) (round_in s.values s.courses)
 
--- an application is started, behind those that are
+-- an application is started, after those that are
 abbrev pub with_started : List ℕ → Option (List ℕ) → Tables → Scene → Scene
 with_started name top tables s =
     let pids = places_for tables top s in

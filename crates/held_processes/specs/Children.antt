@@ -66,7 +66,7 @@ abbrev pub IsChildTaken : Courses → Option Place → View → View → Type 0
 IsChildTaken cs None v w = Unit {0}
 IsChildTaken cs (Some p) v w = IsStateTaken cs p.child.state v w
 
--- Whether a child stays, by histories that the handler has seen: behind those that it had seen before, and in front of those that
+-- Whether a child stays, by histories that the handler has seen: after those that it had seen before, and in front of those that
 -- it has seen now. Its slot was taken between these. One that stays does so by what the handler has seen now.
 abbrev pub IsStay : View → Stay → Courses → Option Place → Bool → View → View → Type 0
 IsStay first stay cs o stays v w =

@@ -66,7 +66,7 @@ abbrev pub at_point : Hold → Course → Course
 at_point until_point c = let_go c
 at_point h c = c
 
--- the course behind an operation
+-- the course after an operation
 abbrev pub course_after : Operation → Course → Course
 course_after suspend c = record c { hold = until_resumed }
 course_after (load keep t) c = if_held c.hold (add (loaded t) c) (load_free keep t c)
@@ -90,7 +90,7 @@ ModulesBySlot = ℕ → Option (List ℕ)
 abbrev pub runs : List ℕ → Option (List ℕ) → Bool
 runs name user = option_map_or (bytes_eq name) user false
 
--- the courses behind an operation on each process of a module, and on every process
+-- the courses after an operation on each process of a module, and on every process
 abbrev pub on_module : ModulesBySlot → List ℕ → Operation → Courses → Courses
 on_module users name op cs p = if runs name (users p) then course_after op (cs p) else cs p
 

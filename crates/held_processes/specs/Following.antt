@@ -17,7 +17,7 @@ pub record AreStrangers (lent : List ℕ) (between : List HistoryEntry) : Type 0
   pub others : own 0 between ≡ []
   pub alone : lent ≡ [] → between ≡ []
 
--- The blocks, newest first, stand in a history behind what it was at first: each whole, and in order. Between them, and behind
+-- The blocks, newest first, stand in a history after what it was at first: each whole, and in order. Between them, and after
 -- them, stand entries of others alone.
 abbrev pub Stand : List ℕ → List HistoryEntry → List (List HistoryEntry) → List HistoryEntry → Type 0
 Stand lent first [] h = (between : List HistoryEntry) × AreStrangers lent between × (h ≡ first ++ between)
@@ -70,7 +70,7 @@ pub record AllFollow (first : View) (cs : Courses) (hs : HeldSlots) (v : View) :
   pub long : length hs ≡ slots
   pub each : (p : ℕ) → p < slots → Follows first.lent p (part_of first.parts p) (cs p) (part_of v.parts p) (slice_index_or hs p None)
 
--- A slot that isn't held, with the blocks of a course behind what was known of it at first.
+-- A slot that isn't held, with the blocks of a course after what was known of it at first.
 pub record IsLeft (lent : List ℕ) (first : Part) (c : Course) (x : Part) : Type 0 where
   pub mine : x.mine ≡ first.mine ++ added c.blocks
   pub stand : Stand lent first.seen c.blocks x.seen

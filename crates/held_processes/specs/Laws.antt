@@ -32,7 +32,7 @@ IsPending op = ⊥
 abbrev pub PendingAddsNoBlock : Type 0
 PendingAddsNoBlock = (op : Operation) (c : Course) → IsPending op → (course_after op c).blocks ≡ c.blocks
 
--- Where the handler holds nothing, it holds nothing behind the start or the stop of an application.
+-- Where the handler holds nothing, it holds nothing after the start or the stop of an application.
 abbrev pub StartsHoldNothing : Type 0
 StartsHoldNothing = ((name : List ℕ) (top : Option (List ℕ)) (tables : Tables) (apps : List App) (v : View) (r : Result (Unit {0}) StartError) (apps' : List App) (w : View)
     → HoldsNothing v → StartsApp name top tables apps v r apps' w → HoldsNothing w)

@@ -29,12 +29,12 @@ pub record IsFollowed (past : SlotPast) (p : ℕ) (c : Course) (v : View) (place
   pub lent : v.lent ≡ past.lent
   pub follows : Follows past.lent p past.first c (part_of v.parts p) place
 
--- It follows this course behind a step, in which nothing else changed.
+-- It follows this course after a step, in which nothing else changed.
 pub record Steps (past : SlotPast) (p : ℕ) (c : Course) (v : View) (place : Option HeldForm) (w : View) : Type 0 where
   pub follows : Follows past.lent p past.first c (part_of w.parts p) place
   pub elsewhere : Elsewhere p v w
 
--- It follows the course behind the operation, or, where that failed, the course as it was.
+-- It follows the course after the operation, or, where that failed, the course as it was.
 abbrev pub StepsBy : {X E : Type 0} → SlotPast → ℕ → Operation → View → Result X E → Option HeldForm → View → Type 0
 StepsBy past p op v (Ok x) place w = Steps past p (course_after op past.course) v place w
 StepsBy past p op v (Err e) place w = Steps past p past.course v place w

@@ -17,7 +17,7 @@ pub fn what_is_pending_adds_no_block()
     ensures { PendingAddsNoBlock }
 {}
 
-/// Where the handler holds nothing, it holds nothing behind the start or the stop of an application.
+/// Where the handler holds nothing, it holds nothing after the start or the stop of an application.
 pub fn starts_and_stops_leave_nothing_held()
     ensures { StartsHoldNothing }
 {}

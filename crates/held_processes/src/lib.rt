@@ -4,7 +4,7 @@
 //! blocks of entries that stand in its history. A block is what is added from where a process is held to where it is let go, so no
 //! call stands between a load and its change of code; what is done to a process that isn't held is a block alone.
 //! [`HeldProcesses`] does operations on the processes of a module ([`Users`], by the tree), or on all, and each contract says that
-//! the handler still follows all courses, behind that operation (specs/Following, specs/Operations). [`HeldProcesses::finish`]
+//! the handler still follows all courses, after that operation (specs/Following, specs/Operations). [`HeldProcesses::finish`]
 //! lets all go, and [`HeldProcesses::roll_back`] gives all back as they were when they were taken, without an entry. Both take no
 //! memory. Where memory is refused, or a process has no row for its change of code, the operation was done in the slots below that
 //! one.

@@ -280,7 +280,7 @@ impl HeldProcesses {
     }
 
     /// The way back: what is still held is given back as it was when it was taken. It takes no memory and waits for nobody. It
-    /// is for courses that only the proof knows, as they are behind an operation that failed.
+    /// is for courses that only the proof knows, as they are after an operation that failed.
     pub fn roll_back(self, table: &ProcTable, seat: &mut HandlerSeat)
         requires table { seat.old.table ≡ table.now }
         requires follow { (first : View) × (courses : Courses)

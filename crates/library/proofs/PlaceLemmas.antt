@@ -43,7 +43,7 @@ takes_none m (n ∷ ms) (Some t ∷ ts) other has = by (takes m t (tables_there 
     by (inl is) = absurd (other (listed_first n m ms (sym has.1 ∙ is.0)))
     by (inr is) = is.1
 
--- what is placed from behind a taken table
+-- what is placed from after a taken table
 abbrev pub behind : List (List ℕ) → Option TableTerm × List TableTerm → Option (List (Option TableTerm))
 behind ms p = option_map (λ (us : List (Option TableTerm)). p.0 ∷ us) (placed ms p.1)
 

@@ -27,7 +27,7 @@ module _ {X : Type 0} (says : Value → X → Type 0) where
       let rest : xs ≡ ys = says_one_row one vs xs ys a.1 b.1 in
       λ j. same j ∷ rest j
 
-  -- the first of a row, and what is behind it
+  -- the first of a row, and what is after it
   first_of : (v : Value) (vs : Values) (xs : List X) → EachSays says (value v vs) xs → ((x : X) × says v x) × ((ys : List X) × EachSays says vs ys)
   first_of v vs [] a = absurd a
   first_of v vs (x ∷ xs) a = ((x, a.0), (xs, a.1))

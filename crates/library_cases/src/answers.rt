@@ -14,10 +14,10 @@ use text_cases::Answer;
 /// these applications. `app`, `app_term`, `app_whole`: the application of a file, the same from its term, and this term.
 ///
 /// `events`: what a list that is empty at first answers to these events, and the list then with its libraries. `readers`: what each
-/// reader of such a list gives before the first event, and behind the answer to each.
+/// reader of such a list gives before the first event, and after the answer to each.
 ///
 /// `bodies`: the list that the bodies of records make, each on a line of its own, or which one is bad. `written`: the body
-/// that the event on the first line writes behind the list of the other lines. `kept`: the bodies of the records that bring
+/// that the event on the first line writes after the list of the other lines. `kept`: the bodies of the records that bring
 /// releases, and the relups of the list that they make.
 ///
 /// The others are those of the files of a release: of [`libraries`], of [`relups`] and of [`checks::push_answer`].

@@ -15,7 +15,7 @@ use std::alloc::Global;
 use text_cases::Answer;
 
 /// The bodies of the records that bring releases without applications, one after another, and the relups of the list that
-/// these make. A release is a line: its file, and behind a stroke its relup's, if it has one.
+/// these make. A release is a line: its file, and after a stroke its relup's, if it has one.
 pub(crate) fn push_kept(alloc: Global, text: &str, answer: &mut Answer) {
     let mut bodies = Vec::new(alloc);
     for line in text.split('\n') {
@@ -37,7 +37,7 @@ fn push_brought(alloc: Global, line: &str, bodies: &mut Vec<Vec<u8>>, answer: &m
     answer.note(push_line(alloc, body.as_str(), bodies));
 }
 
-// The body that brings the release of these files behind these bodies. Nothing where they are none of a release.
+// The body that brings the release of these files after these bodies. Nothing where they are none of a release.
 fn body_behind(alloc: Global, bodies: &[Vec<u8>], rel: &str, relup: &str) -> Option<String> {
     if bodies.is_empty() {
         return first_body(alloc, rel, relup);

@@ -25,7 +25,7 @@ impl Drop for Unpacked {
 }
 
 /// The answer in one of three modes. A text is a line for each file: its path, a blank and its bytes. The release is that of
-/// the file `r.rel`. `release`: the release. `unpack`: the libraries of its applications, behind the refusal where a file isn't
+/// the file `r.rel`. `release`: the release. `unpack`: the libraries of its applications, after the refusal where a file isn't
 /// taken. `check`: what is wrong with the release, or with one of its files.
 pub(crate) fn push_answer(alloc: Global, mode: &str, text: &str, answer: &mut Answer) {
     if let Some(unpacked) = unpacked_or_fault(alloc, text, answer) {
@@ -100,7 +100,7 @@ fn is_read_back(alloc: Global, library: &Library, term: &Term) -> bool {
     }
 }
 
-/// Whether the last library of the text up to a line `--` is the same as that of the text behind it.
+/// Whether the last library of the text up to a line `--` is the same as that of the text after it.
 pub(crate) fn push_difference(alloc: Global, text: &str, answer: &mut Answer) {
     match text.split_once("\n--\n") {
         Some((old, new)) => push_compared(alloc, old, new, answer),

@@ -6,7 +6,7 @@ use rel_list::{Event, ListError, ReleaseList};
 use std::alloc::Global;
 use text_cases::{Answer, first_word};
 
-/// What a list that is empty at first answers to these events, and the list behind them. Where it `is_read`, what each reader
+/// What a list that is empty at first answers to these events, and the list after them. Where it `is_read`, what each reader
 /// gives stands before each event and at the end.
 pub(crate) fn push_followed(alloc: Global, is_read: bool, events: &str, answer: &mut Answer) {
     let mut list = ReleaseList::new(alloc);
@@ -53,7 +53,7 @@ fn push_taken(taken: Result<(), ListError>, answer: &mut Answer) {
     answer.push(", ");
 }
 
-/// The event of these words: its name, and the version of its release, or the release of the words behind it. Nothing where
+/// The event of these words: its name, and the version of its release, or the release of the words after it. Nothing where
 /// there is none, or no memory is left.
 pub(crate) fn event(alloc: Global, list: &ReleaseList, words: &str) -> Option<Event> {
     let (word, rest) = first_word(words);

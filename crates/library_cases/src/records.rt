@@ -10,7 +10,7 @@ use std::alloc::{AllocError, Global};
 use text_cases::Answer;
 
 /// The list that these bodies of a store of this format make, each on a line of its own, or which one is bad. Where the words are
-/// those of an event, the body of the record that it writes behind this list.
+/// those of an event, the body of the record that it writes after this list.
 pub(crate) fn push_behind(
     alloc: Global,
     format: u8,
@@ -57,7 +57,7 @@ fn push_behind_list(alloc: Global, list: &ReleaseList, words: &str, answer: &mut
     }
 }
 
-/// The body of the record that the event on the first line writes behind the list that the other lines make.
+/// The body of the record that the event on the first line writes after the list that the other lines make.
 pub(crate) fn push_written(alloc: Global, text: &str, answer: &mut Answer) {
     match text.split_once('\n') {
         Some((words, bodies)) => push_behind(alloc, 2, bodies, words, answer),

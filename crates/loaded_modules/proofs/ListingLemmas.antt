@@ -27,7 +27,7 @@ insert_entry-read {K} {L} {X} {Y} R S f g same (e ∷ es) k v =
     by Equal = refl
     by Greater = refl
 
--- what is left of a library is loaded behind what is loaded so far, and one module more is loaded
+-- what is left of a library is loaded after what is loaded so far, and one module more is loaded
 pub one_listed : (app : Specification) (names : List (List ℕ)) (tables : List (Option TableTerm)) (k : ℕ) (m : List ℕ) (old new r : NamedModules)
     → k < length names → k < length tables → get_or names k m ≡ m → new ≡ insert_entry (slice_cmp nat_cmp) old m (module_of app (get_or tables k None))
     → loaded_behind old (named_modules app (drop k names) (drop k tables)) ≡ r

@@ -185,7 +185,7 @@ table_in-form v (Super s) is = super_read v s is
 abbrev super_members : List ℕ → List ℕ → List Value → Values
 super_members name vsn children = value (atom name) (value (text_term vsn) (value (list_of children) no_values))
 
--- what stands behind the first word of a supervisor's term
+-- what stands after the first word of a supervisor's term
 abbrev IsSuperTail : Values → SuperTable → Type 0
 IsSuperTail vs s = (children : List Value) × (vs ≡ super_members s.name s.vsn children) × IsName s.name × AreChildTerms children s.children
 

@@ -3,7 +3,7 @@
 //! [`ok_line`] reports the version that a command names, [`start_line`] what a node starts, [`found_line`] a script that is found
 //! for an installation, and [`installed_line`] a release that was installed (specs/Lines). [`refusal_line`] reports why a command
 //! is refused: the refusal's number, its name and its detail. [`refused_line`] and [`broken_line`] are of a script that isn't
-//! carried out to its end, before and behind its point of no return (specs/Refusals). Each answers exactly its text, or that no
+//! carried out to its end, before and after its point of no return (specs/Refusals). Each answers exactly its text, or that no
 //! memory was left. The listings are those of `node_listing`.
 //!
 //! Only tested: that a line is made where memory is there. Trusted: the toolchain alone.

@@ -68,7 +68,7 @@ pub fn refused_line(alloc: Global, failure: &ScriptFailure) -> Result<String, Al
     format!(in alloc; "error handler 14 Refused {text}\n")
 }
 
-/// The line of a script that fails behind its point of no return. Out of memory is no answer.
+/// The line of a script that fails after its point of no return. Out of memory is no answer.
 pub fn broken_line(alloc: Global, failure: &ScriptFailure) -> Result<String, AllocError>
     ensures reported { IfOk result (λ text. string_bytes text
         ≡ refusal_line (must_reboot (failure_of failure.now))) }

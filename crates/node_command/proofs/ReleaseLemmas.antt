@@ -216,14 +216,14 @@ brought_free b es agree free = either (is_some (status_of b.found.release.vsn es
     either true o none = refl
     either false o none = none
 
--- Where the version isn't listed, the first library that differs bars it, or else the refusal behind it.
+-- Where the version isn't listed, the first library that differs bars it, or else the refusal after it.
 pub fresh_refusal : (b : Brought) (es : Releases) → is_some (status_of b.found.release.vsn es) ≡ false → files_refusal b es ≡ option_or (difference b.libraries es) (refusal_with (has_room es) b)
 fresh_refusal b es fresh = ap (λ (there : Bool). if there then None else option_or (difference b.libraries es) (refusal_with (has_room es) b)) fresh
 
 pub differs_so : (ls : List Library) (es : Releases) (l : Library) → first_different es ls ≡ Some l → difference ls es ≡ Some (reported_library l)
 differs_so ls es l found = ap (option_map reported_library) found
 
--- a library that differs bars a release whose version isn't listed, whatever is wrong behind it
+-- a library that differs bars a release whose version isn't listed, whatever is wrong after it
 pub barred_so : (b : Brought) (es : Releases) (e : HandlerError) → status_of b.found.release.vsn es ≡ None → IsReportedAs (difference b.libraries es) e → IsReportedAs (files_refusal b es) e
 barred_so b es e fresh barred = record {
   error = barred.error;

@@ -29,7 +29,7 @@ abbrev pub own_refusal : Brought → Option Refusal
 own_refusal b = refusal_with true b
 
 -- Why a node with this list doesn't take what is brought, for its files: a library that was read differs from the list's, or
--- the refusal behind it. A version that is listed is refused before.
+-- the refusal after it. A version that is listed is refused before.
 abbrev pub files_refusal : Brought → Releases → Option Refusal
 files_refusal b es =
     if is_some (status_of b.found.release.vsn es) then None

@@ -45,7 +45,7 @@ pub enum HandlerError {
     Device,
     /// The store would be longer than it may be.
     Full,
-    /// The node has to be booted: the device failed in an earlier command, a script failed behind its point of no return, or a
+    /// The node has to be booted: the device failed in an earlier command, a script failed after its point of no return, or a
     /// reboot or a restart was done.
     Dead,
     /// No memory was left. It says nothing of the command.

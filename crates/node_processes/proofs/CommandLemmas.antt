@@ -1,4 +1,4 @@
--- What commands on processes answer, by where the tree has a process, and that the handler holds nothing behind them.
+-- What commands on processes answer, by where the tree has a process, and that the handler holds nothing after them.
 use Rattle.std.proofs.Common.{◌≡◌, ℕ, ◌+◌, List, [], ◌∷◌, Option, Some, None, refl, ap, sym, ◌∙◌}
 use native.Mathlib.Decide.{ℕ_discrete}
 use mathlib.Core.Logic.{dite}
@@ -88,7 +88,7 @@ is_called app id input v w apps modules pid tried.Down is alone = found_down app
 is_called app id input v w apps modules pid tried.Busy is alone = absurd alone
 is_called app id input v w apps modules pid tried.Held is alone = absurd alone
 
--- The handler holds nothing behind a call.
+-- The handler holds nothing after a call.
 
 pub behind_pass : (p : ℕ) (v w : View) → HoldsNothing v → ByOnePass p v w → HoldsNothing w
 behind_pass p v w n rest = record { handler = rest.number ∙ n.handler; out = λ q inside. rest.out_is q ∙ n.out q inside }

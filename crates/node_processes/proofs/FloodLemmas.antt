@@ -30,7 +30,7 @@ counted_line times os f c =
     let down : times - length os ≡ f.down = let all = c.down in omega (arith, all) in
     λ i. counts_line (sym c.done i) (sym c.crashed i) (sym c.ended i) (down i)
 
--- what is left where so many calls stand right behind what the handler had seen
+-- what is left where so many calls stand right after what the handler had seen
 left_by : (app id : List ℕ) (input times : ℕ) (v w : View) (apps : List App) (modules : NamedModules) (pid : Pid) → find_process app id apps ≡ Some pid
     → seen w pid.slot ≡ seen v pid.slot ++ calls_with (v.count + 1) input (outcomes_of pid.round input times (value_of v pid.slot)) → ((q : ℕ) → q ≢ pid.slot → seen w q ≡ seen v q)
     → flooded app id input times (node v apps modules) ≡ node w apps modules

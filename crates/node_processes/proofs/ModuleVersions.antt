@@ -1,4 +1,4 @@
--- The modules of processes have versions: right after a boot, and behind calls or a script.
+-- The modules of processes have versions: right after a boot, and after calls or a script.
 use Rattle.std.proofs.Common.{◌≡◌, ℕ, Bool, true, false, List, [], ◌∷◌, Option, Some, None, refl, sym, subst, ◌+◌, ◌&&◌, not, if◌then◌else◌, reverse, is_some}
 use Rattle.std.specs.List.{AllByRecursion, slice_get}
 use Rattle.std.specs.Str.{bytes_eq}
@@ -238,7 +238,7 @@ ended_run_versions s early n (i ∷ is) r q libraries v e =
     by None behind is = behind is
     by (Some c) behind is = absurd (not_ended early (n + 1) c q is)
 
--- The modules of the processes behind a script have versions.
+-- The modules of the processes after a script have versions.
 pub script_versions : (s : Site) (ps : Processes) (script : List Instruction) (r : Run) → AreWithLibraries s.releases → s.loaded ≡ ps.modules → HaveModuleVersions ps
     → outcome s (run_on s ps) script ≡ ends r → HaveModuleVersions (behind_run r)
 script_versions s ps script r libraries loaded all e =

@@ -1,4 +1,4 @@
--- The release that runs behind a boot is one of the list.
+-- The release that runs after a boot is one of the list.
 use Rattle.std.proofs.Common.{◌≡◌, Option, Some, None, refl, ◌∙◌}
 use Rattle.std.specs.List.{AllByRecursion, find}
 use Rattle.std.specs.Option.{option_or}

@@ -327,7 +327,7 @@ slots_alike f g same =
     get_or-map-range_with_len f 0 slots q q nothing inside (omega arith)
     ∙ (same q inside ∙ sym (get_or-map-range_with_len g 0 slots q q nothing inside (omega arith))))
 
--- The processes behind a script that was carried out.
+-- The processes after a script that was carried out.
 pub script_ends : (s : Site) (v : View) (apps : List App) (modules : NamedModules) (script : List Instruction) (loaded' : NamedModules) (apps' : List App) (w : View)
     → v.lent ≡ [] → IsFinished s (start v apps) script loaded' apps' w
     → (r : Run) × (outcome s (run_on s (node v apps modules)) script ≡ ends r) × (behind_run r ≡ node w apps' loaded')
@@ -345,7 +345,7 @@ script_ends s v apps modules script loaded' apps' w none done =
       λ j. record { values = values j; apps = sym done.apps_are j; modules = sym done.loaded_is j },
     )
 
--- the first instruction that fails, before the point or behind it
+-- the first instruction that fails, before the point or after it
 pub script_refuses : (s : Site) (v : View) (apps : List App) (modules : NamedModules) (script : List Instruction) (n : ℕ) (c : Cause) (w : View)
     → v.lent ≡ [] → c ≢ no_memory → IsRefused s (start v apps) script n c w → outcome s (run_on s (node v apps modules)) script ≡ refuses n c
 script_refuses s v apps modules script n c w none other is =

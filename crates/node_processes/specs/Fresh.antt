@@ -83,7 +83,7 @@ fresh_release as' ls =
     let started = started_parts (parts as' ls) in
     record { values = first_values (beginnings (tables_in ls) started); apps = apps_from 0 (tables_in ls) started; modules = listed_modules ls }
 
--- the release that runs behind a boot: a current one, which was a one-shot before it, or else the permanent one
+-- the release that runs after a boot: a current one, which was a one-shot before it, or else the permanent one
 abbrev pub running_entry : Releases → Option Entry
 running_entry es = option_or (find (λ (e : Entry). is_current e.status) es) (find (λ (e : Entry). is_permanent e.status) es)
 

@@ -22,7 +22,7 @@ run_on s ps = began s ps.apps (values_of ps)
 abbrev pub ended_run : Run → Run
 ended_run r = record r { courses = on_all finish r.courses }
 
--- the processes behind a script that did so much
+-- the processes after a script that did so much
 abbrev pub behind_run : Run → Processes
 behind_run r = record {
   values = map (values_alone (ended_run r)) (range_with_len 0 slots);

@@ -32,12 +32,12 @@ use Rattle.node_processes.specs.Fresh.{first_value, first_values, first_pid, pid
 use Rattle.node_processes.specs.InMemory.{values_in}
 use Rattle.node_start.specs.Starting.{StartedAll}
 
--- Each of these began in the slot of its place, and nothing stands behind them.
+-- Each of these began in the slot of its place, and nothing stands after them.
 pub record HaveBegun (bs : List Beginning) (v : View) : Type 0 where
   pub free : FreeFrom (length bs) v
   pub each : (q : ℕ) → replay (seen v q) ≡ first_value (slice_get bs q)
 
--- what is found behind the end of a list, and within it
+-- what is found after the end of a list, and within it
 get_last : (bs : List Beginning) (b : Beginning) → slice_get (bs ++ b ∷ []) (length bs) ≡ Some b
 get_last [] b = refl
 get_last (c ∷ bs) b = get_last bs b
@@ -48,7 +48,7 @@ get_other [] b (suc q) ne = refl
 get_other (c ∷ bs) b zero ne = refl
 get_other (c ∷ bs) b (suc q) ne = get_other bs b q (λ e. ne (ap suc e))
 
--- what began last is found behind the others, and a slot that is not its own as before
+-- what began last is found after the others, and a slot that is not its own as before
 value_there : (bs : List Beginning) (b : Beginning) (u : View) (pid : Pid) → pid.slot ≡ length bs → pid.round ≡ 1
     → replay (seen u pid.slot) ≡ record { round = pid.round; now = Some (begun b) }
     → (q : ℕ) → q ≡ pid.slot → replay (seen u q) ≡ first_value (slice_get (bs ++ b ∷ []) q)
@@ -73,7 +73,7 @@ pid_found n (inr past) there slot round = absurd (let inside = there.inside in o
 first_is : (n : ℕ) (there : Pid) → there.slot ≡ n → there.round ≡ 1 → first_pid n ≡ Some there
 first_is n there slot round = pid_found n (cases_lt n slots) there slot round
 
--- A process stands in the slot behind those that began, and they and it have begun.
+-- A process stands in the slot after those that began, and they and it have begun.
 record BeginsNext (app : List ℕ) (s : Start) (bs : List Beginning) (u : View) (p : StartedProcess) : Type 0 where
   first : (more : List Pid) → p.pid ∷ more ≡ match_pid (first_pid (length bs)) (λ pid. pid ∷ more)
   begun : HaveBegun (bs ++ beginning_of app s ∷ []) u
@@ -145,7 +145,7 @@ none_begun = record { free = first_slots.0; each = λ q. ap (λ (x : Known). rep
 pub begun_values : (bs : List Beginning) (v : View) → HaveBegun bs v → values_in v ≡ first_values bs
 begun_values bs v begun = (λ i. map (λ q. begun.each q i) (range_with_len 0 slots))
 
--- So the processes of a node behind a boot are those that begin in a new table.
+-- So the processes of a node after a boot are those that begin in a new table.
 pub fresh_so : (ls : List Library) (ps : List Part) (apps : List App) (v w : View) → v ≡ handler_view slots → StartedAll (tables_in ls) ps [] v apps w
     → (values_in w ≡ first_values (beginnings (tables_in ls) ps)) × (apps ≡ apps_from 0 (tables_in ls) ps)
 fresh_so ls ps apps v w new started =

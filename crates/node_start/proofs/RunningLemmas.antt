@@ -1,4 +1,4 @@
--- The release that runs behind a boot, as it lies in memory.
+-- The release that runs after a boot, as it lies in memory.
 use Rattle.std.proofs.Common.{◌≡◌, Bool, true, false, cond, List, [], ◌∷◌, map, Option, Some, None, refl, ap, sym, subst, ◌∙◌}
 use Rattle.std.specs.List.{find}
 use Rattle.std.specs.Option.{option_map, option_or}

@@ -45,7 +45,7 @@ pub struct Started {
     pub loaded: Loaded,
 }
 
-/// Starts the release that runs behind a boot, in a new table of processes (OTP: init(3), a boot script): its applications in
+/// Starts the release that runs after a boot, in a new table of processes (OTP: init(3), a boot script): its applications in
 /// order, each with its processes, and the modules of all its libraries are loaded. It is refused for memory alone; then some
 /// of its processes may have begun, and the table is of no use.
 pub fn start_running<D: Disk, R: Wait>(

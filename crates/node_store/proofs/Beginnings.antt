@@ -1,4 +1,4 @@
--- Events that begin with others, and the start record that may stand behind them.
+-- Events that begin with others, and the start record that may stand after them.
 use Rattle.std.proofs.Common.{ℕ, List, [], ◌∷◌, ◌++◌, refl, sym, ap, ◌∙◌, append-nil, append_assoc}
 use Rattle.rel_list.specs.Event.{Event}
 use Rattle.rel_list.specs.Event.Event.{boot}
@@ -14,7 +14,7 @@ with_first first mid events (more, is) (rest, are) = (more ++ rest, are ∙ (ap 
 pub with_one_more : (first events : Events) (e : Event) → BeginWith first events → BeginWith first (events ++ e ∷ [])
 with_one_more first events e begins = with_first first events (events ++ e ∷ []) begins (e ∷ [], refl)
 
--- One boot more stands behind one event and boots.
+-- One boot more stands after one event and boots.
 boots-push : (events : Events) → AreBoots events → AreBoots (events ++ boot ∷ [])
 boots-push [] are = tt
 boots-push (boot ∷ events) are = boots-push events are
@@ -24,7 +24,7 @@ pub one_and_boots-push : (events : Events) → IsOneAndBoots events → IsOneAnd
 one_and_boots-push [] are = tt
 one_and_boots-push (last ∷ boots) are = boots-push boots are
 
--- A start record that was right behind some events was right behind the first of them.
+-- A start record that was right after some events was right after the first of them.
 pub has_start_since : (ran later events : Events) (image : List ℕ) → BeginWith ran later → HasStart later events image → HasStart ran events image
 has_start_since ran later events image begins has = record {
   before = has.before;

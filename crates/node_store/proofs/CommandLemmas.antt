@@ -1,4 +1,4 @@
--- Why a node refuses a command, and which release is the permanent one behind it.
+-- Why a node refuses a command, and which release is the permanent one after it.
 use Rattle.std.proofs.Common.{◌≡◌, inl, inr, ℕ, Bool, true, false, cond, find, List, [], ◌∷◌, Option, Some, None, Err, refl, sym, ap, ◌∙◌, subst}
 use Rattle.std.specs.Prelude.{if◌then◌else◌}
 use Rattle.std.specs.Option.{option_map}
@@ -95,7 +95,7 @@ moved v es next may is =
     let same : list_made_permanent v es ≡ next = cc in
     ap permanent (sym same) ∙ permanent_now v es
 
--- so it is behind both events
+-- so it is after both events
 pub permanent_behind : (v : List ℕ) (e : Event) (es next : Releases) → MakesPermanent v e → step e es ≡ Some next → permanent next ≡ release_at v es
 permanent_behind v e es next (inl same) is = moved v es next (may_be_made_permanent (status_of v es)) (own_of_step (made_permanent v) es next (subst (λ e. step e es ≡ Some next) same is)).1
 permanent_behind v e es next (inr same) is = moved v es next (may_be_rebooted (status_of v es)) (own_of_step (reboot_old v) es next (subst (λ e. step e es ≡ Some next) same is)).1

@@ -118,7 +118,7 @@ no_room failures e size h mid Full allowed same lacks = (allowed, lacks, same)
 no_room failures e size h mid NoMemory allowed same lacks = (allowed.0, same)
 no_room failures e size h mid why allowed same lacks = absurd lacks
 
--- A command that comes behind one that took memory alone.
+-- A command that comes after one that took memory alone.
 module _ {D : Type 0} (v : Ghosts D) (h mid : NodeStore D) (same : IsSame h mid) (e : Event) (size : ℕ) (new : NodeStore D) where
   pub commits_behind : Commits v e size mid new → Commits v e size h new
   commits_behind c = record {
@@ -130,7 +130,7 @@ module _ {D : Type 0} (v : Ghosts D) (h mid : NodeStore D) (same : IsSame h mid)
     counted = subst (λ d. v.failures d ≤ v.failures (disk_in new)) same.disk c.counted;
   }
 
--- No release is a one-shot behind an event that makes none one.
+-- No release is a one-shot after an event that makes none one.
 pub none_behind : {D : Type 0} (v : Ghosts D) (e : Event) (size : ℕ) (h mid : NodeStore D) → makes_one_shot e ≡ false → IsAppended v e size h mid → has_one_shot (list_in mid) ≡ false
 none_behind v e size h mid other appended = one_shots_come_from_restarts e (list_in h) (list_in mid) other (commanded_step e (list_in h) (list_in mid) appended.accepted)
 
@@ -148,7 +148,7 @@ dead_is_sound v h dead = record {
   free = λ alive. absurd (true≢false (sym dead ∙ alive));
 }
 
--- a node that is dead behind what was read of its disk
+-- a node that is dead after what was read of its disk
 abbrev pub lost : {D : Type 0} → NodeStore D → NodeStore D
 lost h = record { store = h.store; list = h.list; dead = true }
 
@@ -239,7 +239,7 @@ module _ {D : Type 0} (v : Ghosts D) (h : NodeStore D) (s : IsSound v.seen v.may
         counted = subst (λ d. v.failures (disk_in h) ≤ v.failures d) (sym same.disk) (omega arith);
       }
 
-  -- A record is appended behind a reservation.
+  -- A record is appended after a reservation.
   module _ (alive : is_dead h ≡ false) (reserved : Store D) (same : store.IsSame h.store reserved) (e : Event) (next : Releases) (body : List ℕ) (reported : IsRecordFor body e (list_in h)) (needs : makes_one_shot e ≡ true → store.format_in h.store ≡ 2) (is : step e (list_in h) ≡ Some next) (room_then : HasBootSpace (extent_behind (extent_in h) (length body)) next) where
     pub reserved_works : store.has_failed reserved ≡ false
     reserved_works = same.failed ∙ (s.ready alive).store.works
@@ -288,7 +288,7 @@ module _ {D : Type 0} (v : Ghosts D) (h : NodeStore D) (s : IsSound v.seen v.may
         reaches = reaches_behind;
       }
 
-  -- A committed event, behind which the start slot is as it was.
+  -- A committed event, after which the start slot is as it was.
   module _ (alive : is_dead h ≡ false) (e : Event) (size : ℕ) (mid : NodeStore D) (commits : Commits v e size h mid) (appended : IsAppended v e size h mid) (ready : IsReady v.seen v.may_leave mid) (stays : start_in v.seen mid ≡ start_in v.seen h) (reads : (d : D) → v.may_leave d (v.seen d)) where
     stepped : step e (list_in h) ≡ Some (list_in mid)
     stepped = commanded_step e (list_in h) (list_in mid) appended.accepted
@@ -301,7 +301,7 @@ module _ {D : Type 0} (v : Ghosts D) (h : NodeStore D) (s : IsSound v.seen v.may
       pub start_is_right : HasStarted v.may_leave mid
       start_is_right c now = started_by (list_in h) (list_in mid) (v.seen (disk_in h)) c (permanent_stays e (list_in h) (list_in mid) leaves stepped) (ap (λ l. start_bytes l) (ready.store.durable c now) ∙ stays) old_start
 
-    -- The start record is written behind it.
+    -- The start record is written after it.
     module _ (versions : Versions) (release : Release) (are : AreVersions versions) (of : versions ≡ start_versions release) (listed : permanent (list_in mid) ≡ Some release)
         (new : NodeStore D) (keeps : Keeps v (text_of_start versions) mid new) where
       either_started : (c : List ℕ) → (start_bytes c ≡ start_in v.seen mid) ⊎ (start_bytes c ≡ slot_with (text_of_start versions)) → IsStarted (list_in h) c ⊎ IsStarted (list_in mid) c

@@ -1,4 +1,4 @@
--- A store that is compacted behind a commit.
+-- A store that is compacted after a commit.
 use Rattle.std.proofs.Common.{◌≡◌, ◌⊎◌, inl, inr, ⊎_elim, ℕ, ◌+◌, ◌≤◌, Bool, true, false, ◌&&◌, nat_le, List, [], ◌∷◌, length, Option, Some, Result, Ok, Err, true≢false, refl, sym, ap, ◌∙◌, subst, arith}
 use Rattle.std.proofs.lemmas.Bool.Decides.{nat_tests}
 use Rattle.std.specs.Prelude.{◌↔◌, not, if◌then◌else◌, IfErr, IsErrOf, OnOk}
@@ -209,7 +209,7 @@ pub device_reported : (r : Result (Unit {0}) StoreError) → IfErr (reported_com
 device_reported (Err fault.Device) = refl
 device_reported r = tt
 
--- what holds behind a compaction holds of a command that ends with it
+-- what holds after a compaction holds of a command that ends with it
 pub done_then : {T E : Type 0} (r : Result T E) (P Q : Type 0) → (P → Q) → OnOk r P → OnOk r Q
 done_then (Ok x) P Q so p = so p
 done_then (Err e) P Q so p = tt
@@ -285,7 +285,7 @@ module _ {D : Type 0} (v : Ghosts D) (h : NodeStore D) (e : Event) (size : ℕ) 
 abbrev pub with_dead : {D : Type 0} → NodeStore D → Bool → NodeStore D
 with_dead h dead = record { store = h.store; list = h.list; dead = dead }
 
--- Behind its commit the node works again, or is dead where a release is a one-shot.
+-- After its commit the node works again, or is dead where a release is a one-shot.
 pub commits_installation : {D : Type 0} (v : Ghosts D) (h : NodeStore D) (e : Event) (size : ℕ) (mid : NodeStore D) → HasCommitted v e size h mid → ((d : D) → v.may_leave d (v.seen d)) → (new : NodeStore D) → Compacts v mid new → IsCompacted v mid new
     → (dead : Bool) → dead ≡ makes_one_shot e → Commits v e size h (with_dead new dead)
 commits_installation v h e size mid has reads new compacts done true is = lost_commits v e size h new (commits_compacting v h e size mid has reads new compacts)

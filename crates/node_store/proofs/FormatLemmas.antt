@@ -90,7 +90,7 @@ module _ {D : Type 0} (v : Ghosts D) (h : NodeStore D) (ready : IsReady v.seen v
     room = subst (λ x. HasBootSpace x h.list) (sym same_reach) ready.room;
   }
 
--- A command goes on behind it.
+-- A command goes on after it.
 module _ {D : Type 0} (v : Ghosts D) (h mid : NodeStore D) (changed : Reformats v h mid) (s : IsSound v.seen v.may_leave h) (alive : is_dead h ≡ false) (reads : (d : D) → v.may_leave d (v.seen d)) where
   old_start : IsStarted (list_in h) (v.seen (disk_in h))
   old_start = s.started alive (v.seen (disk_in h)) (reads (disk_in h))

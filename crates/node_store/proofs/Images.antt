@@ -68,7 +68,7 @@ settled_so seen may_leave store s =
 pub settled_extent : {D : Type 0} (seen : D → List ℕ) (may_leave : D → List ℕ → Type 0) (store : Store D) → IsSettled seen may_leave store → extent_of (seen store.disk) ≡ store_extent store
 settled_extent seen may_leave store s = extent_so (seen store.disk) (records_in store) (base_of (seen store.disk)) s.records refl ∙ settled_so seen may_leave store s
 
--- While a record is appended behind a reservation, the records begin where they began, in a store of the same format.
+-- While a record is appended after a reservation, the records begin where they began, in a store of the same format.
 pub either_behind : {D : Type 0} (v : Ghosts D) (s reserved : Store D) → IsSettled v.seen v.may_leave s → IsSame s reserved → (body text c : List ℕ) → StandsEither (records_in reserved) body text c
     → LeavesOthers (IsInRecord (gate_in reserved) (length body)) (v.seen reserved.disk) c → StandsEither (records_in s) body text c × (base_of c ≡ base_of (v.seen s.disk)) × (format_of c ≡ s.format)
 either_behind v s reserved settled same body text c either leaves = (
@@ -124,7 +124,7 @@ stored_before events x e size es c after image started =
       start = record { before = events; later = []; is = sym (append-nil events); last = tt; since = with_themselves events; starts = (es, after, started) };
     }
 
--- And one of the list after it has them all, compacted or not, with the start record from before it or that from behind it.
+-- And one of the list after it has them all, compacted or not, with the start record from before it or that from after it.
 pub stored_after : (events : List Event) (x : Extent) (e : Event) (size : ℕ) (es next : Releases) (c : List ℕ) → list_after events ≡ Some es → step e es ≡ Some next
     → IsImageOf c next → (extent_of c ≡ extent_behind x size) ⊎ (extent_of c ≡ compacted (extent_behind x size) next) → IsStarted es c ⊎ IsStarted next c → IsStoredAs (uncertain events x e size) c
 stored_after events x e size es next c after is image reaches started = record {
@@ -159,7 +159,7 @@ may_have format e es needs = go (makes_one_shot e) refl
     go true is = subst (λ f. allows f (record_of e es) ≡ true) (sym (needs is)) (event_allowed_in_2 e es)
     go false is = allows_without format (record_of e es) (only_restarts_write_them e es is)
 
--- With the record of an event the store has the records of the list behind it.
+-- With the record of an event the store has the records of the list after it.
 pub with_record : (format : ℕ) (e : Event) (es next : Releases) (bodies : List (List ℕ)) (body : List ℕ) → AreRecordsOf format bodies es → IsRecordFor body e es → (makes_one_shot e ≡ true → format ≡ 2) → step e es ≡ Some next
     → AreRecordsOf format (bodies ++ body ∷ []) next
 with_record format e es next bodies body are reported needs is =
@@ -169,7 +169,7 @@ with_record format e es next bodies body are reported needs is =
       alone = alone_behind e es next is;
     }
 
--- A record is being appended: the store has the records of the list from before it, or those of the one behind it.
+-- A record is being appended: the store has the records of the list from before it, or those of the one after it.
 pub either_image : (format : ℕ) (es next : Releases) (bodies : List (List ℕ)) (body text : List ℕ) → AreRecordsOf format bodies es → AreRecordsOf format (bodies ++ body ∷ []) next
     → (base : ℕ) (x : Extent) → extent_with_records base bodies ≡ x → HasBootSpace x es → HasBootSpace (extent_behind x (length body)) next
     → (c : List ℕ) → StandsEither bodies body text c × (base_of c ≡ base) × (format_of c ≡ format) → (IsImageAt c es x ⊎ IsImageAt c next (extent_behind x (length body))) × (start_bytes c ≡ text)

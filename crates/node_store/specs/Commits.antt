@@ -52,7 +52,7 @@ HasOldStartOr seen node P c =
     IsImageAt c (list_in node) (extent_in node) × ((start_bytes c ≡ start_in seen node) ⊎ P c)
 
 -- Whatever a write of this text as the start record answers: a crash at any moment of it leaves the old one or the new. The
--- node is dead behind it.
+-- node is dead after it.
 pub record Keeps {D : Type 0} (v : Ghosts D) (text : List ℕ) (old new : NodeStore D) : Type 0 where
   pub dead : is_dead new ≡ true
   pub list : list_in new ≡ list_in old
@@ -70,7 +70,7 @@ pub record Reformats {D : Type 0} (v : Ghosts D) (old new : NodeStore D) : Type 
   pub counted : v.failures (disk_in old) ≤ v.failures (disk_in new)
 
 -- These bytes stand for the node's list and have its start slot, in a store that reaches as far as its store does, or as far
--- as behind a compaction.
+-- as after a compaction.
 abbrev pub IsOldOrCompacted : {D : Type 0} → (D → List ℕ) → NodeStore D → List ℕ → Type 0
 IsOldOrCompacted seen node c =
     IsImageOf c (list_in node)
@@ -78,14 +78,14 @@ IsOldOrCompacted seen node c =
     × (start_bytes c ≡ start_in seen node)
 
 -- Whatever a compaction answers: a crash at any moment of it leaves the store that was there or the compacted one. The node is
--- dead behind it.
+-- dead after it.
 pub record Compacts {D : Type 0} (v : Ghosts D) (old new : NodeStore D) : Type 0 where
   pub dead : is_dead new ≡ true
   pub list : list_in new ≡ list_in old
   pub any_moment : LeavesOnly v.moment v.left_since (disk_in old) (disk_in new) (IsOldOrCompacted v.seen old)
   pub counted : v.failures (disk_in old) ≤ v.failures (disk_in new)
 
--- It didn't fail: the node is ready, its start slot is as it was, and its store reaches as far as behind a compaction.
+-- It didn't fail: the node is ready, its start slot is as it was, and its store reaches as far as after a compaction.
 pub record IsCompacted {D : Type 0} (v : Ghosts D) (old new : NodeStore D) : Type 0 where
   pub ready : IsReady v.seen v.may_leave new
   pub start : start_in v.seen new ≡ start_in v.seen old

@@ -1,4 +1,4 @@
--- How far a store reaches behind a commit: one of many records is compacted to one, the image of its list.
+-- How far a store reaches after a commit: one of many records is compacted to one, the image of its list.
 use Rattle.std.specs.Prelude.{◌≡◌, ◌⊎◌, ℕ, Bool, true, not, ◌&&◌, nat_le, if◌then◌else◌, List, length, Option, None, Some}
 use Rattle.rel_list.specs.Releases.{Releases, has_one_shot}
 use Rattle.rel_list.specs.Event.{recorded}
@@ -27,7 +27,7 @@ with_image x (Some body) = if fits_image x (length body) then extent_with x (len
 abbrev pub may_be_compacted : Extent → Releases → Bool
 may_be_compacted x es = not (has_one_shot es) && is_long x
 
--- how far a store reaches that reached so far behind a commit, and whose records make this list
+-- how far a store reaches that reached so far after a commit, and whose records make this list
 abbrev pub compacted : Extent → Releases → Extent
 compacted x es = if may_be_compacted x es then with_image x (image_of (recorded es)) else x
 

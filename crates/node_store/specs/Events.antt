@@ -12,18 +12,18 @@ abbrev pub Events : Type 0
 Events = List Event
 
 -- What is known of a node's events: those whose commands were answered Ok, in order, and the one that is in doubt, if
--- there is one, since its command wasn't answered yet or the device failed in it. And the events behind which the start record was
--- last sure to be that of the permanent release, as it is wherever a node runs, and behind each command that was Ok.
+-- there is one, since its command wasn't answered yet or the device failed in it. And the events after which the start record was
+-- last sure to be that of the permanent release, as it is wherever a node runs, and after each command that was Ok.
 pub record Known : Type 0 where
   pub ran : Events
   pub acknowledged : Events
   pub in_doubt : Option Event
 
--- the start record is right behind these events, and none is in doubt
+-- the start record is right after these events, and none is in doubt
 abbrev pub settled : Events → Known
 settled events = record { ran = events; acknowledged = events; in_doubt = None }
 
--- it is right behind these events, and this one is in doubt
+-- it is right after these events, and this one is in doubt
 abbrev pub doubted : Events → Event → Known
 doubted events e = record { ran = events; acknowledged = events; in_doubt = Some e }
 
@@ -51,7 +51,7 @@ pub record IsOfPrefix (k : Known) (image : List ℕ) : Type 0 where
   pub after : list_after events ≡ Some list
   pub image_of : IsImageOf image list
 
--- The start record in these bytes is that of the release that is permanent behind these events.
+-- The start record in these bytes is that of the release that is permanent after these events.
 abbrev pub StartsBehind : Events → List ℕ → Type 0
 StartsBehind events image = (es : Releases) × (list_after events ≡ Some es) × IsStarted es image
 
@@ -65,13 +65,13 @@ AreBoots [] = Unit {0}
 AreBoots (boot ∷ events) = AreBoots events
 AreBoots (e ∷ events) = ⊥
 
--- none; or one event, and behind it boots alone
+-- none; or one event, and after it boots alone
 abbrev pub IsOneAndBoots : Events → Type 0
 IsOneAndBoots [] = Unit {0}
 IsOneAndBoots (last ∷ boots) = AreBoots boots
 
--- It is that of the release that is permanent behind these events, or behind all but the last, where boots at the end don't count;
--- and behind no fewer than those behind which it was last sure to be right.
+-- It is that of the release that is permanent after these events, or after all but the last, where boots at the end don't count;
+-- and after no fewer than those after which it was last sure to be right.
 pub record HasStart (ran events : Events) (image : List ℕ) : Type 0 where
   pub before : Events
   pub later : Events
@@ -85,15 +85,15 @@ abbrev pub IsNoneOrOfPrefix : Known → List ℕ → Type 0
 IsNoneOrOfPrefix k image =
     (records_of image ≡ Err NotAStore) ⊎ ((of : IsOfPrefix k image) × HasStart k.ran of.events image)
 
--- What is known of a node's store: its events, and how far it reaches behind the acknowledged ones; with the one in doubt, before
--- and behind a compaction.
+-- What is known of a node's store: its events, and how far it reaches after the acknowledged ones; with the one in doubt, before
+-- and after a compaction.
 pub record Stored : Type 0 where
   pub known : Known
   pub extent : Extent
   pub appended : Extent
   pub compacted : Extent
 
--- a store with these events, none of them in doubt, that reaches so far; its start record was last right behind some of them
+-- a store with these events, none of them in doubt, that reaches so far; its start record was last right after some of them
 abbrev pub at_rest_since : Events → Events → Extent → Stored
 at_rest_since ran events x = record {
   known = record { ran = ran; acknowledged = events; in_doubt = None };
@@ -106,12 +106,12 @@ at_rest_since ran events x = record {
 abbrev pub certain : Events → Extent → Stored
 certain events x = at_rest_since events events x
 
--- behind a compaction of a store that reaches so far, where its events lead to a list
+-- after a compaction of a store that reaches so far, where its events lead to a list
 abbrev pub compacted_or_same : Extent → Option Releases → Extent
 compacted_or_same x None = x
 compacted_or_same x (Some es) = compacted x es
 
--- Behind these events, where the store reaches so far, one is in doubt, whose record has a body of so many bytes.
+-- After these events, where the store reaches so far, one is in doubt, whose record has a body of so many bytes.
 abbrev pub uncertain : Events → Extent → Event → ℕ → Stored
 uncertain events x e size =
     let behind = extent_behind x size in
@@ -122,12 +122,12 @@ uncertain events x e size =
       compacted = compacted_or_same behind (list_after (events ++ e ∷ []));
     }
 
--- how far a store reaches behind a boot, where its events lead to a list
+-- how far a store reaches after a boot, where its events lead to a list
 abbrev pub booted_or_same : Extent → Option Releases → Extent
 booted_or_same x None = x
 booted_or_same x (Some es) = booted_extent x es
 
--- Behind these events, where the store reaches so far, a boot is in doubt; the start record was last right behind some of them. No
+-- After these events, where the store reaches so far, a boot is in doubt; the start record was last right after some of them. No
 -- compaction follows it.
 abbrev pub uncertain_boot : Events → Events → Extent → Stored
 uncertain_boot ran events x =

@@ -1,4 +1,4 @@
--- What a disk stands for, how far its store reaches, and what fits behind it.
+-- What a disk stands for, how far its store reaches, and what fits after it.
 use Rattle.std.specs.Prelude.{◌≡◌, ◌⊎◌, ℕ, ◌+◌, ◌≤◌, Bool, true, List, length, Some, Ok, if◌then◌else◌}
 use Rattle.node_command.specs.Taking.{change_size}
 use Rattle.rel_files.specs.Release.{Release}
@@ -22,7 +22,7 @@ abbrev pub extent_of : List ℕ → Extent
 extent_of image =
     record { base = base_of image; end = end_of image; count = length (records_or_none (records_of image)) }
 
--- how far a store reaches behind one record more, whose body has so many bytes
+-- how far a store reaches after one record more, whose body has so many bytes
 abbrev pub extent_behind : Extent → ℕ → Extent
 extent_behind x size = record { base = x.base; end = x.end + (5 + size); count = x.count + 1 }
 
@@ -38,7 +38,7 @@ HasSpace x size = (size ≤ 16777216) × ((extent_behind x size).end ≤ 6710886
 abbrev pub boot_size : Releases → ℕ
 boot_size es = change_size boot es
 
--- how far a store that has the records of this list reaches behind a boot
+-- how far a store that has the records of this list reaches after a boot
 abbrev pub booted_extent : Extent → Releases → Extent
 booted_extent x es = if has_one_shot es then extent_behind x (boot_size es) else x
 
@@ -46,7 +46,7 @@ booted_extent x es = if has_one_shot es then extent_behind x (boot_size es) else
 abbrev pub HasBootSpace : Extent → Releases → Type 0
 HasBootSpace x es = has_one_shot es ≡ true → HasSpace x (boot_size es)
 
--- Behind the event's record, whose body has so many bytes, there is room for the next boot.
+-- After the event's record, whose body has so many bytes, there is room for the next boot.
 abbrev pub LeavesBootSpace : Event → ℕ → Extent → Releases → Type 0
 LeavesBootSpace e size x es =
     (next : Releases) → step e es ≡ Some next → HasBootSpace (extent_behind x size) next

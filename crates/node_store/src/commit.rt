@@ -19,7 +19,7 @@ use rel_list::Event;
 use rel_store::Store;
 use std::alloc::Global;
 
-/// Makes room for a record with a body of so many bytes in a store that hasn't failed, where so many more fit behind it. The store
+/// Makes room for a record with a body of so many bytes in a store that hasn't failed, where so many more fit after it. The store
 /// is as it was but for memory.
 pub fn make_room<D: Disk>(
     store: &mut Store<D>,
@@ -127,7 +127,7 @@ impl<D: Disk> NodeStore<D> {
         self.append(alloc, event, body.as_str())
     }
 
-    /// Commits an event behind which the permanent release is the one that it was, and then compacts the store, if it is long.
+    /// Commits an event after which the permanent release is the one that it was, and then compacts the store, if it is long.
     pub fn commit(&mut self, alloc: Global, event: Event, body: &str) -> Result<(), HandlerError>
         requires sound { IsSound D.seen D.may_leave self.old }
         requires allowed { IsAllowed (event_of event) self.old }

@@ -1,4 +1,4 @@
-// A store of many records is compacted behind a commit.
+// A store of many records is compacted after a commit.
 ghost use Rattle.std.specs.Prelude.{◌≡◌, [], ◌∷◌, true, Some, IfErr, OnOk};
 ghost use Rattle.rel_disk.specs.Moments.{HasFailed};
 ghost use Rattle.rel_list.specs.Event.{recorded};
@@ -21,7 +21,7 @@ const MANY_RECORDS: usize = 64;
 
 impl<D: Disk> NodeStore<D> {
     /// Compacts the store to the image of its list, where it has many records. It stays as it was where memory is refused, and
-    /// where there is no image or the image doesn't fit. A command calls it behind its last write, while the node is dead. A
+    /// where there is no image or the image doesn't fit. A command calls it after its last write, while the node is dead. A
     /// list with a one-shot is never compacted, so that the room for the next boot stays.
     pub fn compact(&mut self, alloc: Global) -> Result<(), HandlerError>
         requires ready { IsReady D.seen D.may_leave self.old }

@@ -17,8 +17,8 @@ use rel_list::Event;
 use std::alloc::Global;
 
 impl<D: Disk> NodeStore<D> {
-    /// Commits an installation behind its script, for whose record there is room, and then compacts a long store, unless there is a
-    /// one-shot. Behind a restart the node is dead.
+    /// Commits an installation after its script, for whose record there is room, and then compacts a long store, unless there is a
+    /// one-shot. After a restart the node is dead.
     pub fn commit_installation(
         &mut self,
         alloc: Global,

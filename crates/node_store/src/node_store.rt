@@ -12,7 +12,7 @@ use rel_store::Store;
 pub struct NodeStore<D: Disk> {
     /// It has the records of the list.
     pub store: Store<D>,
-    /// The releases behind all events, also behind one whose record is being written.
+    /// The releases after all events, also after one whose record is being written.
     pub list: ReleaseList,
     /// A boot has to come first.
     pub dead: bool,

@@ -23,7 +23,7 @@ use std::alloc::{AllocError, Global};
 
 impl<D: Disk> NodeStore<D> {
     /// Commits an event that makes the release of this version the permanent one: the list, and then the start record.
-    /// Behind it the node is dead.
+    /// After it the node is dead.
     pub fn move_permanent(
         &mut self,
         alloc: Global,
@@ -50,7 +50,7 @@ impl<D: Disk> NodeStore<D> {
         Ok(())
     }
 
-    /// Writes the start record behind a committed event. The node is dead behind it.
+    /// Writes the start record after a committed event. The node is dead after it.
     pub fn commit_start(&mut self, start: &Start) -> Result<(), DeviceFault>
         requires ready { IsReady D.seen D.may_leave self.old }
         requires versions { AreVersions (versions_of start.now) }

@@ -27,7 +27,7 @@ below_each x q (y ∷ ys) all among = by (bytes_eq q y) refl among (below_each x
     by true is _ behind = ap (slice_cmp nat_cmp x) ((bytes_eq-Decides q y).0 is) ∙ all.0
     by false is later behind = behind later
 
--- the first of names in order isn't among those behind it
+-- the first of names in order isn't among those after it
 not_behind : (x : List ℕ) (xs : List (List ℕ)) → IsStrictlySortedBy (slice_cmp nat_cmp) (x ∷ xs) → is_among x xs ≡ false
 unfolding IsStrictlySortedBy
 not_behind x xs ordered = by (is_among x xs) refl
@@ -48,7 +48,7 @@ not_lower x y ys ordered among below = by (bytes_eq x y) refl among
 first_among : (x : List ℕ) (xs : List (List ℕ)) → is_among x (x ∷ xs) ≡ true
 first_among x xs = ap (λ b. b || is_among x xs) (itself x)
 
--- behind one first name the same names are left
+-- after one first name the same names are left
 same_behind : (x : List ℕ) (xs ys : List (List ℕ)) → is_among x xs ≡ false → is_among x ys ≡ false → ((q : List ℕ) → is_among q (x ∷ xs) ≡ is_among q (x ∷ ys)) → (q : List ℕ) → is_among q xs ≡ is_among q ys
 same_behind x xs ys none_x none_y same q = by (bytes_eq q x) refl (same q)
   where

@@ -100,7 +100,7 @@ step_kept test name rest noted fresh q = by (bytes_eq q name) refl
         ap (λ t. is_noted noted q || (is_among q rest && t)) not_here ∙ (ap (λ t. is_noted noted q || t) (none (is_among q rest)) ∙ ap (λ t. is_noted noted q || t) (sym not_here))
     by false is = refl
 
--- So it is behind one module more.
+-- So it is after one module more.
 module _ (test : List ℕ → Bool) (items : List (Bor (List ℕ) × Bor (List ℕ))) (i : ℕ) (d : Bor (List ℕ) × Bor (List ℕ)) (inside : i < length items) (total : List ℕ → Bool) where
   split : (noted : Noted) (q : List ℕ) → noted_with test noted (first_names (drop i items)) q ≡ noted_with test noted ((get_or items i d).0.now ∷ first_names (drop (suc i) items)) q
   split noted q = ap (λ l. noted_with test noted (first_names l) q) (drop-cons items i d inside)

@@ -46,7 +46,7 @@ pub record IsInstalled (u : UpgradeForm) (old : NodeState) (i : Installed) (new 
   pub descr : value_of i.descr ≡ u.found.descr
   pub stale : i.stale.items ≡ stale_modules new.modules u.target
 
--- An instruction behind the point of no return is the first that fails, and the applications that are started are as they were; or
+-- An instruction after the point of no return is the first that fails, and the applications that are started are as they were; or
 -- the script has ended, and no memory was left for the answer. What is loaded is as it was.
 pub record BreaksOff (u : UpgradeForm) (old : NodeState) (n : ℕ) (c : Cause) (new : NodeState) : Type 0 where
   pub modules : new.modules ≡ old.modules

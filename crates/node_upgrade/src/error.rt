@@ -36,11 +36,11 @@ pub struct ScriptFailure {
 #[derive(Drop)]
 pub enum InstallError {
     /// The command is refused for its release, its relup, the store or memory, and nothing has changed; or the device failed
-    /// behind the script.
+    /// after the script.
     Command(HandlerError),
     /// The script isn't run, or an instruction before its point of no return fails. Nothing has changed.
     Refused(ScriptFailure),
-    /// An instruction behind the point of no return fails, or no memory is left behind it. What was done stays, and the node has
+    /// An instruction after the point of no return fails, or no memory is left after it. What was done stays, and the node has
     /// to boot.
     MustReboot(ScriptFailure),
 }

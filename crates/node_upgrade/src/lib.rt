@@ -4,7 +4,7 @@
 //! [`find_upgrade`] finds the script, and tests what can be tested before it begins (`found`, `refused`): whether the release has
 //! the version of the runtime system that runs, and whether each instruction stands where it may. [`Upgrade::run`] carries it out:
 //! at `Ok` the whole script is done, what is loaded is what it says, and the stale modules are reported (`installed`); a script
-//! that is refused before its point of no return has added nothing to any history, and one that fails behind it did what it did
+//! that is refused before its point of no return has added nothing to any history, and one that fails after it did what it did
 //! until then (`refused`). It waits for processes that clients have.
 //!
 //! Only tested: that a script is carried out where memory is there. Trusted: the toolchain,

@@ -8,7 +8,7 @@ use Rattle.proc_history.specs.Values.{after, MayCome}
 use Rattle.proc_history.specs.Histories.{replay_from, LegalFrom}
 use Rattle.proc_history.specs.Events.{ByHandler, MayAdd}
 
--- the entries of one number in two lists, one behind the other
+-- the entries of one number in two lists, one after the other
 pub own-append : (n : ℕ) (g h : List HistoryEntry) → own n (g ++ h) ≡ own n g ++ own n h
 own-append n [] h = refl
 own-append n (e ∷ es) h = go (e.by == n) (own-append n es h)

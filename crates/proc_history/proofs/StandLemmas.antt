@@ -25,7 +25,7 @@ by_others v (suc n) (call i o) es none may =
     (record { stands = still_stands v.now _; round = refl }, sym (ap (λ b. if b then entry (suc n) (call i o) ∷ own 0 es else own 0 es) no) ∙ none)
 by_others v (suc n) e es none may = absurd may
 
--- behind entries of others, which are calls
+-- after entries of others, which are calls
 pub others_leave : (v : Value) (es : List HistoryEntry) → own 0 es ≡ [] → LegalFrom v es → StandAlike v (replay_from v es)
 others_leave v [] none legal = record { stands = refl; round = refl }
 others_leave v (e ∷ es) none legal =
@@ -40,7 +40,7 @@ legal_rest v (e ∷ es) h l = legal_rest (after v e.event) es h l.2
 pub next_alike : (x y : Value) → StandAlike x y → next_round y ≡ next_round x
 next_alike x y a = λ i. if a.stands i then None else if a.round i == 4294967295 then None else Some (a.round i + 1)
 
--- a process can begin behind entries of others where it could before, with the same round
+-- a process can begin after entries of others where it could before, with the same round
 pub next_stays : (g es : List HistoryEntry) → own 0 es ≡ [] → IsLegal (g ++ es) → next_round (replay (g ++ es)) ≡ next_round (replay g)
 next_stays g es none legal =
     ap next_round (replay-append nothing g es)

@@ -5,7 +5,7 @@
 //! history leaves (specs/Values, specs/Histories). Each function that changes one makes of it what the event of its name does.
 //! They take no memory, [`Value::copy`] alone does.
 //!
-//! For callers: an event that may come keeps a history legal (`event_adds` of proofs/Beginnings), and so do two lists behind
+//! For callers: an event that may come keeps a history legal (`event_adds` of proofs/Beginnings), and so do two lists after
 //! each other (`legal-append`, `replay-append`, `own-append` of proofs/Entries).
 //!
 //! Trusted: the toolchain alone.

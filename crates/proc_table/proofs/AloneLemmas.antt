@@ -110,7 +110,7 @@ nothing_between p v one pass w both between es l j strangers all =
         let same : own n ((g ++ between) ++ es) ≡ own n g = sym (ap (own n) all) ∙ settled_then p v one pass w both l j n ne in
         own_between n g (g ++ between) ((g ++ between) ++ es) (prefix_more g between) (prefix_more (g ++ between) es) (sym same) ∙ same
 
--- What the handler has seen then: what it had seen, and the entries of the call right behind.
+-- What the handler has seen then: what it had seen, and the entries of the call right after.
 record SeenAlone (p : ℕ) (v both : View) (between es : List HistoryEntry) : Type 0 where
   pub nothing : between ≡ []
   pub seen_is : seen both p ≡ seen v p ++ es

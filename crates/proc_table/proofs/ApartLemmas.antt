@@ -7,7 +7,7 @@ use Rattle.proc_table.specs.Views.{seen}
 use Rattle.proc_table.specs.Together.{CallsStandApart}
 use Rattle.proc_history.proofs.Entries.{AllBy, by_handler}
 
--- an entry that isn't the handler's stands behind entries that are
+-- an entry that isn't the handler's stands after entries that are
 behind_all : (es b h : List HistoryEntry) (e : HistoryEntry) → AllBy 0 es → e.by ≢ 0 → IsPrefix es h → IsPrefix (b ++ e ∷ []) h → IsPrefix es b
 behind_all [] b h e by ne p q = (b, refl)
 behind_all (x ∷ xs) b [] e by ne p q = absurd (cc (p.1))

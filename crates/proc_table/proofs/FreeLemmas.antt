@@ -27,12 +27,12 @@ use Rattle.proc_table.proofs.MeetLemmas.{AfterJoin}
 use Rattle.proc_table.proofs.Runs.{reached_agrees, all_replicate, length_replicate}
 use Rattle.proc_table.proofs.SlotTurns.{history_is}
 
--- behind what was seen lie entries of others alone
+-- after what was seen lie entries of others alone
 strangers_behind : (n : ℕ) (g h : List HistoryEntry) (p : IsPrefix g h) → own n h ≡ own n g → own n p.0 ≡ []
 strangers_behind n g h p same =
     append_nothing (own n g) (own n p.0) (sym (own-append n g p.0) ∙ (ap (own n) p.1 ∙ same))
 
--- a process can begin behind them where it could before, with the same round
+-- a process can begin after them where it could before, with the same round
 pub next_behind : (g h : List HistoryEntry) → IsPrefix g h → own 0 h ≡ own 0 g → IsLegal h → next_round (replay h) ≡ next_round (replay g)
 next_behind g h p same legal =
     ap (λ k. next_round (replay k)) (sym p.1)

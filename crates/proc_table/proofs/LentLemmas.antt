@@ -1,4 +1,4 @@
--- The passes that the handler has lent, and what lies behind what it has seen.
+-- The passes that the handler has lent, and what lies after what it has seen.
 use Rattle.std.proofs.Common.{◌≡◌, ◌≢◌, ◌⊎◌, ℕ, zero, suc, ◌==◌, not, cond, Bool, true, false, List, [], ◌∷◌, ◌++◌, refl, sym, subst, ◌∙◌, inl, inr, ⊎_elim, arith}
 use Rattle.std.specs.List.{Contains}
 use Rattle.std.proofs.lemmas.Bool.Decides.{nat_tests}
@@ -48,6 +48,6 @@ nothing_by_nobody (e ∷ es) none =
     let there : own e.by (e ∷ es) ≡ e ∷ own e.by es = rw by_itself refl in
     absurd (let nothing = sym there ∙ none e.by in cc)
 
--- where each has the entries that it had before, nothing lies behind
+-- where each has the entries that it had before, nothing lies after
 pub nothing_behind : (g b : List HistoryEntry) → ((n : ℕ) → own n (g ++ b) ≡ own n g) → b ≡ []
 nothing_behind g b same = nothing_by_nobody b (λ n. append_nothing (own n g) (own n b) (sym (own-append n g b) ∙ same n))

@@ -48,7 +48,7 @@ leaves s ws hs j w sits = record {
   forth = λ k u ne c. (set_else s.views j k gone ne ∙ c.0, c.1);
 }
 
--- a seat comes behind the others
+-- a seat comes after the others
 pub record Comes (s t : States) (n : ℕ) (w : View) : Type 0 where
   pub now : Sits t n w
   pub new : (v : View) → ¬ Sits s n v

@@ -24,7 +24,7 @@ use Rattle.proc_table.proofs.Runs.{reached_agrees, next}
 history_of : (s : States) (a : Agrees s) (p : ℕ) → IsHistory s p (a.history p)
 history_of s a p = record { whole = (a.each p).whole; longest = λ i v sits. ((a.each p).parts i v sits).begins }
 
--- what lies behind what was seen is by others
+-- what lies after what was seen is by others
 fresh : (s : States) (a : Agrees s) (p i : ℕ) (v : View) → Sits s i v → Fresh v p (a.history p)
 fresh s a p i v sits =
     let f = (a.each p).parts i v sits in

@@ -27,7 +27,7 @@ waited_more p v w u n was one is = record {
       (append_assoc v.found (at_slot p was.words) ((p, n) ∷ []) ∙ ap (λ l. v.found ++ l) (sym (at_slot_more p was.words n))));
 }
 
--- a take that got the slot, behind the waiting
+-- a take that got the slot, after the waiting
 pub found_since : (p : ℕ) (v u w : View) → Waited p v u → w.found ≡ u.found ++ (p, 0) ∷ [] → FoundAtLast p v w
 found_since p v u w was got = record {
   words = was.words;

@@ -26,7 +26,7 @@ pub record ByOnePass (p : ℕ) (v w : View) : Type 0 where
   pub out_is : (q : ℕ) → is_out w q ≡ is_out v q
   pub legal : (q : ℕ) → IsLegal (seen w q)
 
--- The call stands right behind what the handler had seen. The process was up in its round, and the outcome is that of its
+-- The call stands right after what the handler had seen. The process was up in its round, and the outcome is that of its
 -- table's first fitting row.
 pub record CalledAlone (p round input : ℕ) (o : Outcome) (v w : View) : Type 0 where
   pub up : (n : Now) × (up_in round (replay (seen v p)) ≡ Some n) × (o ≡ outcome_of (answer n input))

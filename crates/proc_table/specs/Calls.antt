@@ -37,7 +37,7 @@ pub record Looked (p : ℕ) (v w : View) : Type 0 where
   pub found : w.found ≡ v.found ++ (p, 0) ∷ []
   pub rest : Elsewhere p v w
 
--- The call took the slot once, and found it free. It stands in the history: behind what the pass had seen and entries of others,
+-- The call took the slot once, and found it free. It stands in the history: after what the pass had seen and entries of others,
 -- which is the whole history at that take, once. The process was up in its round, and the outcome is that of its table's first
 -- fitting row.
 pub record Called (p round input : ℕ) (outcome : Outcome) (v w : View) : Type 0 where

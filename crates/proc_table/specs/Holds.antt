@@ -29,7 +29,7 @@ pub record HeldNow (p : ℕ) (v : View) (held : Holding) (w : View) : Type 0 whe
 abbrev pub NotHeld : ℕ → View → View → Type 0
 NotHeld p v w = (n : ℕ) × ((n ≡ 1) ⊎ (n ≡ 2)) × (w ≡ found_more v p n)
 
--- The slot was given back, with these entries behind what the handler had seen, as one. No slot was taken.
+-- The slot was given back, with these entries after what the handler had seen, as one. No slot was taken.
 pub record Released (p : ℕ) (entries : List HistoryEntry) (v w : View) : Type 0 where
   pub seen_is : seen w p ≡ seen v p ++ entries
   pub mine_is : mine w p ≡ mine v p ++ entries

@@ -32,7 +32,7 @@ pub record Takes (s t : States) : Type 0 where
   pub all : IsHistory s p h
   pub is : t ≡ state (slice_set s.words p (word_of v.number)) (slice_set s.homes p none) (slice_set s.views i (taken v p h))
 
--- a seat puts the value back, with its entries behind the history
+-- a seat puts the value back, with its entries after the history
 pub record Gives (s t : States) : Type 0 where
   pub i : ℕ
   pub p : ℕ

@@ -41,7 +41,7 @@ TwoClients = (p round input other : ℕ) (v w : View) (t u : Tried) (first secon
     → BothCalled p round input other v w t u both
 
 -- Of a process that the handler held and released with these entries, each call of a client that was answered stands before the
--- hold, or behind the release, in any history that both have seen a beginning of.
+-- hold, or after the release, in any history that both have seen a beginning of.
 abbrev pub CallsStandApart : Type 0
 CallsStandApart = (p round input : ℕ) (o : Outcome) (entries : List HistoryEntry) (v w first second : View) (history : List HistoryEntry)
     → ByHandler entries → Released p entries v w → first.number ≢ 0 → (c : Called p round input o first second)

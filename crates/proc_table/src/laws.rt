@@ -33,7 +33,7 @@ pub fn two_clients_see_one_history()
     ensures { TwoClients }
 {}
 
-/// While the handler holds a process, no call of it is answered: each call stands before the hold, or behind the release.
+/// While the handler holds a process, no call of it is answered: each call stands before the hold, or after the release.
 pub fn no_call_is_answered_while_held()
     ensures { CallsStandApart }
 {}

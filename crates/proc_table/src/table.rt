@@ -51,7 +51,7 @@ impl ProcTable {
             .compare_exchange::<Take>(seat, slot, 0, mark)
     }
 
-    // Puts the value back, with these entries behind the history.
+    // Puts the value back, with these entries after the history.
     pub(crate) fn give<E: Adds>(&self, seat: &mut Seat<Value, View>, slot: usize)
         requires table { seat.old.table_id ≡ self.now }
         requires inside { slot < slots }

@@ -112,7 +112,7 @@ keeps_more (note.Suspend ∷ ns) j e = ap (λ (b : Bool). if b then kept (ns ++ 
 keeps_more (note.Resume ∷ ns) j e = keeps_more ns j e
 keeps_more (note.Stop ∷ ns) j e = keeps_more ns j e
 
--- ---- what was done behind one note more
+-- ---- what was done after one note more
 pub map_more : (xs : List Answer) (x : Answer) → map job_of (xs ++ x ∷ []) ≡ map job_of xs ++ job_of x ∷ []
 map_more [] x = refl
 map_more (y ∷ ys) x = ap (λ (l : List Job). job_of y ∷ l) (map_more ys x)

@@ -25,7 +25,7 @@ use Rattle.proc_workers.specs.Processes.{IsProcess}
 use Rattle.proc_workers.specs.Work.{job_of, calls_of, AnswersBy, AnswersEach, AnswersInTurn, HasAnswer, HasAnswered}
 
 -- ---- a call that was waited for
--- What a call leaves, since before the waiting: it was answered by a history, and its entry stands right behind that.
+-- What a call leaves, since before the waiting: it was answered by a history, and its entry stands right after that.
 record Since (p round input : ℕ) (t : Tried) (new : List HistoryEntry) (v w : View) : Type 0 where
   now : List HistoryEntry
   longer : IsPrefix (seen v p) now

@@ -12,7 +12,7 @@ use Rattle.proc_workers.specs.Floods.{Counts}
 use Rattle.proc_workers.specs.Processes.{IsProcess}
 use Rattle.proc_workers.specs.Work.{HasAnswered}
 
--- this answer as an outcome, if it is one, and those behind it
+-- this answer as an outcome, if it is one, and those after it
 abbrev pub outcome_before : Tried → List Outcome → List Outcome
 outcome_before (tried.Done r) os = outcome.Done r ∷ os
 outcome_before tried.Crashed os = outcome.Crashed ∷ os
@@ -50,7 +50,7 @@ pub record HasCalled (pid : Pid) (input times : ℕ) (v : View) (counts : Option
   pub most : length answers ≤ times
   pub counted : IfSome counts (λ f. AreCounted pid input times answers f)
 
--- what is counted behind this answer
+-- what is counted after this answer
 abbrev pub noted : Tried → FloodCounts → FloodCounts
 noted (tried.Done r) f = record f { done = f.done + 1 }
 noted tried.Crashed f = record f { crashed = f.crashed + 1 }

@@ -34,7 +34,7 @@ SameDesk d e = (e.pass ≡ d.pass) × (e.answers.items ≡ d.answers.items) × (
 abbrev pub HasRoomFor : ℕ → Desk → Type 0
 HasRoomFor n d = (length d.kept.items + n ≤ vec_capacity d.kept) × (length d.answers.items + (length d.kept.items + n) ≤ vec_capacity d.answers)
 
--- the job is answered, behind the others
+-- the job is answered, after the others
 abbrev pub AnswersJob : Pid → Job → Desk → Desk → Type 0
 AnswersJob pid job d e = (a : Answer) × (e.answers.items ≡ d.answers.items ++ a ∷ []) × (job_of a ≡ job) × HasAnswer pid d.pass.view job a.tried e.pass.view
 

@@ -14,7 +14,7 @@ use Rattle.proc_table.specs.Alone.{ByOnePass}
 use Rattle.proc_table.specs.Views.{seen}
 use Rattle.proc_workers.specs.declared.floods.FloodCounts.{FloodCounts}
 
--- this outcome, and those behind it
+-- this outcome, and those after it
 abbrev pub and_then : Option Outcome → (Outcome → List Outcome) → List Outcome
 and_then None more = []
 and_then (Some o) more = o ∷ more o
@@ -51,14 +51,14 @@ pub record Counts (times : ℕ) (os : List Outcome) (f : FloodCounts) : Type 0 w
   pub ended : f.ended ≡ ended_in os
   pub down : f.down + length os ≡ times
 
--- The process was called so often, by one pass and with nothing between. The calls stand right behind what the handler had seen.
+-- The process was called so often, by one pass and with nothing between. The calls stand right after what the handler had seen.
 pub record IsFlooded (pid : Pid) (input times : ℕ) (v : View) (f : FloodCounts) (w : View) : Type 0 where
   pub counts : Counts times (outcomes_of pid.round input times (replay (seen v pid.slot))) f
   pub seen_is : seen w pid.slot ≡ seen v pid.slot ++ calls_with (v.count + 1) input (outcomes_of pid.round input times (replay (seen v pid.slot)))
   pub rest : ByOnePass pid.slot v w
 
 -- Nothing was done, or the process was called with this input, at most so often, by one pass and with nothing between. The calls
--- stand right behind what the handler had seen.
+-- stand right after what the handler had seen.
 abbrev pub IsBrokenOff : Pid → ℕ → ℕ → View → View → Type 0
 IsBrokenOff pid input times v w = (w ≡ v)
     ⊎ ((n : ℕ) × (n ≤ times) × (seen w pid.slot ≡ seen v pid.slot ++ calls_with (v.count + 1) input (outcomes_of pid.round input n (replay (seen v pid.slot)))) × ByOnePass pid.slot v w)

@@ -24,7 +24,7 @@ stops [] = false
 stops (note.Stop ∷ ns) = true
 stops (n ∷ ns) = stops ns
 
--- whether the worker is suspended behind them
+-- whether the worker is suspended after them
 abbrev pub suspends : List Note → Bool
 suspends [] = false
 suspends (note.Suspend ∷ ns) = if resumes ns then suspends ns else true

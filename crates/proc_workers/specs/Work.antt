@@ -29,13 +29,13 @@ abbrev pub calls_of : ℕ → List Answer → List HistoryEntry
 calls_of n [] = []
 calls_of n (a ∷ more) = answered n a.input a.tried ++ calls_of n more
 
--- What a worker of this process answers by this history. To a job that names the process: what a call behind the history
+-- What a worker of this process answers by this history. To a job that names the process: what a call after the history
 -- answers, so Down where no process of that round is up. To any other job: Down.
 abbrev pub AnswersBy : Pid → List HistoryEntry → Answer → Type 0
 AnswersBy pid h a = (IsProcess pid a.pid × (a.tried ≡ tried_of (outcome_in pid.round a.input (replay h)))) ⊎ ((¬ IsProcess pid a.pid) × (a.tried ≡ tried.Down))
 
 -- From the history h to g these answers were given one after another. Each goes by a history `now`, and the entry of its call
--- stands right behind that. What the next one goes by begins with both, and g begins with all.
+-- stands right after that. What the next one goes by begins with both, and g begins with all.
 abbrev pub AnswersInTurn : Pid → ℕ → List HistoryEntry → List Answer → List HistoryEntry → Type 0
 AnswersInTurn pid number h [] g = IsPrefix h g
 AnswersInTurn pid number h (a ∷ more) g =

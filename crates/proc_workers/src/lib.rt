@@ -7,13 +7,13 @@
 //! [`work`] calls one process for each [`Job`] that it takes, until it is stopped (specs/Notes, specs/Work). Jobs that come while
 //! it is suspended are kept until it goes on. The jobs that it took are those of its answers and then those that are left, in
 //! order, each once (`jobs`). Answers come in turn, each by the history up to its moment: `Down` where the job names another
-//! process or its own isn't up there, and else the outcome of its call, which stands right behind (`calls`). Nothing that it took
+//! process or its own isn't up there, and else the outcome of its call, which stands right after (`calls`). Nothing that it took
 //! is lost where memory is refused: it makes room for a job and its answer first.
 //! [`flood`] calls a process so often with one input, for jobs that two threads send, and counts the outcomes. Where it is refused,
 //! it has made some of these calls, and no others (specs/Floods).
 //! `Sender::send`, `Inbox::take`, [`work`] and [`flood`] wait: their clauses say what is so if they return. Only tested: that a
 //! note comes, that an inbox or a sender that is gone is noticed, that workers run beside each other, and that a worker calls its
-//! gate before and behind an answer. Trusted: the toolchain, with `crossbeam_channel` and `thiserror`.
+//! gate before and after an answer. Trusted: the toolchain, with `crossbeam_channel` and `thiserror`.
 #![tactic(auto)]
 
 mod desk;

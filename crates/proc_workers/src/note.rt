@@ -32,9 +32,9 @@ impl Job {
 #[derive(Clone, Copy)]
 pub enum Note {
     Job(Job),
-    /// Jobs behind it are kept.
+    /// Jobs after it are kept.
     Suspend,
-    /// Jobs that were kept are done, and those behind it.
+    /// Jobs that were kept are done, and those after it.
     Resume,
     /// The worker ends, and hands back the jobs that it kept.
     Stop,

@@ -65,7 +65,7 @@ impl Heard {
     }
 }
 
-// Whether a client, behind so many calls of its own, sees those of both.
+// Whether a client, after so many calls of its own, sees those of both.
 fn sees_calls(table: &ProcTable, pass: Pass, pid: Pid, count: u32) -> bool
     requires { pass.table ≡ table.now }
 {

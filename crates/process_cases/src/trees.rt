@@ -17,7 +17,7 @@ use sup_tree::{StartError, Tree};
 use text_cases::{Answer, first_word, number};
 
 /// Appends what steps at a new table and a new tree answer, with `; ` between them as between the steps. The text is the list of
-/// the terms of libraries, whose modules are loaded, and behind ` | ` the steps.
+/// the terms of libraries, whose modules are loaded, and after ` | ` the steps.
 ///
 /// - `start APP`, `stop APP`: `ok`, or why not.
 /// - `find APP ID`: the name of the process, or `none`. `using MODULE`: the names of the processes that run it.

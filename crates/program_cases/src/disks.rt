@@ -37,7 +37,7 @@ pub(crate) fn push_openings(host: &HostRuntime, name: &str, answer: &mut Answer)
     push_disk(host, Use::Open, name, answer);
 }
 
-/// Appends the bytes of the disk over a file before and behind an edit.
+/// Appends the bytes of the disk over a file before and after an edit.
 pub(crate) fn push_edited(host: &HostRuntime, name: &str, answer: &mut Answer) {
     push_disk(host, Use::Show, name, answer);
     push_disk(host, Use::Edit, name, answer);

@@ -7,7 +7,7 @@ use std::sync::Wait;
 use std::thread::Threads;
 use text_cases::Answer;
 
-/// Gives a text in pieces of at most so many bytes, and fails behind it.
+/// Gives a text in pieces of at most so many bytes, and fails after it.
 #[derive(Drop)]
 pub(crate) struct Broken<'a> {
     pub(crate) text: &'a [u8],
@@ -25,7 +25,7 @@ impl Read for Broken<'_> {
     }
 }
 
-/// The answer where a read fails behind a text, which comes in such pieces.
+/// The answer where a read fails after a text, which comes in such pieces.
 pub(crate) fn push_broken<H: Threads + Wait + Sync>(
     rt: &H,
     alloc: Global,
@@ -37,7 +37,7 @@ pub(crate) fn push_broken<H: Threads + Wait + Sync>(
     push_input(rt, alloc, Broken { text, piece, kind }, answer);
 }
 
-/// The answer where it fails behind so many letters.
+/// The answer where it fails after so many letters.
 pub(crate) fn push_letters<H: Threads + Wait + Sync>(
     rt: &H,
     alloc: Global,

@@ -9,7 +9,7 @@
 // The other names are of releases in folders, whose `ch_app` has modules. `A` are all files of the first. `B` are all files of
 // the second, `B.lib` are those of its application, and each other name that begins with `B.` is one of them. `C`, `D` and `E`
 // are each a release with its relup, and with the application of the second. `C.rel` is the release of the third alone. The
-// script of `D` fails before its point of no return, that of `E` behind it. `N` is a release with the application of the first,
+// script of `D` fails before its point of no return, that of `E` after it. `N` is a release with the application of the first,
 // and without a relup.
 const GIVEN: &[(&str, &[&str])] = &[
     ("@a.rel", &[A_REL]),

@@ -38,7 +38,7 @@ pub(crate) fn push_broken(alloc: Global, text: &str, answer: &mut Answer) {
     push_listed(alloc, reader, WIDE, answer);
 }
 
-/// The same of what stands behind two numbers. It is taken a byte at a write. So many writes are taken and so many flushes.
+/// The same of what stands after two numbers. It is taken a byte at a write. So many writes are taken and so many flushes.
 /// Then a write takes nothing, and a flush fails.
 pub(crate) fn push_in_room(alloc: Global, text: &str, answer: &mut Answer) {
     let (room, text) = Room::of_words(1, text);

@@ -32,7 +32,7 @@ impl Room {
         }
     }
 
-    /// Room for two numbers of writes and flushes, and the text behind them.
+    /// Room for two numbers of writes and flushes, and the text after them.
     pub(crate) fn of_words(piece: usize, text: &str) -> (Room, &str) {
         let (writes, rest) = first_word(text);
         let (flushes, rest) = first_word(rest);

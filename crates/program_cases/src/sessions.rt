@@ -61,7 +61,7 @@ pub(crate) fn push_sessions<H: Threads + Wait + Sync>(
     }
 }
 
-/// The same of sessions behind the files of their source.
+/// The same of sessions after the files of their source.
 pub(crate) fn push_over_files<H: Threads + Wait + Sync>(
     rt: &H,
     alloc: Global,

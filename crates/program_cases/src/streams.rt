@@ -15,7 +15,7 @@ use text_cases::{Answer, first_word, number};
 /// - `session`: the text has sessions, as in [`push_sessions`].
 /// - `bare`: so, and the source has no files.
 /// - `files`: the source has the files before the first ` || `, which are parted by ` | `: for each its path, a blank and its
-///   bytes. Behind that are sessions.
+///   bytes. After that are sessions.
 /// - `list_broken`: as in [`listings::push_broken`].
 pub(crate) fn push_of_text<H: Threads + Wait + Sync>(
     rt: &H,
@@ -37,16 +37,16 @@ pub(crate) fn push_of_text<H: Threads + Wait + Sync>(
 // The answer in one of eight modes, whose text begins with a number.
 //
 // - `blanks`: the input gives a file of so many bytes, a line of blanks, and makes a node of it.
-// - `letters`: the input is so many letters, and a read fails behind them.
-// - `broken`: behind the number are the bytes of one input. A read gives at most so many of them, and fails behind the last.
-// - `fail`: behind the number are sessions. The disk's call of this number, counted from 1, fails in the first session, and
+// - `letters`: the input is so many letters, and a read fails after them.
+// - `broken`: after the number are the bytes of one input. A read gives at most so many of them, and fails after the last.
+// - `fail`: after the number are sessions. The disk's call of this number, counted from 1, fails in the first session, and
 //   does nothing.
 // - `part`: so, and the call that fails has a part of its effect.
-// - `bytes`: behind the number are sessions. What the first session writes is taken a byte at a write. So many are taken, and
+// - `bytes`: after the number are sessions. What the first session writes is taken a byte at a write. So many are taken, and
 //   then a write fails.
-// - `writes`: behind the number are another one and sessions. So many writes of the first session and so many flushes are
+// - `writes`: after the number are another one and sessions. So many writes of the first session and so many flushes are
 //   taken. Then a write takes nothing, and a flush fails.
-// - `list_bytes`: behind the numbers is a text. Its listing is taken so, a byte at a write.
+// - `list_bytes`: after the numbers is a text. Its listing is taken so, a byte at a write.
 fn push_stream<H: Threads + Wait + Sync>(
     rt: &H,
     host: &HostRuntime,

@@ -30,7 +30,7 @@ included_names (v ∷ []) start (Some names) (inr (is, lists)) = lists.1
 included_names (v ∷ w ∷ []) start (Some names) ends = ends.1.1
 included_names (v ∷ w ∷ x ∷ vs) start (Some names) ends = absurd ends
 
--- what is written behind a version ends an application as its file did
+-- what is written after a version ends an application as its file did
 ends_so : (start : StartType) (included : Option (List (List ℕ))) → HaveNames included → IsEnding (start_members start ++ included_members included) start included
 unfolding HaveNames
 ends_so Permanent None names = (refl, refl)

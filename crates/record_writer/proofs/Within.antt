@@ -51,7 +51,7 @@ within-release word v ls last few (names, nested) all (also, deep) =
     let listed : brackets (list (library_terms ls)) ≤ 69 = list_brackets (is_string (characters_of (library_terms ls))) (most_brackets (library_terms ls)) depth in
     ((omega (arith, length-chars word, few), (names, (libs, (also, tt)))), omega (arith, nested, listed, deep))
 
--- what is printed within the limit, with a dot behind it, has the term
+-- what is printed within the limit, with a dot after it, has the term
 pub read_back : (limit : ℕ) (out text : List ℕ) (v : Value) → IsWithin limit v → (IsWithin limit v → ReadsAs limit text v) → out ≡ text ++ 46 ∷ [] → HasTerm limit out v
 read_back limit out text v within reads is = (
   record { term = v; from = 0; to = length text },

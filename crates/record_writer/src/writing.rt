@@ -95,7 +95,7 @@ pub fn change_body(alloc: Global, list: &ReleaseList, event: &Event) -> Result<S
     body_of(alloc, &term)
 }
 
-/// The body of the record of the boot behind an installation of this version by a script that ends with a restart.
+/// The body of the record of the boot after an installation of this version by a script that ends with a restart.
 pub fn boot_body_behind_restart(
     alloc: Global,
     list: &ReleaseList,
@@ -217,7 +217,7 @@ fn assignment_terms(
     Ok(terms)
 }
 
-// The statuses that a boot changes behind a restart for this version, in the order of the list.
+// The statuses that a boot changes after a restart for this version, in the order of the list.
 fn boot_terms(alloc: Global, releases: &[ListedRelease], vsn: &str) -> Result<Vec<Term>, AllocError>
     ensures { IfOk result (λ terms. map value_of terms.items
         ≡ map assignment_term (changes boot (list_restarted vsn.now (map entry_of releases.now)))) }

@@ -78,7 +78,7 @@ met_behind met n ns q (inr member) = go (member_cases n.name (named ns) q member
     go (inl same) = inl (or_left (bytes_eq n.name q) (met q) ((bytes_eq-Decides n.name q).1 same))
     go (inr later) = inr later
 
--- The first name that was met stands behind names of which none was met when it came.
+-- The first name that was met stands after names of which none was met when it came.
 record Meets (met : List ℕ → Bool) (ns : List Named) (n : Named) : Type 0 where
   before : List Named
   after : List Named

@@ -13,7 +13,7 @@ first_member x xs = Contains-get_or (x ∷ xs) 0 x (omega arith)
 pub later_member : {X : Type 0} (x : X) (xs : List X) (y : X) → Contains xs y → Contains (x ∷ xs) y
 later_member x xs y member = Contains-append_right (x ∷ []) xs y member
 
--- a member is the first, or one of those behind it
+-- a member is the first, or one of those after it
 pub member_cases : {X : Type 0} (x : X) (xs : List X) (y : X) → Contains (x ∷ xs) y → (x ≡ y) ⊎ Contains xs y
 member_cases {X} x xs y is = go (Contains-append_cases (x ∷ []) xs y is)
   where

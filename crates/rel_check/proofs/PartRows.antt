@@ -30,7 +30,7 @@ pub id_here : (before : List Part) (p : Part) (later : List Part) (n : Named) (w
 id_here before p later n whole split here so_far =
     ap (λ (o : Option Named). option_or o (first_id_again later)) here ∙ (ap first_id_again (sym split) ∙ so_far)
 
--- or only behind it
+-- or only after it
 pub id_later : (before : List Part) (p : Part) (later : List Part) (whole : Option Named) → before ≡ p ∷ later
     → None ≡ first_again (child_ids p) → first_id_again before ≡ whole → first_id_again later ≡ whole
 id_later before p later whole split none so_far =

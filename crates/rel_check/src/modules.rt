@@ -66,7 +66,7 @@ pub(crate) fn modules_of<'a>(
     Ok(found)
 }
 
-// The modules of an application, behind those that are there.
+// The modules of an application, after those that are there.
 fn add_modules<'a>(found: &mut Vec<Module<'a>>, part: Part<'a>) -> Result<(), AllocError>
     ensures { OnOk result (map module_of found.new.items
         ≡ map module_of found.old.items ++ modules_of (part_of part.entry)) }

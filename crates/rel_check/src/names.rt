@@ -84,7 +84,7 @@ fn child_ids<'a>(alloc: Global, part: Part<'a>) -> Result<Vec<Named<'a>>, AllocE
     Ok(names)
 }
 
-// The ids of a table's children, behind those that are there.
+// The ids of a table's children, after those that are there.
 fn add_ids<'a>(
     names: &mut Vec<Named<'a>>,
     app: &'a RelApp,

@@ -20,7 +20,7 @@ torn_same at n bytes = record {
 pub cut_same : (n : ℕ) (bytes : List ℕ) → Cut n bytes bytes
 cut_same n bytes = record { tail = drop n bytes; is = sym (take-append-drop n bytes) }
 
--- the images behind a call that did nothing are those before it
+-- the images after a call that did nothing are those before it
 pub follows_torn : (at n : ℕ) (images : List ℕ → Type 0) → Follows (Torn at n) images images
 follows_torn at n images c image = (c, image, torn_same at n c)
 

@@ -144,7 +144,7 @@ module _ (first : List ℕ) where
     at_rest = λ rest. absurd (moves rest);
   }
 
-  -- what is left after a cut, with the bytes of the last sync behind it, was left before it
+  -- what is left after a cut, with the bytes of the last sync after it, was left before it
   before_cut_survives : (len : ℕ) (older : List Call) (c : List ℕ) → (IsAtRest older → ⊥) → len ≤ length c → Survives first (cut_to len ∷ older) c
       → Survives first older (take len c ++ drop len (synced_content first older))
   before_cut_survives len older c moves enough s = record {
@@ -169,7 +169,7 @@ module _ (first : List ℕ) where
     kept = λ i below within. sym (get_or_append_left (take len c) (drop len base) 0 i (omega (arith, length-take len c)) ∙ get_or-take len c i 0 below);
   }
 
-  -- what is left after a cut behind its end was left before it
+  -- what is left after a cut after its end was left before it
   short_survives : (len : ℕ) (older : List Call) (c : List ℕ) → (IsAtRest older → ⊥) → length c < len → Survives first (cut_to len ∷ older) c → Survives first older c
   short_survives len older c moves short s = record {
     long = omega (arith, s.long, smallest_within older, length-take len (content first older));
@@ -177,7 +177,7 @@ module _ (first : List ℕ) where
     at_rest = λ rest. absurd (moves rest);
   }
 
-  -- behind a sync, one write or one cut
+  -- after a sync, one write or one cut
   first_write : (at : ℕ) (bytes : List ℕ) (older : List Call) (c : List ℕ) → IsAtRest older → Survives first (wrote at bytes ∷ older) c → Torn at (length bytes) (content first older) c
   first_write at bytes older c rest s = keeps_torn at (length bytes) (content first older) c record {
     long = omega (arith, s.long, rest_length older rest, length-overwritten at bytes (content first older));

@@ -5,14 +5,14 @@ use Rattle.std.specs.Prelude.{◌≡◌, ℕ, ◌+◌, ◌-◌, min, List, ◌++
 abbrev pub overwritten : ℕ → List ℕ → List ℕ → List ℕ
 overwritten at bytes old = take at old ++ (bytes ++ drop (at + length bytes) old)
 
--- Behind a write of n bytes until the next sync: any bytes in its range and past the end, all others as they were.
+-- After a write of n bytes until the next sync: any bytes in its range and past the end, all others as they were.
 pub record Torn (at n : ℕ) (old new : List ℕ) : Type 0 where
   pub middle : List ℕ
   pub tail : List ℕ
   pub long : length middle ≡ min n (length old - at)
   pub is : new ≡ take at old ++ (middle ++ (drop (at + n) old ++ tail))
 
--- Behind a cut to n bytes until the next sync: any bytes from there on, all before as they were.
+-- After a cut to n bytes until the next sync: any bytes from there on, all before as they were.
 pub record Cut (n : ℕ) (old new : List ℕ) : Type 0 where
   pub tail : List ℕ
   pub is : new ≡ take n old ++ tail

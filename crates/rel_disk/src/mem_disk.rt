@@ -63,7 +63,7 @@ impl MemDisk {
         MemDisk::with_bytes(alloc, &[], capacity, log)
     }
 
-    /// Such a disk that begins with these bytes, as behind a sync: a crash leaves them.
+    /// Such a disk that begins with these bytes, as after a sync: a crash leaves them.
     pub fn with_bytes(
         alloc: Global,
         bytes: &[u8],

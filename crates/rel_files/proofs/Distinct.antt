@@ -94,7 +94,7 @@ texts-more as' i a within is =
     ap texts (take_more as' i a within ∙ ap (λ b. take i as' ++ b ∷ []) is)
     ∙ map_push (λ (b : Bor (List ℕ)). b.now) (take i as') a
 
--- the names are those up to the place of one, that one, and those behind it
+-- the names are those up to the place of one, that one, and those after it
 texts-split : (as' : List (Bor (List ℕ))) (i : ℕ) (a : Bor (List ℕ)) → i < length as' → get_or as' i a ≡ a
     → texts as' ≡ texts (take i as') ++ (a.now ∷ texts (drop (i + 1) as'))
 texts-split as' i a within is =
@@ -133,7 +133,7 @@ distinct-more as' i a n within is named distinct new =
     subst AreDistinct (ap (λ m. texts (take i as') ++ m ∷ []) named ∙ sym (texts-more as' i a within is))
     (AreDistinct-push (texts (take i as')) n distinct (not_found n (texts (take i as')) new))
 
--- names behind distinct ones
+-- names after distinct ones
 distinct_or_twice_behind : (before after : List (List ℕ)) → AreDistinct before → AreDistinct (before ++ after) ⊎ ((n : List ℕ) × IsFirstTwice (before ++ after) n)
 distinct_or_twice_behind before [] distinct = inl (subst AreDistinct (sym (append-nil before)) distinct)
 distinct_or_twice_behind before (n ∷ after) distinct = go (is_listed n before) refl (λ new. distinct_or_twice_behind (before ++ n ∷ []) after new)
@@ -149,7 +149,7 @@ distinct_or_twice_behind before (n ∷ after) distinct = go (is_listed n before)
 pub distinct_or_twice : (ns : List (List ℕ)) → AreDistinct ns ⊎ ((n : List ℕ) × IsFirstTwice ns n)
 distinct_or_twice ns = distinct_or_twice_behind [] ns tt
 
--- a name that stands behind itself isn't distinct
+-- a name that stands after itself isn't distinct
 pub clash : (before after : List (List ℕ)) (n : List ℕ) → AreDistinct (before ++ (n ∷ after)) → Contains before n → ⊥
 clash [] after n distinct there = absurd (omega (arith, there.1))
 clash (m ∷ before) after n distinct there = go (Contains-append_cases (m ∷ []) before n there) (clash before after n distinct.1)

@@ -13,7 +13,7 @@ pub record ReadsEach {B : Type 0} (f : Value → Option B) (all : Values → Opt
   pub none : all no_values ≡ Some []
   pub more : (v : Value) (vs : Values) → all (value v vs) ≡ option_and_then (λ (b : B). option_map (λ (bs : List B). b ∷ bs) (all vs)) (f v)
 
--- one more in front of what follows, or behind what is there
+-- one more in front of what follows, or after what is there
 pub joined : {B : Type 0} (front : List B) (y : B) (o : Option (List B))
     → option_map (λ rest. front ++ rest) (option_map (λ bs. y ∷ bs) o) ≡ option_map (λ rest. (front ++ y ∷ []) ++ rest) o
 joined front y None = refl
@@ -60,7 +60,7 @@ each_read {A} f all reads g P each (a ∷ row) h =
     reads.more (g a) (values_of (map g row))
     ∙ (λ j. option_and_then (λ (b : A). option_map (λ (bs : List A). b ∷ bs) (each_read f all reads g P each row h.1 j)) (each a h.0 j))
 
--- And it is read of these terms only, where each is read of its own only. valid: what of it is tested behind the reading.
+-- And it is read of these terms only, where each is read of its own only. valid: what of it is tested after the reading.
 pub from_each_valid : {A : Type 0} (f : Value → Option A) (all : Values → Option (List A)) → ReadsEach f all → (g : A → Value) (valid : A → Bool)
     (P : A → Type 0) → ((v : Value) (a : A) → f v ≡ Some a → valid a ≡ true → (v ≡ g a) × P a)
     → (vs : Values) (row : List A) → all vs ≡ Some row → list_all valid row ≡ true → (vs ≡ values_of (map g row)) × AllByRecursion P row

@@ -138,7 +138,7 @@ pub fn version_in(alloc: Global, term: &Term) -> Result<Option<String>, AllocErr
 }
 
 /// The text of a version; the empty text, which is none, where numbers stand that are no version; nothing for another
-/// term. So a reader can report a bad version behind all faults of the shape.
+/// term. So a reader can report a bad version after all faults of the shape.
 pub fn version_or_empty(alloc: Global, term: &Term) -> Result<Option<String>, AllocError>
     ensures { IfOk result (λ vsn.
         option_map string_bytes vsn ≡ version_or_empty (value_of term.now)) }

@@ -1,4 +1,4 @@
--- Lists before and behind a boot, and the room that it needs.
+-- Lists before and after a boot, and the room that it needs.
 use Rattle.std.proofs.Common.{◌≡◌, ◌⊎◌, inl, inr, ℕ, ◌+◌, ◌≤◌, ◌<◌, Bool, true, false, sym, ap, ◌∙◌, subst, true≢false, arith}
 use Rattle.std.specs.Prelude.{if◌then◌else◌}
 use Rattle.std.proofs.lemmas.Bool.{cases_Bool, cases_lt}
@@ -62,7 +62,7 @@ space_recorded x es alone space one = elim (cases_Bool (has_one_shot es)) [
 pub space_of_recorded : (x : Extent) (es fs : Releases) → (has_one_shot fs ≡ true → recorded fs ≡ fs) → recorded es ≡ recorded fs → HasBootSpace x (recorded es) → HasBootSpace x fs
 space_of_recorded x es fs alone same space one = subst (λ l. HasSpace x (boot_size l)) (same ∙ alone one) (space (ap has_one_shot (same ∙ alone one) ∙ one))
 
--- A list without a one-shot, as records report it, is the same behind a boot.
+-- A list without a one-shot, as records report it, is the same after a boot.
 pub booted_still : (es : Releases) → has_one_shot es ≡ false → recorded es ≡ es → booted es ≡ es
 booted_still es none still = boots_as_recorded es none ∙ still
 

@@ -92,7 +92,7 @@ module _ {D : Type 0} (v : Ghosts D) (disk : D) (h : NodeStore D) (opened : IsOp
 
 -- What is read is what the bytes stand for, as records report it.
 module _ {D : Type 0} (v : Ghosts D) (disk : D) (h : NodeStore D) (opened : IsOpened v disk h) (es : Releases) (image : IsImageOf (v.seen disk) es) (only : list_in h ≡ recorded es) where
-  -- so the list behind the boot is that of the bytes
+  -- so the list after the boot is that of the bytes
   pub boot_of : (new : NodeStore D) (dead : Bool) → IsBooted v h new → IsBootOf (v.seen disk) es (record { store = new.store; list = new.list; dead = dead })
   boot_of new dead is = record {
     list = is.list ∙ (ap booted only ∙ booted_recorded es image.list.alone);

@@ -151,7 +151,7 @@ pub one_shot_reported : {A B : Type 0} (f : A → B) (reported : Option (Bor A))
 one_shot_reported f None o is = ap is_some is
 one_shot_reported f (Some x) o is = ap is_some is
 
--- the list behind a boot of an image of a prefix is that of the prefix with a boot behind it
+-- the list after a boot of an image of a prefix is that of the prefix with a boot after it
 pub boots_to : (k : Known) (c : List ℕ) (found : Releases) (of : IsOfPrefix k c) → found ≡ booted of.list → BootsTo k found
 boots_to k c found of is = record {
   events = of.events;

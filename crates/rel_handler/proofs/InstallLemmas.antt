@@ -88,7 +88,7 @@ event_makes_one_shot false vsn = refl
 pub installation_is_commanded : (restarts : Bool) (vsn : List ℕ) (es : Releases) (f : FoundForm) → installation vsn es ≡ Ok f → (next : Releases) × (commanded (installation_event restarts vsn) es ≡ Ok next)
 installation_is_commanded restarts vsn es f is = list_allows (installation_event restarts vsn) es (event_of_listed restarts vsn) (event_allowed restarts vsn es (script_allows vsn es f is))
 
--- Where the bytes of its record's body and those behind it fit, there is room for the next boot.
+-- Where the bytes of its record's body and those after it fit, there is room for the next boot.
 pub room_left : (restarts : Bool) (vsn : List ℕ) (es : Releases) (x : Extent) (size : ℕ) → HasSpace x (size + room_behind restarts vsn es) → LeavesBootSpace (installation_event restarts vsn) size x es
 room_left false vsn es x size fits = leaves_boot_space (installed vsn) refl size x es
 room_left true vsn es x size fits = λ next is one.
@@ -101,7 +101,7 @@ room_left true vsn es x size fits = λ next is one.
 pub room_for_body : (x : Extent) (size behind : ℕ) → HasSpace x (size + behind) → HasSpace x size
 room_for_body x size behind (short, ends) = (omega (arith, short), omega (arith, ends))
 
--- What is appended behind a script is what its installation owes.
+-- What is appended after a script is what its installation owes.
 module _ (vsn : List ℕ) (es : Releases) (f : FoundForm) (found : installation vsn es ≡ Ok f) (asks : Bool) (reported : asks ≡ restarts f.script) where
   reported_so : asks ≡ needs_restart vsn es
   reported_so = reported ∙ sym (ap ends_with_restart found)
@@ -152,7 +152,7 @@ pub not_run_commits : {D : Type 0} (v : Ghosts D) (e : Event) (size : ℕ) (h mi
 not_run_commits v e size h mid true alive c = lost_commits v e size h mid c
 not_run_commits v e size h mid false alive c = record { sound = revived_is_sound v mid (c.sound.ready alive) (c.sound.started alive) (c.sound.free alive); any_moment = c.any_moment; counted = c.counted }
 
--- Its event is committed behind the script: it is that of the release that was asked for.
+-- Its event is committed after the script: it is that of the release that was asked for.
 module _ {D : Type 0} (v : Ghosts D) (h mid w : NodeStore D) (same : IsSame h mid) (e event : Event) (is : e ≡ event) (size size' : ℕ) (long : size ≡ size') where
   pub committed : Commits v e size mid w → Commits v event size' h w
   committed c = subst (λ f. Commits v f size' h w) is (subst (λ n. Commits v e n h w) long (commits_behind v h mid same e size w c))

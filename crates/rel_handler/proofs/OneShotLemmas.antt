@@ -38,7 +38,7 @@ module _ {D : Type 0} (v : Ghosts D) (h : NodeStore D) (ready : IsReady v.seen v
   pub booted_so : recorded (list_in h) ≡ list_in h → has_one_shot (list_in h) ≡ false → IsBooted v h h
   booted_so still none = record { list = sym (booted_still (list_in h) none still); extent = sym (extent_of_none (extent_in h) (list_in h) none); ready = ready }
 
-  -- The record of the boot is appended behind a reservation.
+  -- The record of the boot is appended after a reservation.
   module _ (one : has_one_shot (list_in h) ≡ true) (reserved : Store D) (same : store.IsSame h.store reserved) (body : List ℕ) (reported : IsRecordFor body boot (list_in h)) (long : length body ≡ boot_size (list_in h)) where
     abbrev next : Releases
     next = booted (list_in h)

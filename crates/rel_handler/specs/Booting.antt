@@ -33,7 +33,7 @@ IsBootRecord es None = has_one_shot es ≡ false
 IsBootRecord es (Some body) =
     (has_one_shot es ≡ true) × IsRecordFor (string_bytes body) boot es × (length (string_bytes body) ≡ boot_size es)
 
--- Why there is no such record: it would not fit behind the last one, or memory was refused.
+-- Why there is no such record: it would not fit after the last one, or memory was refused.
 abbrev pub BootRecordRefused : Extent → Releases → BootError → Type 0
 BootRecordRefused x es (BadRecord i) = (HasBootSpace x es → ⊥) × (i ≡ x.count)
 BootRecordRefused x es NoMemory = Unit {0}
@@ -44,15 +44,15 @@ pub record IsBootOf {D : Type 0} (bytes : List ℕ) (es : Releases) (handler : N
   pub list : list_in handler ≡ booted es
   pub extent : extent_in handler ≡ booted_extent (extent_of bytes) es
 
--- These bytes stand for the handler's list as it is behind a boot.
+-- These bytes stand for the handler's list as it is after a boot.
 abbrev pub IsImageBehindBoot : {D : Type 0} → NodeStore D → List ℕ → Type 0
 IsImageBehindBoot h c = IsImageAt c (booted (list_in h)) (booted_extent (extent_in h) (list_in h))
 
--- They stand for its list, as it is or as it is behind a boot, and have its start slot.
+-- They stand for its list, as it is or as it is after a boot, and have its start slot.
 abbrev pub IsOldOrTaken : {D : Type 0} → (D → List ℕ) → NodeStore D → List ℕ → Type 0
 IsOldOrTaken seen h c = (IsImageAt c (list_in h) (extent_in h) ⊎ IsImageBehindBoot h c) × (start_bytes c ≡ start_in seen h)
 
--- So they do, or they stand for its list as it is behind a boot, and have the start record of the permanent release.
+-- So they do, or they stand for its list as it is after a boot, and have the start record of the permanent release.
 abbrev pub IsOldOrBooted : {D : Type 0} → (D → List ℕ) → NodeStore D → List ℕ → Type 0
 IsOldOrBooted seen h c = IsOldOrTaken seen h c ⊎ (IsImageBehindBoot h c × IsStarted (list_in h) c)
 
@@ -61,7 +61,7 @@ pub record Leaves {D : Type 0} (v : Ghosts D) (P : List ℕ → Type 0) (old new
   pub any_moment : LeavesOnly v.moment v.left_since old new P
   pub counted : v.failures old ≤ v.failures new
 
--- The handler has the list behind a boot, and its store the records of it.
+-- The handler has the list after a boot, and its store the records of it.
 pub record IsBooted {D : Type 0} (v : Ghosts D) (old new : NodeStore D) : Type 0 where
   pub list : list_in new ≡ booted (list_in old)
   pub extent : extent_in new ≡ booted_extent (extent_in old) (list_in old)

@@ -41,7 +41,7 @@ install_event vsn es = installation_event (needs_restart vsn es) vsn
 abbrev pub install_size : List ℕ → Releases → ℕ
 install_size vsn es = change_size (install_event vsn es) es
 
--- How many bytes have to fit behind that body: those of the next boot's record, where a restart leaves a one-shot. A permanent
+-- How many bytes have to fit after that body: those of the next boot's record, where a restart leaves a one-shot. A permanent
 -- release that is installed again with a restart leaves none.
 abbrev pub room_behind : Bool → List ℕ → Releases → ℕ
 room_behind true vsn es = if has_one_shot (list_restarted vsn es) then 5 + boot_size (list_restarted vsn es) else 0
@@ -55,7 +55,7 @@ install_room vsn es = install_size vsn es + room_behind (needs_restart vsn es) v
 abbrev pub IsInstalledBy : List ℕ → Releases → NodeState → Installed → NodeState → Type 0
 IsInstalledBy vsn es old i new = (u : UpgradeForm) × IsUpgrade vsn es u × IsInstalled u old i new
 
--- the script failed behind its point of no return, so the node has to boot
+-- the script failed after its point of no return, so the node has to boot
 abbrev pub must_boot : InstallError → Bool
 must_boot (MustReboot f) = true
 must_boot e = false
@@ -75,8 +75,8 @@ NothingChanged h h' old new = IsSame h h' × IsUntouched old new
 abbrev pub MayBegin : {D : Type 0} → List ℕ → NodeStore D → UpgradeForm → Type 0
 MayBegin vsn h u = IsUpgrade vsn (list_in h) u × HasSpace (extent_in h) (install_room vsn (list_in h))
 
--- Why a release isn't installed, and what stands then. A script that fails behind its point of no return, and a device that fails
--- behind the script, leave the handler dead; else nothing has changed.
+-- Why a release isn't installed, and what stands then. A script that fails after its point of no return, and a device that fails
+-- after the script, leave the handler dead; else nothing has changed.
 abbrev pub InstallRefused : {D : Type 0} → (D → ℕ) → List ℕ → NodeStore D → NodeStore D → NodeState → NodeState → InstallError → Type 0
 InstallRefused failures vsn h h' old new (Command Dead) = (is_dead h ≡ true) × NothingChanged h h' old new
 InstallRefused failures vsn h h' old new (Command Full) =

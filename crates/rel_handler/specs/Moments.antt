@@ -39,7 +39,7 @@ Begins {D = D} seen may_leave moment left_since k old new =
 abbrev pub WritesNothing : {D : Type 0} → (D → List ℕ) → (D → List ℕ → Type 0) → (D → ℕ) → (D → ℕ → List ℕ → Type 0) → D → D → Type 0
 WritesNothing seen may_leave moment left_since old new = IsUnwritten seen may_leave moment left_since old new
 
--- The list is that of such a prefix, with a boot behind it.
+-- The list is that of such a prefix, with a boot after it.
 pub record BootsTo (k : Known) (es : Releases) : Type 0 where
   pub events : List Event
   pub prefix : IsPrefix k events

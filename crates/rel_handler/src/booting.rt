@@ -53,7 +53,7 @@ pub fn boot<D: Disk>(alloc: Global, disk: D) -> Result<Handler<D>, (BootError, D
         → MatchResult result (IsBootOf (D.seen disk) es)
         (λ e. (e.0 ≡ BootError.Device) ⊎ (e.0 ≡ BootError.NoMemory)) }
 
-    // Where there is no one-shot, and the start record is right, nothing is written; behind the boot it is right (`sound`).
+    // Where there is no one-shot, and the start record is right, nothing is written; after the boot it is right (`sound`).
     ensures right { (es : Releases) → IsImageOf (D.seen disk) es → has_one_shot es ≡ false
         → IsStarted es (D.seen disk) → IfOk result (λ handler.
         HasOnlyRead D.seen D.may_leave D.moment D.left_since disk (disk_in handler)) }
@@ -70,7 +70,7 @@ pub fn boot<D: Disk>(alloc: Global, disk: D) -> Result<Handler<D>, (BootError, D
         (λ c. D.may_leave disk c ⊎ IsLeftByBoot (D.seen disk) c) }
     ensures synced { IsSynced D.seen D.may_leave D.moment D.left_since disk result }
 
-    // So a store whose events are known keeps them, with the boot's own behind them or without.
+    // So a store whose events are known keeps them, with the boot's own after them or without.
     ensures stored { (s : Stored) → ((c : List ℕ) → D.may_leave disk c → IsStoredAs s c)
         → KeepsStore D.Disk s disk (disk_of result) }
 
@@ -179,7 +179,7 @@ fn finish<D: Disk>(
     Ok(())
 }
 
-// Takes a one-shot away by the record of the boot, where there is one: the record is appended, and the list is that behind a
+// Takes a one-shot away by the record of the boot, where there is one: the record is appended, and the list is that after a
 // boot.
 fn take_one_shot<D: Disk>(
     alloc: Global,

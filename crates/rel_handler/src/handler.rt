@@ -1,6 +1,6 @@
 // A node's releases on a disk, and the commands on them.
 //
-// Behind its commit a command compacts the store, where that has 64 records or more: one record stands for the whole list then
+// After its commit a command compacts the store, where that has 64 records or more: one record stands for the whole list then
 // (`compacted`). Where memory is refused to it, or the list has no such record that fits, the store stays as it was, and the
 // command succeeds (`MayReach`). Where the device fails in it, the command answers `Device`, and its event is on the disk.
 // Neither a creation nor a boot compacts.
@@ -57,8 +57,8 @@ impl<D: Disk> Handler<D> {
         node.into_disk()
     }
 
-    /// Whether every call but `into_disk` answers `Dead`: the device failed in a command, a script failed behind its point of no
-    /// return, or the node is to be booted behind a reboot or a restart.
+    /// Whether every call but `into_disk` answers `Dead`: the device failed in a command, a script failed after its point of no
+    /// return, or the node is to be booted after a reboot or a restart.
     pub fn is_dead(&self) -> bool
         ensures { result ≡ is_dead self.now }
     {
@@ -83,7 +83,7 @@ impl<D: Disk> Handler<D> {
     /// What the node starts, as its start record reports it: the permanent release, and its version of the runtime system.
     /// Reads the disk.
     ///
-    /// Refusals: `Dead`, `Device`, behind which the handler is dead, `NoMemory`.
+    /// Refusals: `Dead`, `Device`, after which the handler is dead, `NoMemory`.
     pub fn start(&mut self, alloc: Global) -> Result<Start, HandlerError>
         requires { IsSound D.seen D.may_leave self.old }
         ensures sound { IsSound D.seen D.may_leave self.new }

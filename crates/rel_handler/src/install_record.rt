@@ -1,4 +1,4 @@
-// What an installation appends to the store behind its script.
+// What an installation appends to the store after its script.
 ghost use Rattle.std.specs.Prelude.{◌≡◌, IfOk, None, length, string_bytes};
 ghost use Rattle.node_command.specs.Taking.{change_size};
 ghost use Rattle.node_store.specs.Commits.{IsRecordFor};
@@ -19,7 +19,7 @@ use std::alloc::{AllocError, Global};
 pub(crate) struct InstallRecord {
     pub(crate) event: Event,
     pub(crate) body: String,
-    // how many bytes have to fit behind it
+    // how many bytes have to fit after it
     pub(crate) room: usize,
 }
 
@@ -59,7 +59,7 @@ fn installation_event(alloc: Global, vsn: &str, restarts: bool) -> Result<Event,
     }
 }
 
-// How many bytes the record of the boot behind an installation takes: none where it has no one-shot to take away.
+// How many bytes the record of the boot after an installation takes: none where it has no one-shot to take away.
 fn room_behind(
     alloc: Global,
     list: &ReleaseList,
@@ -78,7 +78,7 @@ fn room_behind(
     Ok(RECORD_HEAD + body.len())
 }
 
-// Whether a release of the list is a one-shot behind an installation of this version with a restart.
+// Whether a release of the list is a one-shot after an installation of this version with a restart.
 fn leaves_one_shot(list: &ReleaseList, vsn: &str) -> bool
     ensures { result ≡ has_one_shot (list_restarted vsn.now list.now) }
 {

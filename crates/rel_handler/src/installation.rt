@@ -1,9 +1,9 @@
 // A release is installed: its script is carried out, and then its event is committed.
 //
-// An installation finds its script and makes room for its record first. Then the script runs (`node_upgrade`), and behind it the
+// An installation finds its script and makes room for its record first. Then the script runs (`node_upgrade`), and after it the
 // event is committed (`IsInstalledBy`). What is refused before the script's point of no return has changed nothing, of the
-// handler and of the processes (`NothingChanged`). A script that fails behind it leaves the handler dead, its list and its disk
-// as they were (`IsLost`). Behind a script that ends with a restart the handler is dead too. The release is a one-shot then,
+// handler and of the processes (`NothingChanged`). A script that fails after it leaves the handler dead, its list and its disk
+// as they were (`IsLost`). After a script that ends with a restart the handler is dead too. The release is a one-shot then,
 // unless it is the permanent one: the next boot starts it, and has room for its record, which was asked for together with that of
 // the installation (`install_room`).
 ghost use Rattle.std.specs.Prelude.{◌≡◌, true, false, IfErr, IfOk, OnOk};
@@ -37,7 +37,7 @@ impl<D: Disk> Handler<D> {
     ///
     /// Refusals, in this order: `Dead`, `NoSuchRelease`, `AlreadyInstalled`, `NoMatchingRelup`; `Refused` for a script that isn't
     /// run; `Full`; `Refused` for an instruction before the point of no return. Nothing has changed then. `MustReboot` for one
-    /// behind it, and `Device` behind the script: then the handler is dead.
+    /// after it, and `Device` after the script: then the handler is dead.
     pub fn install_release<R: Wait>(
         &mut self,
         rt: &R,
@@ -98,7 +98,7 @@ impl<D: Disk> Handler<D> {
     }
 }
 
-// Whether the script failed behind its point of no return.
+// Whether the script failed after its point of no return.
 fn must_boot(error: &InstallError) -> bool
     ensures { result ≡ must_boot error.now }
 {

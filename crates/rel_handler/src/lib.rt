@@ -7,9 +7,9 @@
 //!
 //! Stopped at any moment of a call, the disk stands for the list of a prefix of the accepted events that holds every acknowledged
 //! one (`IsOfPrefix`), and a boot of it answers that list, or refuses for memory or the device alone. Of `create` this holds
-//! behind its first sync, and the disk may be no store then. Behind an `Ok` it stands for the list with the command's event
-//! (`IsDone`). A refusal changes nothing, but for `Device` and `MustReboot`. Behind these, behind a reboot to an old release and
-//! behind an installation with a restart the handler is dead until the next boot.
+//! after its first sync, and the disk may be no store then. After an `Ok` it stands for the list with the command's event
+//! (`IsDone`). A refusal changes nothing, but for `Device` and `MustReboot`. After these, after a reboot to an old release and
+//! after an installation with a restart the handler is dead until the next boot.
 //! The law `a_disk_boots_or_is_refused`: all bytes stand for one list or a boot refuses them, and never both.
 //! A contract sees a handler as its node store, which commits events (`node_store`). It says of bytes only that a disk is an image
 //! (`IsImageOf`), and of records what they make (`Makes` of `rel_records`).

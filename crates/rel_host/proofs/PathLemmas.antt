@@ -8,7 +8,7 @@ use Rattle.std.specs.Str.{bytes_eq}
 use Rattle.std.proofs.lemmas.List.Splits.{slice_split_first, slice_split_none}
 use Rattle.rel_host.specs.Paths.{climbs}
 
--- behind a part that is not `..` all is as in the whole path
+-- after a part that is not `..` all is as in the whole path
 pub climbs_behind : (path part behind : List ℕ) → position_or_len (λ b. b == 47) path < length path → part ≡ before_first (λ b. b == 47) path
     → behind ≡ after_first (λ b. b == 47) path → bytes_eq part (codes "..") ≡ false → climbs behind ≡ climbs path
 climbs_behind path part behind within is_part is_behind down =

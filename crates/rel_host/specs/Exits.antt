@@ -15,7 +15,7 @@ abbrev pub exit_status : Failure → ℕ
 exit_status BadArguments = 2
 exit_status (Session e) = ended.exit_status e
 
--- what is reported behind the program's name
+-- what is reported after the program's name
 abbrev pub exit_text : Failure → List ℕ
 exit_text BadArguments = codes "bad arguments"
 exit_text (Session e) = ended.exit_text e

@@ -28,7 +28,7 @@ impl Failure {
         }
     }
 
-    /// What the program reports behind its name.
+    /// What the program reports after its name.
     pub fn exit_text(self) -> &'static str
         ensures { result.now ≡ exit_text self }
     {

@@ -49,7 +49,7 @@ impl From<clap::Error> for OptionsError {
     }
 }
 
-/// Reads the arguments behind the program's name, as `clap` does. Each option may be given once, as `--store FILE` or as
+/// Reads the arguments after the program's name, as `clap` does. Each option may be given once, as `--store FILE` or as
 /// `--store=FILE`.
 pub fn read_options<'a, S: AsStr>(alloc: Global, words: &'a [S]) -> Result<Options, OptionsError>
     // The options are those that the words mean, and clap finds no fault with the words.

@@ -33,7 +33,7 @@ impl<R: rt::Files + Drop> RootFiles<R> {
         RootFiles { host, root }
     }
 
-    // Where the path leads below this folder, behind all links.
+    // Where the path leads below this folder, after all links.
     fn resolve(&self, alloc: Global, root: &str, path: &str) -> Result<PathBuf, FilesError> {
         let Ok(whole) = joined(alloc, root, path) else {
             return Err(FilesError::NoMemory);

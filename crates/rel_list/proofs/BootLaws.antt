@@ -37,7 +37,7 @@ booted_status-twice Old none = refl
 booted_status-twice Permanent none = refl
 booted_status-twice OneShot none = absurd (true≢false none)
 
--- where a list has no one-shot, its first is none, and none behind it is
+-- where a list has no one-shot, its first is none, and none after it is
 pub first_is_none : (e : Entry) (es : Releases) → has_one_shot (e ∷ es) ≡ false → (is_one_shot e.status ≡ false) × (has_one_shot es ≡ false)
 first_is_none e es none = go (is_one_shot e.status) none
   where
@@ -85,7 +85,7 @@ pub boot_changes-first : (es : Releases) → length (of_status is_temporary es) 
 boot_changes-first es few =
     mapped_list (λ (e : Entry). e.release.vsn) _ ∙ ap (map (λ (e : Entry). e.release.vsn)) (all_in_first (λ (e : Entry). is_temporary e.status) es few)
 
--- Installations before and behind a boot
+-- Installations before and after a boot
 
 reinstalled_status : (b : Bool) (s : Status) → installed_status b (booted_status (installed_status b s)) ≡ installed_status b s
 reinstalled_status true Unpacked = refl
@@ -117,7 +117,7 @@ status-reinstalled v (e ∷ es) = go (bytes_eq v e.release.vsn) (status-reinstal
     go true rest = refl
     go false rest = rest
 
--- a release that may be installed, and isn't permanent, may be so behind a boot
+-- a release that may be installed, and isn't permanent, may be so after a boot
 may_again : (other later : Bool) (o : Option Status) → o ≢ Some Permanent → may_be_installed other o ≡ true
     → may_be_installed later (option_map (λ s. booted_status (installed_status true s)) o) ≡ true
 may_again other later None apart may = may
@@ -137,7 +137,7 @@ installs_alike v es apart = whole (has_one_shot es)
     again true is = ap (λ (l : Releases). Some l) (reinstalled v es)
     again false is = absurd (true≢false (sym is))
 
-    -- behind a boot no release is a one-shot, so the list asks for none
+    -- after a boot no release is a one-shot, so the list asks for none
     third : (b : Bool) → b ≡ true → may_be_installed (has_current (booted once)) (status_of v (booted once)) ≡ b
         → option_and_then (λ (l : Releases). Some l) (if has_one_shot (booted once) then None
         else (if may_be_installed (has_current (booted once)) (status_of v (booted once)) then Some (list_installed v (booted once)) else None)) ≡ Some once

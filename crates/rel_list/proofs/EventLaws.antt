@@ -356,7 +356,7 @@ one_permanent-step e es next distinct one is = one_permanent-own e es next disti
 
 -- Events in a row
 
--- the list behind the first event
+-- the list after the first event
 first_step : (e : Event) (events : List Event) (es end : Releases) → list_from es (e ∷ events) ≡ Some end
     → (next : Releases) × (step e es ≡ Some next) × (list_from next events ≡ Some end)
 first_step e events es end is = go (step e es) refl is
@@ -366,7 +366,7 @@ first_step e events es end is = go (step e es) refl is
     go None made_of is = cc
     go (Some next) made_of is = (next, made_of, is)
 
--- the list behind further events
+-- the list after further events
 pub list_from-append : (es : Releases) (events more : List Event) (mid end : Releases) → list_from es events ≡ Some mid → list_from mid more ≡ Some end → list_from es (events ++ more) ≡ Some end
 list_from-append es [] more mid end first second =
     let same : es ≡ mid = cc first in

@@ -26,7 +26,7 @@ libraries-with_statuses f (e ∷ es) = ap (λ (ls : List Library). e.libraries +
 pub libraries-recorded : (es : Releases) → libraries_named (recorded es) ≡ libraries_named es
 libraries-recorded es = libraries-with_statuses (λ vsn s. recorded_status s) es
 
--- a release that comes in brings its libraries behind the others
+-- a release that comes in brings its libraries after the others
 pub libraries-push : (es : Releases) (e : Entry) → libraries_named (es ++ e ∷ []) ≡ libraries_named es ++ e.libraries
 libraries-push es e =
     flat_map-append (λ (f : Entry). f.libraries) es (e ∷ []) ∙ ap (λ (ls : List Library). libraries_named es ++ ls) (append-nil e.libraries)
@@ -101,7 +101,7 @@ each_once-push (k ∷ ks) l = ap (λ (ls : List Library). k ∷ others k ls) (ea
     front : List Library
     front = k ∷ others k firsts
 
-    -- whether it is found behind the first
+    -- whether it is found after the first
     found : Bool → Bool → Bool
     found b a = cond b true a
 

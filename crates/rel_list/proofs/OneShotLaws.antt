@@ -74,7 +74,7 @@ none-own boot es next other free is = let same : booted es ≡ next = cc is in s
 pub one_shots_come_from_restarts : OneShotsComeFromRestarts
 one_shots_come_from_restarts e es next other is = let own = own_of_step e es next is in none-own e es next other own.0 own.1
 
--- Behind an installation with a restart no release is current, so records report the list as it is.
+-- After an installation with a restart no release is current, so records report the list as it is.
 none-current : (b : Bool) (s : Status) → recorded_status (restarted_status b s) ≡ restarted_status b s
 none-current true Unpacked = refl
 none-current true Current = refl

@@ -11,7 +11,7 @@ use Rattle.rel_list.specs.Event.{with_statuses}
 abbrev pub of_version : List ℕ → Releases → Releases
 of_version v es = filter (λ (e : Entry). bytes_eq v e.release.vsn) es
 
--- the status of the first release, or of one behind it
+-- the status of the first release, or of one after it
 abbrev pub status_or : Bool → Entry → Option Entry → Option Status
 status_or b e behind = option_map (λ (f : Entry). f.status) (cond b (Some e) behind)
 
@@ -38,7 +38,7 @@ first_differs v e es none = go (bytes_eq v e.release.vsn) none
     go false none = refl
     go true none = cc
 
--- nor is there one behind it
+-- nor is there one after it
 pub none_behind : (v : List ℕ) (e : Entry) (es : Releases) → status_of v (e ∷ es) ≡ None → status_of v es ≡ None
 none_behind v e es none = go (bytes_eq v e.release.vsn) none
   where

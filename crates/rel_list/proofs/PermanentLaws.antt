@@ -13,7 +13,7 @@ use Rattle.rel_list.specs.Laws.{leaves_permanent, PermanentStays}
 use Rattle.rel_list.proofs.EventLaws.{permanent-installed, permanent-restarted, permanent-booted, permanent-recorded, kept_permanent, allowed, allowed_else}
 use Rattle.rel_list.proofs.OwnRules.{own_of_step}
 
--- the first release, or one behind it
+-- the first release, or one after it
 abbrev release_or : Bool → Entry → Option Entry → Option Release
 release_or b e behind = option_map (λ (f : Entry). f.release) (cond b (Some e) behind)
 

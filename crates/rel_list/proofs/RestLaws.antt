@@ -64,7 +64,7 @@ but_permanent : (v p first second old : Bool) → rest_status p (cond v first (c
 but_permanent v true first second old = refl
 but_permanent v false first second old = refl
 
--- no release is a one-shot, at rest or behind an installation
+-- no release is a one-shot, at rest or after an installation
 none-given : (status : List ℕ → Status) → ((w : List ℕ) → is_one_shot (status w) ≡ false) → (es : Releases) → has_one_shot (given status es) ≡ false
 none-given status never es = none_is_one_shot (λ w s. status w) (λ w s. never w) es
 
@@ -81,14 +81,14 @@ none_installed false true old = refl
 none_installed false false true = refl
 none_installed false false false = refl
 
--- the status behind an installation that is made permanent
+-- the status after an installation that is made permanent
 raised_status : (v p old : Bool) → permanent_status v (installed_status v (rest_status p old)) ≡ rest_status v (cond p true old)
 raised_status true p old = refl
 raised_status false true old = refl
 raised_status false false true = refl
 raised_status false false false = refl
 
--- the status behind an installation and a boot
+-- the status after an installation and a boot
 unpacked_status : (v p old : Bool) → booted_status (installed_status v (rest_status p old)) ≡ rest_status p (cond v false old)
 unpacked_status true true old = refl
 unpacked_status true false true = refl
@@ -112,7 +112,7 @@ allows_permanence false = refl
 none-resting : (p : List ℕ) (old : List ℕ → Bool) (es : Releases) → has_one_shot (resting p old es) ≡ false
 none-resting p old es = none-given (λ w. rest_status (bytes_eq p w) (old w)) (λ w. none_at_rest (bytes_eq p w) (old w)) es
 
--- the list behind an installation of a release at rest
+-- the list after an installation of a release at rest
 abbrev installing : List ℕ → List ℕ → (List ℕ → Bool) → Releases → Releases
 installing v p old es = given (λ w. installed_status (bytes_eq v w) (rest_status (bytes_eq p w) (old w))) es
 
@@ -278,7 +278,7 @@ status-booted v (e ∷ es) = elim (cases_Bool (bytes_eq v e.release.vsn)) [
   | inr is ↦ rw is (status-booted v es)
 ]
 
--- what is neither current nor a one-shot is as it was behind two boots, and when another release is installed then
+-- what is neither current nor a one-shot is as it was after two boots, and when another release is installed then
 calm_status : (s : Status) → is_temporary s ≡ false → restarted_status false (booted_status (booted_status s)) ≡ s
 calm_status Unpacked none = refl
 calm_status Current none = absurd (true≢false none)

@@ -12,7 +12,7 @@ use Rattle.rel_list.specs.Event.{installed_status, restarted_status, permanent_s
 use Rattle.rel_list.specs.Releases.{Releases, Entry, status_of}
 use Rattle.rel_list.specs.Status.{is_temporary}
 
--- the status of the release of this version, behind the change
+-- the status of the release of this version, after the change
 abbrev pub status_after : StatusChange → List ℕ → Status → Status
 status_after (change.Install v) vsn s = installed_status (bytes_eq v.now vsn) s
 status_after (change.Restart v) vsn s = restarted_status (bytes_eq v.now vsn) s
@@ -38,6 +38,6 @@ abbrev pub MayBeMade : StatusChange → Releases → Type 0
 MayBeMade (change.Assign v t) es = may_be_given t v.now es ≡ true
 MayBeMade c es = Unit {0}
 
--- a release in its map, behind the change
+-- a release in its map, after the change
 abbrev pub changed : StatusChange → String Global × ListedRelease → String Global × ListedRelease
 changed c p = (p.0, record p.1 { status = status_after c (string_bytes p.1.release.vsn) p.1.status })

@@ -55,32 +55,32 @@ abbrev pub may_be_rebooted : Option Status → Bool
 may_be_rebooted (Some Old) = true
 may_be_rebooted s = false
 
--- The status of a release behind an installation of another one: what was installed before becomes old.
+-- The status of a release after an installation of another one: what was installed before becomes old.
 abbrev pub replaced_status : Status → Status
 replaced_status Current = Old
 replaced_status OneShot = Old
 replaced_status s = s
 
--- The status of a release behind an installation, of itself or of another one: the installed release becomes current, a
+-- The status of a release after an installation, of itself or of another one: the installed release becomes current, a
 -- permanent one stays permanent; a former current release becomes old.
 abbrev pub installed_status : Bool → Status → Status
 installed_status true Permanent = Permanent
 installed_status true s = Current
 installed_status false s = replaced_status s
 
--- Behind one whose script ends with a restart (own): the release becomes a one-shot, which the next boot starts.
+-- After one whose script ends with a restart (own): the release becomes a one-shot, which the next boot starts.
 abbrev pub restarted_status : Bool → Status → Status
 restarted_status true Permanent = Permanent
 restarted_status true s = OneShot
 restarted_status false s = replaced_status s
 
--- The status of a release behind one that was made permanent, itself or another one: the former permanent one becomes old.
+-- The status of a release after one that was made permanent, itself or another one: the former permanent one becomes old.
 abbrev pub permanent_status : Bool → Status → Status
 permanent_status true s = Permanent
 permanent_status false Permanent = Old
 permanent_status false s = s
 
--- the status behind a boot: what was merely installed is unpacked again, and a one-shot runs
+-- the status after a boot: what was merely installed is unpacked again, and a one-shot runs
 abbrev pub booted_status : Status → Status
 booted_status Current = Unpacked
 booted_status OneShot = Current
@@ -91,7 +91,7 @@ abbrev pub recorded_status : Status → Status
 recorded_status Current = Unpacked
 recorded_status s = s
 
--- The status of a release, of this version, behind an event that takes none out and brings none in.
+-- The status of a release, of this version, after an event that takes none out and brings none in.
 abbrev pub status_behind : Event → List ℕ → Status → Status
 status_behind (installed v) vsn s = installed_status (bytes_eq v vsn) s
 status_behind (restart_installed v) vsn s = restarted_status (bytes_eq v vsn) s
@@ -100,7 +100,7 @@ status_behind (reboot_old v) vsn s = permanent_status (bytes_eq v vsn) s
 status_behind boot vsn s = booted_status s
 status_behind e vsn s = s
 
--- the status of a release behind an assignment of this one, to itself or to another release
+-- the status of a release after an assignment of this one, to itself or to another release
 abbrev pub assigned_status : Status → Bool → Status → Status
 assigned_status t true s = t
 assigned_status t false s = s
@@ -109,11 +109,11 @@ assigned_status t false s = s
 abbrev pub with_statuses : (List ℕ → Status → Status) → Releases → Releases
 with_statuses status es = map (λ (e : Entry). record e { status = status e.release.vsn e.status }) es
 
--- the list behind an installation of this version
+-- the list after an installation of this version
 abbrev pub list_installed : List ℕ → Releases → Releases
 list_installed v es = with_statuses (λ vsn s. installed_status (bytes_eq v vsn) s) es
 
--- the list behind one whose script ends with a restart
+-- the list after one whose script ends with a restart
 abbrev pub list_restarted : List ℕ → Releases → Releases
 list_restarted v es = with_statuses (λ vsn s. restarted_status (bytes_eq v vsn) s) es
 
@@ -130,7 +130,7 @@ abbrev pub without : List ℕ → Releases → Releases
 without v [] = []
 without v (e ∷ es) = if bytes_eq v e.release.vsn then es else e ∷ without v es
 
--- the list behind a boot: a one-shot becomes current, and current becomes unpacked; all else stays
+-- the list after a boot: a one-shot becomes current, and current becomes unpacked; all else stays
 abbrev pub booted : Releases → Releases
 booted es = map (λ (e : Entry). record e { status = booted_status e.status }) es
 

@@ -41,7 +41,7 @@ makes_one_shot e = false
 abbrev pub OneShotsComeFromRestarts : Type 0
 OneShotsComeFromRestarts = (e : Event) (es next : Releases) → makes_one_shot e ≡ false → step e es ≡ Some next → has_one_shot next ≡ false
 
--- Behind an installation with a restart records report the list as it is.
+-- After an installation with a restart records report the list as it is.
 abbrev pub RestartsAreRecorded : Type 0
 RestartsAreRecorded = (v : List ℕ) (es next : Releases) → step (restart_installed v) es ≡ Some next → recorded next ≡ next
 
@@ -49,7 +49,7 @@ RestartsAreRecorded = (v : List ℕ) (es next : Releases) → step (restart_inst
 abbrev pub BootLeavesNoOneShot : Type 0
 BootLeavesNoOneShot = (es : Releases) → has_one_shot (booted es) ≡ false
 
--- Where no release is a one-shot, a boot behind a boot changes nothing.
+-- Where no release is a one-shot, a boot after a boot changes nothing.
 abbrev pub SecondBootChangesNothing : Type 0
 SecondBootChangesNothing = (es : Releases) → has_one_shot es ≡ false → list_from es (boot ∷ boot ∷ []) ≡ list_from es (boot ∷ [])
 

@@ -52,7 +52,7 @@ libraries_at vsn es = option_map_or (λ (e : Entry). e.libraries) (find (λ e. b
 abbrev pub of_status : (Status → Bool) → Releases → Releases
 of_status test es = filter (λ (e : Entry). test e.status) es
 
--- Versions are distinct: behind a release stands none of its version.
+-- Versions are distinct: after a release stands none of its version.
 abbrev pub HasDistinctVersions : Releases → Type 0
 HasDistinctVersions [] = Unit {0}
 HasDistinctVersions (e ∷ es) = (status_of e.release.vsn es ≡ None) × HasDistinctVersions es

@@ -16,7 +16,7 @@ pub(crate) enum StatusChange<'a> {
 }
 
 impl StatusChange<'_> {
-    // The status of a release behind the change.
+    // The status of a release after the change.
     fn status_after(self, listed: &ListedRelease) -> Status
         ensures { result
             ≡ status_after self.entry (string_bytes listed.now.release.vsn) listed.now.status }
@@ -44,7 +44,7 @@ impl StatusChange<'_> {
         }
     }
 
-    // Gives each release the status that it has behind the change.
+    // Gives each release the status that it has after the change.
     pub(crate) fn change(self, releases: &mut IndexMap<String, ListedRelease>)
         ensures { releases.new.entries ≡ map (changed self.entry) releases.old.entries }
     {

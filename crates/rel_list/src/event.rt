@@ -1,6 +1,6 @@
 //! What happens to a list of releases.
 //!
-//! An installation with a restart makes a release a one-shot: the next boot starts it, and the one behind that doesn't. Beside a
+//! An installation with a restart makes a release a one-shot: the next boot starts it, and the one after that doesn't. Beside a
 //! one-shot the list takes a boot alone.
 ghost use Rattle.std.specs.Prelude.{◌≡◌, Some, None, IsTrue, IfErr, OnOk, OnErr};
 ghost use Rattle.rel_list.specs.Event.{event_of, own_step, status_behind};
@@ -45,7 +45,7 @@ impl Drop for Event {
 }
 
 impl Event {
-    /// The status that a release of this version and this status has behind the event. An event that brings a release, or
+    /// The status that a release of this version and this status has after the event. An event that brings a release, or
     /// takes one out, leaves the statuses of the others.
     pub fn status_behind(&self, vsn: &str, status: Status) -> Status
         ensures { result ≡ status_behind (event_of self.now) vsn.now status }

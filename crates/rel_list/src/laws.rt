@@ -26,7 +26,7 @@ pub fn only_a_restart_makes_a_one_shot()
     ensures { OneShotsComeFromRestarts }
 {}
 
-/// Behind an installation whose script ends with a restart, records report the list as it is: no release is current then.
+/// After an installation whose script ends with a restart, records report the list as it is: no release is current then.
 pub fn a_restart_is_recorded_as_it_is()
     ensures { RestartsAreRecorded }
 {}
@@ -36,7 +36,7 @@ pub fn a_boot_leaves_no_one_shot()
     ensures { BootLeavesNoOneShot }
 {}
 
-/// Where no release is a one-shot, a boot behind a boot changes nothing.
+/// Where no release is a one-shot, a boot after a boot changes nothing.
 pub fn a_second_boot_changes_nothing()
     ensures { SecondBootChangesNothing }
 {}

@@ -61,7 +61,7 @@ impl Status {
         matches!(self, Status::Current | Status::OneShot)
     }
 
-    // The status behind an installation of another release.
+    // The status after an installation of another release.
     fn replaced(self) -> Status
         ensures { result ≡ replaced_status self }
     {
@@ -71,7 +71,7 @@ impl Status {
         }
     }
 
-    // The status behind an installation, of the release itself or of another one.
+    // The status after an installation, of the release itself or of another one.
     pub(crate) fn installed(self, itself: bool) -> Status
         ensures { result ≡ installed_status itself self }
     {
@@ -82,7 +82,7 @@ impl Status {
         }
     }
 
-    /// The status behind an installation whose script ends with a restart, of the release itself or of another one.
+    /// The status after an installation whose script ends with a restart, of the release itself or of another one.
     pub fn restarted(self, itself: bool) -> Status
         ensures { result ≡ restarted_status itself self }
     {
@@ -93,7 +93,7 @@ impl Status {
         }
     }
 
-    // The status behind the event that makes the release itself or another one permanent.
+    // The status after the event that makes the release itself or another one permanent.
     pub(crate) fn made_permanent(self, itself: bool) -> Status
         ensures { result ≡ permanent_status itself self }
     {
@@ -104,7 +104,7 @@ impl Status {
         }
     }
 
-    /// The status behind a boot.
+    /// The status after a boot.
     pub fn booted(self) -> Status
         ensures { result ≡ booted_status self }
     {

@@ -44,7 +44,7 @@ found_passes test (k ∷ ls) l is = go (test k) refl (found_passes test ls l) is
     go true passes behind is = let same : k ≡ l = cc is in subst (λ (m : Library). test m ≡ true) same passes
     go false passes behind is = behind is
 
--- what stands behind the library of an application
+-- what stands after the library of an application
 abbrev behind_library : Releases → List Application → Library × List Library → Option (List Library)
 behind_library es apps n = option_map (λ (ks : List Library). n.0 ∷ ks) (completed es apps n.1)
 
@@ -139,7 +139,7 @@ are_completed es have (a ∷ apps) ls ks all e =
     let (ms, found, same) = mapped (λ (ms : List Library). n.0 ∷ ms) (completed es apps n.1) ks rest in
     subst (AreCompleted es (a ∷ apps) ls) same (by n ms found (λ rs are is. are_completed es have apps rs ms are is) (library_in es a.name a.vsn) refl ls all next)
   where
-    -- one library more, and those behind it
+    -- one library more, and those after it
     with_first : (l : Library) (ls : List Library) (ms : List Library) → IsLibrary l → is_at a.name a.vsn l ≡ true → AreLibrariesOf apps ms
         → cond (not (is_some (library_in es l.app.name l.app.vsn))) (l ∷ new_libraries es ms) (new_libraries es ms) ≡ ls → AreCompleted es (a ∷ apps) ls (l ∷ ms)
     with_first l ls ms is at are new = record { libraries = (is, at, are); new = new }

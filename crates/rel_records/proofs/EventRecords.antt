@@ -78,7 +78,7 @@ AreOfOthers v given = AllByRecursion (λ (a : Assignment). bytes_eq a.vsn v ≡ 
 abbrev pub AreApartFrom : Status → List Assignment → Type 0
 AreApartFrom s given = AllByRecursion (λ (a : Assignment). (is_one_shot a.status && is_temporary s) ≡ false) given
 
--- what may be assigned behind a release may be beside it
+-- what may be assigned after a release may be beside it
 beside_first : (t s : Status) → (is_one_shot t && is_temporary s) ≡ false
     → (v : List ℕ) (x : Entry) (es : Releases) → x.status ≡ s → bytes_eq v x.release.vsn ≡ false → may_be_given t v es ≡ true → may_be_given t v (x ∷ es) ≡ true
 beside_first Unpacked s apart v x es own differ may = rw differ may
@@ -149,7 +149,7 @@ module _ (e : Event) where
   abbrev after : Entry → Status
   after x = status_behind e x.release.vsn x.status
 
-  -- what changes behind a release is of other versions
+  -- what changes after a release is of other versions
   changes_others : (v : List ℕ) (es : Releases) → status_of v es ≡ None → AreOfOthers v (changes e es)
   changes_others v [] none = tt
   changes_others v (x ∷ es) none = go (is_changed e x) (changes_others v es (none_behind v x es none))
@@ -158,7 +158,7 @@ module _ (e : Event) where
       go true rest = (differs_back v x.release.vsn (first_differs v x es none), rest)
       go false rest = rest
 
-  -- A release that changes becomes a one-shot only where no other is current or a one-shot, and none behind it does beside it.
+  -- A release that changes becomes a one-shot only where no other is current or a one-shot, and none after it does beside it.
   abbrev AreApart : Releases → Type 0
   AreApart [] = Unit {0}
   AreApart (x ∷ es) =
@@ -218,7 +218,7 @@ module _ (e : Event) where
     none_becomes_one [] = tt
     none_becomes_one (x ∷ es) = (λ changed is. absurd (true≢false (sym is ∙ never x changed)), none_assigned (recorded_status (after x)) es, none_becomes_one es)
 
--- a release that changes is no one-shot behind one that was made permanent
+-- a release that changes is no one-shot after one that was made permanent
 never-permanent : (b : Bool) (s : Status) → not (is_same (permanent_status b s) s) ≡ true → is_one_shot (permanent_status b s) ≡ false
 never-permanent true s changed = refl
 never-permanent false Unpacked changed = refl
@@ -227,7 +227,7 @@ never-permanent false Old changed = refl
 never-permanent false Permanent changed = refl
 never-permanent false OneShot changed = absurd cc
 
--- Behind a restart of a list without a one-shot
+-- After a restart of a list without a one-shot
 module _ (v : List ℕ) where
   -- nothing is current or a one-shot as records report it
   none_temporary : (w : List ℕ) (es : Releases) → has_one_shot es ≡ false → has_other_temporary w (recorded es) ≡ false
@@ -251,7 +251,7 @@ module _ (v : List ℕ) where
   replaced_so Permanent = refl
   replaced_so OneShot = refl
 
-  -- behind the release of this version none becomes one
+  -- after the release of this version none becomes one
   behind_its_own : (s : Status) (es : Releases) → status_of v es ≡ None → AreApartFrom s (changes (restart_installed v) es)
   behind_its_own s [] none = tt
   behind_its_own s (x ∷ es) none = go (is_changed (restart_installed v) x) (behind_its_own s es (none_behind v x es none))

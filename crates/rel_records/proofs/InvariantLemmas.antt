@@ -12,7 +12,7 @@ use Rattle.rel_records.specs.Lists.{all_come_in, added_by, assign_all, comes_in,
 use Rattle.rel_records.specs.Record.{Assignment, Imaged, Record, makes, adds, assigns, removes, images}
 use Rattle.rel_records.proofs.StatusRecords.{set_so}
 
--- what holds of each holds of each of the first ones, and of each behind them
+-- what holds of each holds of each of the first ones, and of each after them
 all-take : {A : Type 0} (P : A → Type 0) (n : ℕ) (xs : List A) → AllByRecursion P xs → AllByRecursion P (take n xs)
 all-take P zero xs all = tt
 all-take P (suc n) [] all = tt
@@ -31,7 +31,7 @@ module _ (Q : Release → Option RelupForm → Type 0) (R : Library → Type 0) 
   IsOf (images xs ls) = AllByRecursion (λ (x : Imaged). Q x.release x.relup) xs × AllByRecursion R ls
   IsOf r = Unit {0}
 
-  -- what holds behind each event of a record, where it held before, holds behind the record
+  -- what holds after each event of a record, where it held before, holds after the record
   module _ (P : Releases → Type 0)
       (first : (r : Release) (ls : List Library) (o : Option RelupForm) (es next : Releases) → Q r o → AllByRecursion R ls → made_by r ls o es ≡ Some next → P es → P next)
       (further : (r : Release) (ls : List Library) (o : Option RelupForm) (es next : Releases) → Q r o → AllByRecursion R ls → added_by r ls o es ≡ Some next → P es → P next)

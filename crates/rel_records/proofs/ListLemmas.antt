@@ -24,7 +24,7 @@ makes_once format es (body ∷ bodies) a b (r, next, spelled, taken, rest) (r', 
     let same : next ≡ next' = the_same (assigned_in format r es) next next' taken (subst (λ s. assigned_in format s es ≡ Some next') (spells_once body r' r spelled' spelled) taken') in
     makes_once format next' bodies a b (subst (λ l. MakesFrom format l bodies a) same rest) rest'
 
--- a front of records that make a list makes one, behind which the next one stands
+-- a front of records that make a list makes one, after which the next one stands
 stands_there : (format : ℕ) (es : Releases) (before : List (List ℕ)) (body : List ℕ) (rest : List (List ℕ)) (mid end : Releases)
     → MakesFrom format es (before ++ body ∷ rest) end → MakesFrom format es before mid → CannotStand format body mid → ⊥
 stands_there format es [] body rest mid end (r, next, spelled, taken, more) so_far cannot = cc (taken, subst (λ l. assigned_in format r l ≡ None) so_far (cannot r spelled))

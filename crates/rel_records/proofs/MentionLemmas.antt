@@ -98,7 +98,7 @@ once_more ks (l ∷ ls) apart =
 abbrev pub unset : Entry → Entry
 unset e = record e { status = Unpacked }
 
--- the libraries that are new with releases which come in behind a list, in their order
+-- the libraries that are new with releases which come in after a list, in their order
 abbrev pub new_behind : Releases → Releases → List Library
 new_behind es [] = []
 new_behind es (e ∷ after) = new_libraries es e.libraries ++ new_behind (es ++ unset e ∷ []) after

@@ -1,4 +1,4 @@
--- What stands behind a record.
+-- What stands after a record.
 use Rattle.std.proofs.Common.{◌≡◌, ℕ, Bool, true, false, List, [], ◌∷◌, ◌++◌, length, Some, None, Option, refl, sym, ap, ◌∙◌, subst}
 use Rattle.std.specs.Prelude.{◌&&◌, ◌||◌, is_some, nat_lt, if◌then◌else◌}
 use Rattle.std.specs.List.{AllByRecursion}
@@ -24,7 +24,7 @@ use Rattle.rel_list.proofs.OwnRules.{never_made_again, own_of_step}
 use Rattle.rel_records.proofs.InvariantLemmas.{IsOf, kept_behind}
 pub use Rattle.status_changes.proofs.StatusLemmas.{first_recorded, rest_recorded}
 
--- behind each record exactly one release is permanent
+-- after each record exactly one release is permanent
 pub assigned_so : (r : Record) (es next : Releases) → assigned r es ≡ Some next → (taken_by r es ≡ Some next) × (has_one_permanent next ≡ true)
 assigned_so r es next e = go (taken_by r es) e
   where

@@ -41,7 +41,7 @@ AreSmall es = AllByRecursion (λ (e : Entry). is_small e.release ≡ true) es
 abbrev AreNew : Releases → Releases → Type 0
 AreNew es after = AllByRecursion (λ (e : Entry). status_of e.release.vsn es ≡ None) after
 
--- a release behind a list is none of another version
+-- a release after a list is none of another version
 unlisted-push : (v : List ℕ) (es : Releases) (e : Entry) → status_of v es ≡ None → bytes_eq v e.release.vsn ≡ false → status_of v (es ++ e ∷ []) ≡ None
 unlisted-push v [] e none differ = unlisted-cons v e [] differ none
 unlisted-push v (f ∷ es) e none differ = unlisted-cons v f (es ++ e ∷ []) (first_differs v f es none) (unlisted-push v es e (none_behind v f es none) differ)
@@ -53,7 +53,7 @@ new-push es e (x ∷ after) new none = (
   new-push es e after new.1 (none_behind e.release.vsn x after none),
 )
 
--- each later one is new behind the first
+-- each later one is new after the first
 new_behind_first : (e : Entry) (after : Releases) → status_of e.release.vsn after ≡ None → AreNew (e ∷ []) after
 new_behind_first e [] none = tt
 new_behind_first e (x ∷ after) none = (
@@ -91,7 +91,7 @@ further_comes_in f fs e settled free have is small new agree few =
     entered : step (unpacked (bundle_in e)) (f ∷ fs) ≡ Some ((f ∷ fs) ++ unset e ∷ [])
     entered = λ j. if free j then None else (if is_some (new j) || is_some (agree j) then None else Some ((f ∷ fs) ++ unset e ∷ []))
 
--- the libraries of the next release, and those behind it
+-- the libraries of the next release, and those after it
 module _ (es : Releases) (e : Entry) (rest : List Library) (is : IsStartable e) where
   own_taken : take (count_new es e.release.apps) (new_libraries es e.libraries ++ rest) ≡ new_libraries es e.libraries
   own_taken = take_at (new_libraries es e.libraries) rest (count_new es e.release.apps) (sym (counted es e.release.apps e.libraries is.complete.libraries))
@@ -99,7 +99,7 @@ module _ (es : Releases) (e : Entry) (rest : List Library) (is : IsStartable e) 
   rest_left : drop (count_new es e.release.apps) (new_libraries es e.libraries ++ rest) ≡ rest
   rest_left = drop_at (new_libraries es e.libraries) rest (count_new es e.release.apps) (sym (counted es e.release.apps e.libraries is.complete.libraries))
 
--- the releases behind the first come in one after another
+-- the releases after the first come in one after another
 all_further : (f : Entry) (fs after : Releases) → recorded (f ∷ fs) ≡ f ∷ fs → has_one_shot (f ∷ fs) ≡ false → HaveLibraries (f ∷ fs) → AreStartable after → AreSmall after → AreNew (f ∷ fs) after → HasDistinctVersions after
     → Agree (libraries_named (f ∷ fs) ++ libraries_named after) → length (f ∷ fs) + length after ≤ 32
     → all_come_in (map imaged after) (new_behind (f ∷ fs) after) (f ∷ fs) ≡ Some ((f ∷ fs) ++ map unset after)
@@ -147,7 +147,7 @@ apart_from_first x es few = elim (cases_Bool (is_temporary x.status)) [
   | inr is ↦ beside_none x.status _ is
 ]
 
--- so few are behind the first
+-- so few are after the first
 few_behind : (x : Entry) (es : Releases) → length (of_status is_temporary (x ∷ es)) ≤ 1 → length (of_status is_temporary es) ≤ 1
 few_behind x es few = elim (cases_Bool (is_temporary x.status)) [
   | inl is ↦ let one : length (x ∷ of_status is_temporary es) ≤ 1 = rw is at few in omega (arith, one)
@@ -194,7 +194,7 @@ all_set (x ∷ es) distinct settled few =
     first_set x Unpacked es (map unset es) settled.0 few distinct.0 (unlisted-unset x.release.vsn es distinct.0) (none-unset x.release.vsn es)
     (all_set es distinct.1 settled.1 (few_behind x es few))
 
--- The libraries in order of first mention are those of the first release, and those that are new behind it.
+-- The libraries in order of first mention are those of the first release, and those that are new after it.
 mentioned_first : (e : Entry) (after : Releases) → AreStartable (e ∷ after) → libraries_of (e ∷ after) ≡ e.libraries ++ new_behind (record e { status = Permanent } ∷ []) after
 mentioned_first e after startable =
     ap (λ (ls : List Library). each_once (ls ++ libraries_named after)) (sym (append-nil e.libraries))

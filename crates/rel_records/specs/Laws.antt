@@ -18,7 +18,7 @@ use Rattle.status_changes.specs.Laws.{IsOfNode}
 abbrev pub SpellsOneRecord : Type 0
 SpellsOneRecord = (body : List ℕ) (r s : Record) → Spells body r → Spells body s → r ≡ s
 
--- Bodies make a list, which is the same behind a boot, or one of them is the first bad record.
+-- Bodies make a list, which is the same after a boot, or one of them is the first bad record.
 abbrev pub MakeOrHaveABadOne : Type 0
 MakeOrHaveABadOne =
     (format : ℕ) (bodies : List (List ℕ)) → ((es : Releases) × Makes format bodies es × (recorded es ≡ es)) ⊎ ((i : ℕ) × IsBadRecord format bodies i)
@@ -55,20 +55,20 @@ IsOfOneRelease (assigns given) = ⊥
 IsOfOneRelease (images xs ls) = ⊥
 IsOfOneRelease r = Unit {0}
 
--- The record is that of an event behind this list, which leads to that one and is within the limits.
+-- The record is that of an event after this list, which leads to that one and is within the limits.
 pub record IsOfEvent (es next : Releases) (r : Record) : Type 0 where
   pub event : Event
   pub leads : step event es ≡ Some next
   pub fits : IsWithinLimits event es
   pub own : record_of event es ≡ r
 
--- A record of a release that comes in or leaves may stand behind a list only where it is that of an event: so it carries the
+-- A record of a release that comes in or leaves may stand after a list only where it is that of an event: so it carries the
 -- new libraries alone, in order, and the release has no fault with its libraries.
 abbrev pub RecordsAreOfEvents : Type 0
 RecordsAreOfEvents =
     (body : List ℕ) (r : Record) (es next : Releases) → HaveLibraries es → Spells body r → IsOfOneRelease r → assigned r es ≡ Some next → IsOfEvent es next r
 
--- A record of statuses may stand behind a list only where it leaves the list as it is, or does what one event does to a node.
+-- A record of statuses may stand after a list only where it leaves the list as it is, or does what one event does to a node.
 abbrev pub StatusesAreOfEvents : Type 0
 StatusesAreOfEvents =
     (given : List Assignment) (es next : Releases) → IsRecorded es → assigned (assigns given) es ≡ Some next → (next ≡ es) ⊎ IsOfNode es next

@@ -23,12 +23,12 @@ use Rattle.status_changes.specs.Statuses.{follow, statuses_of}
 abbrev pub may_be_assigned : Assignment → Releases → Bool
 may_be_assigned a es = may_be_given a.status a.vsn es
 
--- the list behind assignments, one after another
+-- the list after assignments, one after another
 abbrev pub assign_all : List Assignment → Releases → Option Releases
 assign_all [] es = Some es
 assign_all (a ∷ given) es = if may_be_assigned a es then assign_all given (list_assigned a.vsn a.status es) else None
 
--- the list behind statuses, where they follow
+-- the list after statuses, where they follow
 abbrev pub where_they_follow : Releases → Releases → Option Releases
 where_they_follow es next = if follow (statuses_of es) (statuses_of next) then Some next else None
 
@@ -68,11 +68,11 @@ if_faultless p = if has_fault p then None else Some p
 abbrev pub brought_by : Releases → Release → List Library → Option RelupForm → Option Bundle
 brought_by es r ls o = option_and_then (λ ks. if_faultless (record { release = r; libraries = ks; relup = o })) (completed es r.apps ls)
 
--- the list behind the record of its first release, with these libraries and this relup
+-- the list after the record of its first release, with these libraries and this relup
 abbrev pub made_by : Release → List Library → Option RelupForm → Releases → Option Releases
 made_by r ls o es = if is_small r then option_and_then (λ p. step (made p) es) (brought_by es r ls o) else None
 
--- the list behind the record of a further one
+-- the list after the record of a further one
 abbrev pub added_by : Release → List Library → Option RelupForm → Releases → Option Releases
 added_by r ls o es =
     if is_small r && nat_lt (length es) most_releases then option_and_then (λ p. step (unpacked p) es) (brought_by es r ls o) else None
@@ -120,11 +120,11 @@ abbrev pub with_one_permanent : Option Releases → Option Releases
 with_one_permanent None = None
 with_one_permanent (Some es) = if has_one_permanent es then Some es else None
 
--- the list behind a record, where it may stand
+-- the list after a record, where it may stand
 abbrev pub assigned : Record → Releases → Option Releases
 assigned r es = with_one_permanent (taken_by r es)
 
--- the list behind a record, where it may stand in a store of this format
+-- the list after a record, where it may stand in a store of this format
 abbrev pub assigned_in : ℕ → Record → Releases → Option Releases
 assigned_in format r es = if allows format r then assigned r es else None
 
@@ -142,7 +142,7 @@ Makes format bodies es = MakesFrom format [] bodies es × (has_one_permanent es 
 abbrev pub IsMadeByRecords : Releases → Type 0
 IsMadeByRecords es = (format : ℕ) × (bodies : List (List ℕ)) × Makes format bodies es
 
--- the body is that of no record which may stand behind this list in a store of this format
+-- the body is that of no record which may stand after this list in a store of this format
 abbrev pub CannotStand : ℕ → List ℕ → Releases → Type 0
 CannotStand format body es = (r : Record) → Spells body r → assigned_in format r es ≡ None
 

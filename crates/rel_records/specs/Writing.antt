@@ -28,7 +28,7 @@ changes e es = map (assignment_of e) (filter (is_changed e) es)
 abbrev pub new_libraries : Releases → List Library → List Library
 new_libraries es ls = filter (λ (l : Library). not (is_some (library_in es l.app.name l.app.vsn))) ls
 
--- The record of an event behind this list. A release is written with its new libraries alone, in the order of its
+-- The record of an event after this list. A release is written with its new libraries alone, in the order of its
 -- applications, and its relup; to a node's first release all libraries are new.
 abbrev pub record_of : Event → Releases → Record
 record_of (made p) es = makes p.release p.libraries p.relup

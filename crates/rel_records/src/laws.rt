@@ -26,13 +26,13 @@ pub fn records_write_one_shots()
 
 /// The record of an event makes of a list what the event makes of it, each as records report it: of a list whose versions are
 /// distinct, of which one release at most is current or a one-shot, and whose libraries are of files, where the event keeps the
-/// limits of a node and one release is permanent behind it.
+/// limits of a node and one release is permanent after it.
 pub fn records_determine_events()
     ensures { RecordsDetermineEvents }
 {}
 
-/// A record of a release that comes in or leaves may stand behind a list, whose libraries are of files, only where it is that of an
-/// event. One of statuses may stand behind a list that records report so only where it changes nothing, or does what one event does
+/// A record of a release that comes in or leaves may stand after a list, whose libraries are of files, only where it is that of an
+/// event. One of statuses may stand after a list that records report so only where it changes nothing, or does what one event does
 /// to a node with such a list.
 pub fn records_are_of_events()
     ensures releases { RecordsAreOfEvents }

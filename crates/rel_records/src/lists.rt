@@ -15,7 +15,7 @@ use crate::statuses::set_statuses;
 use rel_list::{Event, ReleaseList};
 use std::alloc::Global;
 
-// Changes the list as a record of a store of this format says, where it may stand behind it.
+// Changes the list as a record of a store of this format says, where it may stand after it.
 fn take(alloc: Global, format: u8, list: &mut ReleaseList, said: Record) -> Result<(), RecordFault>
     ensures taken { OnOk result
         (assigned_in format (record_read said) list.old ≡ Some list.new) }

@@ -1,5 +1,5 @@
--- What is replied where a node commits an event and boots behind it: the reply is that of the boot, with the event in front, and
--- its answer stands behind a line.
+-- What is replied where a node commits an event and boots after it: the reply is that of the boot, with the event in front, and
+-- its answer stands after a line.
 use Rattle.std.proofs.Common.{◌≡◌, ◌⊎◌, inl, inr, ℕ, true, false, List, [], ◌∷◌, ◌++◌, Some, None, Option, Result, Ok, Err, refl, sym, ap, ◌∙◌, subst, arith}
 use Rattle.std.specs.Prelude.{String, string_bytes}
 use Rattle.std.specs.declared.alloc.Global.{Global}
@@ -32,7 +32,7 @@ use Rattle.rel_session.proofs.ListLemmas.{list_after-push}
 use Rattle.rel_session.proofs.Prefixes.{stored, reached, reached_sooner, reached_behind, reached_with}
 use Rattle.rel_session.proofs.Replies.{leaves_all}
 
--- The result of the action reports that of the boot, behind this line; or memory was refused.
+-- The result of the action reports that of the boot, after this line; or memory was refused.
 abbrev pub ReportsBehind : List ℕ → Result (String Global) AllocError → Result (String Global) HandlerError → Type 0
 ReportsBehind line (Ok answer) (Ok text) = string_bytes text ≡ line ++ string_bytes answer
 ReportsBehind line (Err f) (Ok text) = ⊥
@@ -40,17 +40,17 @@ ReportsBehind line boot (Err why) = why ≡ handler_error.NoMemory
 
 module _ {D : Type 0} (v : Device D) (laws : IsDevice v) (e : Event) (size : ℕ) (n new : BootedNode D) (alive : is_dead n.handler ≡ false)
     (commits : Commits v e size n.handler new.handler) (is_done : IsDone v e size n.handler new.handler) (gone : is_dead new.handler ≡ true) (started : HasStarted v.may_leave new.handler) where
-  -- the list behind it
+  -- the list after it
   pub grown : (events : Events) → list_after events ≡ Some (list_in n.handler) → list_after (events ++ e ∷ []) ≡ Some (list_in new.handler)
   grown events after = list_after-push events e (list_in n.handler) (list_in new.handler) after (commanded_step e (list_in n.handler) (list_in new.handler) is_done.accepted)
 
-  -- how far the store reaches behind it
+  -- how far the store reaches after it
   pub reaches_there : (events : Events) (extent : Extent) (ps : Processes) → IsAt v (memory.Made n) (running events extent ps)
       → MayReach (extent_behind extent size) (releases_after (events ++ e ∷ [])) (extent_in new.handler)
   reaches_there events extent ps (here, living, after, stop, has) =
       reach_at (extent_in n.handler) extent (extent_in new.handler) size (list_in new.handler) (releases_after (events ++ e ∷ [])) stop (ap list_or_none (grown events after)) is_done.reaches
 
-  -- the store behind it
+  -- the store after it
   holds_there : (events : Events) (extent : Extent) (ps : Processes) → IsAt v (memory.Made n) (running events extent ps) → Holds v (dead (store_behind events e (extent_in new.handler))) (disk_in new.handler)
   holds_there events extent ps (here, living, after, stop, has) c now =
       stored (events ++ e ∷ []) (extent_in new.handler) (list_in new.handler) c (grown events after) (is_done.acknowledged c now) (started c now)

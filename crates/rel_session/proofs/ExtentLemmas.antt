@@ -1,4 +1,4 @@
--- How far a store reaches behind a commit, where memory is refused to no compaction.
+-- How far a store reaches after a commit, where memory is refused to no compaction.
 use Rattle.std.proofs.Common.{◌≡◌, inl, inr, ℕ, Bool, true, false, List, [], ◌∷◌, ◌++◌, length, Option, None, Some, refl, sym, ap, ◌∙◌, subst}
 use Rattle.std.specs.Option.{option_and_then}
 use Rattle.std.specs.Prelude.{if◌then◌else◌, not, ◌&&◌}
@@ -15,7 +15,7 @@ use Rattle.node_store.specs.Image.{Extent, extent_behind}
 use Rattle.rel_session.specs.Node.{list_or_none, releases_after}
 use Rattle.rel_session.proofs.ListLemmas.{list_after-more}
 
--- A store that may reach so far, and is as short as a compaction leaves it, reaches as far as behind one.
+-- A store that may reach so far, and is as short as a compaction leaves it, reaches as far as after one.
 pub one_reach : (x y : Extent) (es : Releases) → MayReach x es y → y ≡ compacted y es → y ≡ compacted x es
 one_reach x y es (inl is) compact = is
 one_reach x y es (inr (long, same)) compact = compact ∙ ap (λ z. compacted z es) same
@@ -24,12 +24,12 @@ one_reach x y es (inr (long, same)) compact = compact ∙ ap (λ z. compacted z 
 beside_one_shot : (x : Extent) (es : Releases) → has_one_shot es ≡ true → compacted x es ≡ x
 beside_one_shot x es one = ap (λ b. if not b && is_long x then with_image x (image_of (recorded es)) else x) one
 
--- so the store behind it reaches as far as it may
+-- so the store after it reaches as far as it may
 pub reach_beside_one_shot : (x y : Extent) (es : Releases) → MayReach x es y → has_one_shot es ≡ true → y ≡ compacted x es
 reach_beside_one_shot x y es (inl is) one = is
 reach_beside_one_shot x y es (inr (long, same)) one = same ∙ sym (beside_one_shot x es one)
 
--- how far a store may reach behind a commit, said of the events
+-- how far a store may reach after a commit, said of the events
 pub reach_at : (old extent new : Extent) (size : ℕ) (list after : Releases) → old ≡ extent → after ≡ list → MayReach (extent_behind old size) list new → MayReach (extent_behind extent size) after new
 reach_at old extent new size list after stop same reach = subst (λ x. MayReach (extent_behind x size) after new) stop (subst (λ l. MayReach (extent_behind old size) l new) (sym same) reach)
 
@@ -62,7 +62,7 @@ compacted_twice x es = by_length (may_be_compacted x es) refl
     by_length true long = by_image (ap (λ b. if b then with_image x (image_of (recorded es)) else x) long) (image_of (recorded es)) refl
     by_length false short = stays (ap (λ b. if b then with_image x (image_of (recorded es)) else x) short)
 
--- The image of a list without a one-shot is that of the list behind a boot.
+-- The image of a list without a one-shot is that of the list after a boot.
 compacted-booted : (x : Extent) (es : Releases) → has_one_shot es ≡ false → compacted x (booted es) ≡ compacted x es
 compacted-booted x es none =
     let ones : has_one_shot (booted es) ≡ has_one_shot es = boot_leaves_no_one_shot es ∙ sym none in
@@ -79,7 +79,7 @@ releases-booted events = ap list_or_none (list_after-more events booting) ∙ go
 pub booted_reach : (x : Extent) (events : Events) → has_one_shot (releases_after events) ≡ false → compacted x (releases_after (events ++ booting ∷ [])) ≡ compacted x (releases_after events)
 booted_reach x events none = ap (compacted x) (releases-booted events) ∙ compacted-booted x (releases_after events) none
 
--- No release is a one-shot behind a reboot to an old release.
+-- No release is a one-shot after a reboot to an old release.
 pub none_rebooted : (events : Events) (vsn : List ℕ) → has_one_shot (releases_after (events ++ rebooting vsn ∷ [])) ≡ false
 none_rebooted events vsn = ap (λ o. has_one_shot (list_or_none o)) (list_after-more events (rebooting vsn)) ∙ go (list_after events)
   where

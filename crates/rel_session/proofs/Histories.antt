@@ -1,4 +1,4 @@
--- The events behind a list that a store's records make.
+-- The events after a list that a store's records make.
 use Rattle.std.proofs.Common.{◌≡◌, ◌⊎◌, inl, inr, ℕ, true, List, [], ◌∷◌, ◌++◌, length, map, Some, refl, sym, ap, ◌∙◌, arith}
 use Rattle.std.specs.Prelude.{◌&&◌, ◌==◌, nat_lt}
 use Rattle.std.specs.Option.{option_and_then}
@@ -85,7 +85,7 @@ events_behind format events es (body ∷ bodies) end after still one (r, between
     let (next, permanent) = assigned_so r es between taken in
     events_behind format (events ++ more) between bodies end (list_from-append [] events more es between after leads) (settled_behind r es between next still) (inr permanent) rest
 
--- A list that a disk stands for is one behind events, where it is as records report it.
+-- A list that a disk stands for is one after events, where it is as records report it.
 pub events_of_image : (image : List ℕ) (es : Releases) → IsImageOf image es → recorded es ≡ es → (events : Events) × (list_after events ≡ Some es)
 events_of_image image es of still =
     let (events, after) = events_behind (format_of image) [] [] of.bodies (recorded es) refl refl (inl refl) of.list.makes.0 in

@@ -160,7 +160,7 @@ module _ {D : Type 0} (v : Device D) (laws : IsDevice v) (vsn : List ℕ) (n new
         ap (λ (q : Processes). stale_modules q.modules (libraries_at vsn es)) carried_out.2 ∙ ap (stale_modules (listed_in new.processes.loaded)) (sym target_is) ∙ sym by_script.2.stale in
         (λ j. installed_text (sym by_script.2.other j) (sym by_script.2.descr j) (stale j))
 
-    -- what is replied behind the commit
+    -- what is replied after the commit
     done_so : (Boot : Stored → Reply → Type 0) (events : Events) (extent : Extent) (a : Reply) → IsAt v (memory.Made n) (running events extent ps) → MayReach (extent_behind extent size) (releases_after (events ++ e ∷ [])) (extent_in new.handler)
         → IsInstallationReply Boot (needs_restart vsn es) events (extent_in new.handler) vsn es u.found (behind_run r) a → ActsWith Boot (running events extent ps) (installs vsn) a
     done_so Boot events extent a at reach is =
@@ -193,7 +193,7 @@ module _ {D : Type 0} (v : Device D) (laws : IsDevice v) (vsn : List ℕ) (n new
               };
             }
 
-    -- The node has to boot: its reply is that of the boot, behind that of the installation.
+    -- The node has to boot: its reply is that of the boot, after that of the installation.
     module _ (gone : is_dead new.handler ≡ true) (started : HasStarted v.may_leave new.handler) (restart : needs_restart vsn es ≡ true) where
       restart_is : e ≡ restart_installed vsn
       restart_is = ap (λ b. installation_event b vsn) restart
@@ -205,7 +205,7 @@ module _ {D : Type 0} (v : Device D) (laws : IsDevice v) (vsn : List ℕ) (n new
       reaches : (events : Events) (extent : Extent) (qs : Processes) → IsAt v (memory.Made n) (running events extent qs) → MayReach (extent_behind extent size) (releases_after (events ++ e ∷ [])) (extent_in new.handler)
       reaches = reaches_there v laws e size n new alive commits is_done gone started
 
-      -- so it replies with any boot behind it
+      -- so it replies with any boot after it
       acts_then : (Boot : Stored → Reply → Type 0) (events : Events) (extent : Extent) (qs : Processes) → IsAt v (memory.Made n) (running events extent qs) → (b : Reply) → Boot (store_behind events e (extent_in new.handler)) b
           → ActsWith Boot (running events extent qs) (installs vsn) (with_text (line_of i) (behind e b))
       acts_then Boot events extent qs (here, living, after, stop, has) b boot =
@@ -231,7 +231,7 @@ module _ {D : Type 0} (v : Device D) (laws : IsDevice v) (vsn : List ℕ) (n new
       pub restarts_unreported : AnswersAction v (installs vsn) (Err handler_error.NoMemory) (memory.Made n) (memory.Made new)
       restarts_unreported = ends_before_boot v laws e size n new alive commits is_done gone started (line_of i) Does Stops (acts_then BootsStore) alone_then (λ p b is. without_its_node p (installs vsn) b is)
 
-  -- the script was carried out, and the device failed behind it
+  -- the script was carried out, and the device failed after it
   device_replies : (u : UpgradeForm) → MayBegin vsn n.handler u → IsFinished (site_for u ps.modules) (start_in (state_in n)) u.found.script (listed_in new.processes.loaded) new.processes.tree new.processes.seat.view
       → HasFailed v (disk_in n.handler) (disk_in new.handler) → is_dead new.handler ≡ true → Replies (refusal_line device)
   device_replies u (is, fits) finished cause gone = where_it_runs (RepliesAt (refusal_line device)) there
@@ -251,7 +251,7 @@ module _ {D : Type 0} (v : Device D) (laws : IsDevice v) (vsn : List ℕ) (n new
             happens = record { moments = moments_at events after; holds = holds; cause = λ f. cause; counted = commits.counted };
           }
 
-  -- An instruction failed behind the point of no return: the disk is as it was, and the node is dead.
+  -- An instruction failed after the point of no return: the disk is as it was, and the node is dead.
   still_there : IsLost n.handler new.handler → LeavesOnly v (disk_in n.handler) (disk_in new.handler) (v.may_leave (disk_in n.handler))
   still_there lost = subst (λ d. LeavesOnly v (disk_in n.handler) d (v.may_leave (disk_in n.handler))) (sym lost.disk) (still v laws (disk_in n.handler))
 
@@ -367,7 +367,7 @@ module _ {D : Type 0} (v : Device D) (laws : IsDevice v) (vsn : List ℕ) (n new
       concludes (refusal_line (must_reboot (failure_of f))) (Ok text) reported (broken_replies f u may why known lost)
   answers_install (Err (install_error.MustReboot f)) (Err why) reported works of (living, (u, may, so), lost) = λ p at. inr (reported, inr (broken_silently lost p at))
 
-  -- Where it has, it boots behind the line that reports the installation.
+  -- Where it has, it boots after the line that reports the installation.
   pub answers_restart : (done : Result Installed InstallError) (line : String Global) → ReportsInstallation done (Ok line) → IsOk done → is_dead new.handler ≡ true → IfOk done (HasInstalled v vsn n new)
       → (final : PlaceInMemory D) (boot : Result (String Global) AllocError) (result : Result (String Global) HandlerError) → ReportsBehind (string_bytes line) boot result
       → ReportsOrStops v Boots (λ p a. StopsWithin p boots_node a) boot (memory.Made new) final → AnswersAction v (installs vsn) result (memory.Made n) final
@@ -395,7 +395,7 @@ pub on_undone : (done : Result Installed InstallError) (P : Type 0) → is_ok do
 on_undone (Ok i) P undone = never (sym undone)
 on_undone (Err error) P undone = tt
 
--- The answer is that of the boot behind the installation's own line.
+-- The answer is that of the boot after the installation's own line.
 pub reports_appended : (line : List ℕ) (boot joined : Result (String Global) AllocError) (result : Result (String Global) HandlerError) → IfOk joined (λ text. IsOkAnd boot (λ b. string_bytes text ≡ line ++ string_bytes b))
     → MatchResult joined (λ text. result ≡ Ok text) (λ _. result ≡ Err handler_error.NoMemory) → ReportsBehind line boot result
 reports_appended line (Ok b) (Ok text) result reported is = subst (ReportsBehind line (Ok b)) (sym is) reported
@@ -410,7 +410,7 @@ pub has_installed : {D : Type 0} (v : Device D) (vsn : List ℕ) (n new : Booted
 has_installed v vsn n new (Ok i) restarts is_done fits started by_script = record { restarts = restarts; is_done = is_done; fits = fits; started = started; by_script = by_script }
 has_installed v vsn n new (Err error) restarts is_done fits started by_script = tt
 
--- The processes are sound behind it.
+-- The processes are sound after it.
 pub sound_behind : {D : Type 0} (n new : BootedNode D) → AreSound n.processes → new.processes.table ≡ n.processes.table → new.processes.seat.table ≡ n.processes.seat.table → new.processes.seat.view.lent ≡ n.processes.seat.view.lent
     → HoldsNothing new.processes.seat.view → AreSound new.processes
 sound_behind n new sound table seat lent free = record { table = seat ∙ sound.table ∙ sym table; alone = lent ∙ sound.alone; free = free }

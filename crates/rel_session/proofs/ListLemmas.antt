@@ -1,4 +1,4 @@
--- Lists of releases behind one event more, and behind a boot.
+-- Lists of releases after one event more, and after a boot.
 use Rattle.std.proofs.Common.{◌≡◌, Bool, true, false, [], ◌∷◌, ◌++◌, find, Option, Some, None, refl, sym, ap, ◌∙◌}
 use Rattle.std.specs.Prelude.{if◌then◌else◌, is_some}
 use Rattle.std.specs.Option.{option_and_then, option_map}
@@ -39,7 +39,7 @@ becomes_current Old = refl
 becomes_current Permanent = refl
 becomes_current OneShot = refl
 
--- A release is current behind a boot where one was a one-shot before it.
+-- A release is current after a boot where one was a one-shot before it.
 pub current-booted : (es : Releases) → has_current (booted es) ≡ has_one_shot es
 current-booted [] = refl
 current-booted (e ∷ es) = go (is_current (booted_status e.status)) (is_one_shot e.status) (becomes_current e.status) (current-booted es)

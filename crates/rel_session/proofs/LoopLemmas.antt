@@ -252,7 +252,7 @@ module _ {D : Type 0} (v : Device D) (laws : IsDevice v) (base : Source) where
       let (commands, are, text) = run start starts in
       (commands, are_all known commands (subst (λ l. AreLeft l commands) same are), text)
 
-  -- an answer may be written behind its command, on the disk to which that has led
+  -- an answer may be written after its command, on the disk to which that has led
   pub may_write : (known : Option (List ℕ)) (all now new : Option (Feed Command)) (disk : D) (node : Node D) (old mid : Option (List ℕ)) → all ≡ option_map commands_in known → Goes v base all now disk node old mid
       → (c : Command) (text : String Global) (later : Node D) → Gives now new (λ d. c ≡ d) → FollowsCommand v base c (Ok (Some text)) node later
       → (Allowed : D → Option (List ℕ) → Type 0) → AllowsItsAnswers v base known disk old Allowed → MayAdd (Allowed (disk_of later)) mid (string_bytes text)

@@ -205,7 +205,7 @@ reached_sooner k first more c of = record {
   start = of.start;
 }
 
--- and what is reached behind an event is reached with it in front
+-- and what is reached after an event is reached with it in front
 pub reached_behind : (events : Events) (e : Event) (command : Events) (c : List ℕ) → IsReached (settled (events ++ e ∷ [])) command c → IsReached (settled events) (e ∷ command) c
 reached_behind events e command c of =
     let same : of.events ++ of.more ≡ events ++ (e ∷ of.more) = ap (λ (es : Events). es ++ of.more) (only_prefix (events ++ e ∷ []) of.events of.prefix) ∙ append_assoc events (e ∷ []) of.more in

@@ -1,4 +1,4 @@
--- What `reboot_old` replies: the reboot is committed, and the reply is that of the boot behind it.
+-- What `reboot_old` replies: the reboot is committed, and the reply is that of the boot after it.
 use Rattle.std.proofs.Common.{◌≡◌, inl, inr, ℕ, true, false, List, [], ◌∷◌, ◌++◌, Result, Ok, Err, refl, sym, subst}
 use Rattle.std.specs.Prelude.{MatchResult, String}
 use Rattle.std.specs.declared.alloc.Global.{Global}
@@ -51,12 +51,12 @@ module _ {D : Type 0} (v : Device D) (laws : IsDevice v) (vsn : List ℕ) (n new
   abbrev Stops : Place → Reply → Type 0
   Stops p a = StopsWithin p (reboots_node vsn) a
 
-  -- how far the store reaches behind it
+  -- how far the store reaches after it
   reaches : (events : Events) (extent : Extent) (ps : Processes) → IsAt v (memory.Made n) (running events extent ps)
       → MayReach (extent_behind extent (change_size e (list_in n.handler))) (releases_after (events ++ e ∷ [])) (extent_in new.handler)
   reaches = reaches_there v laws e (change_size e (list_in n.handler)) n new alive commits is_done gone started
 
-  -- so it does with any boot behind it
+  -- so it does with any boot after it
   acts_then : (Boot : Stored → Reply → Type 0) (events : Events) (extent : Extent) (ps : Processes) → IsAt v (memory.Made n) (running events extent ps) → (b : Reply) → Boot (rebooted events (extent_in new.handler) vsn) b
       → ActsWith Boot (running events extent ps) (reboots_node vsn) (behind e b)
   acts_then Boot events extent ps at b boot =

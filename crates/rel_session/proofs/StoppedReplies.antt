@@ -1,4 +1,4 @@
--- What is replied where the boot behind a commit is done, or fails, is among what is replied where memory may be refused to it.
+-- What is replied where the boot after a commit is done, or fails, is among what is replied where memory may be refused to it.
 use Rattle.std.proofs.Common.{inl, inr, ℕ, Bool, true, false, List, Option, None, Some, Result, Ok, Err, refl}
 use Rattle.rel_list.specs.Releases.{Releases}
 use Rattle.rel_list.specs.Event.Event.{reboot_old as rebooting}

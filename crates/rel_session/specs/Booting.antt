@@ -40,7 +40,7 @@ BootsBytes bytes a =
     ⊎ (((why : BootError) × IsBootRefusal bytes why × (a ≡ reply (boot_line why) nothing (raw bytes)))
     ⊎ ((torn : List ℕ) × (a ≡ boot_failed (raw torn))))
 
--- The device failed in the boot of a store, before it had settled which events the store has, or behind that.
+-- The device failed in the boot of a store, before it had settled which events the store has, or after that.
 abbrev pub FailsOnStore : Stored → Reply → Type 0
 FailsOnStore s a =
     (a ≡ boot_failed (closed s))
@@ -58,6 +58,6 @@ Boots (closed s) a = BootsStore s a
 Boots (running events extent ps) a = BootsStore (certain events extent) a
 Boots (dead s) a = BootsStore s a
 
--- the store of a node behind this event of its, which reaches so far
+-- the store of a node after this event of its, which reaches so far
 abbrev pub store_behind : Events → Event → Extent → Stored
 store_behind events e extent = certain (events ++ e ∷ []) extent

@@ -22,7 +22,7 @@ no_files = λ path. None
 abbrev pub give : Files → List ℕ → File → Files
 give files path f = λ q. if bytes_eq path q then Some f else files q
 
--- the files behind a command
+-- the files after a command
 abbrev pub files_behind : Files → Command → Files
 files_behind files (file path f) = give files path f
 files_behind files command = files

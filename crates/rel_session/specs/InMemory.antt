@@ -78,7 +78,7 @@ pub record Replied {D : Type 0} (v : Device D) (p : Place) (P : Reply → Type 0
   pub at : IsAt v new given.after
   pub happens : Happens v p given (disk_at old) (disk_at new)
 
--- So did the last command of a session, behind which no place in memory matters.
+-- So did the last command of a session, after which no place in memory matters.
 pub record Leads {D : Type 0} (v : Device D) (p : Place) (P : Reply → Type 0) (old new : PlaceInMemory D) : Type 0 where
   pub given : Reply
   pub right : P given
@@ -214,7 +214,7 @@ IsText None bytes = ⊥
 IsText (Some text) bytes = string_bytes text ≡ bytes
 
 -- What is answered of an installation: what was done, or why it wasn't; or memory was refused for the answer. A script that memory
--- stopped behind its point of no return has no answer.
+-- stopped after its point of no return has no answer.
 abbrev pub ReportsInstallation : Result Installed InstallError → Result (String Global) HandlerError → Type 0
 ReportsInstallation (Err (install_error.Command why)) r = r ≡ Err why
 ReportsInstallation (Ok i) (Ok text) = string_bytes text ≡ installed_text (string_bytes i.other) (value_of i.descr) i.stale.items

@@ -30,31 +30,31 @@ upgrade_outcome vsn list f ps =
     let s = site_for (upgrade_to vsn list f) ps.modules in
     outcome s (run_on s ps) f.script
 
--- The release is installed: the store reaches so far then, and these are the processes behind its script.
+-- The release is installed: the store reaches so far then, and these are the processes after its script.
 abbrev pub installed_reply : Events → Extent → List ℕ → Releases → FoundForm → Processes → Reply
 installed_reply events extent vsn list f ps =
     reply (installed_line f (stale_modules ps.modules (libraries_at vsn list))) (done (installed vsn ∷ []))
     (running (events ++ installed vsn ∷ []) extent ps)
 
--- the store of a node with these events behind an installation of this version that ends with a restart
+-- the store of a node with these events after an installation of this version that ends with a restart
 abbrev pub restarted : Events → Extent → List ℕ → Stored
 restarted events extent vsn = store_behind events (restart_installed vsn) extent
 
--- Behind one that ends with a restart the node boots: the answer of the boot stands behind that of the installation.
+-- After one that ends with a restart the node boots: the answer of the boot stands after that of the installation.
 abbrev pub restarted_reply : List ℕ → Releases → FoundForm → Processes → Reply → Reply
 restarted_reply vsn list f ps b =
     with_text (installed_line f (stale_modules ps.modules (libraries_at vsn list))) (behind (restart_installed vsn) b)
 
--- What is replied behind the commit, by whether there is a restart: the store reaches so far then, and these are the processes
--- behind the script. Here and below `Boot` says what a boot of the store replies.
+-- What is replied after the commit, by whether there is a restart: the store reaches so far then, and these are the processes
+-- after the script. Here and below `Boot` says what a boot of the store replies.
 abbrev pub IsInstallationReply : (Stored → Reply → Type 0) → Bool → Events → Extent → List ℕ → Releases → FoundForm → Processes
     → Reply → Type 0
 IsInstallationReply Boot false events extent vsn list f ps a = a ≡ installed_reply events extent vsn list f ps
 IsInstallationReply Boot true events extent vsn list f ps a =
     (b : Reply) × Boot (restarted events extent vsn) b × (a ≡ restarted_reply vsn list f ps b)
 
--- A script that fails before its point of no return changes nothing. One that fails behind it leaves the node dead, without an
--- event. Behind one that was carried out the event is committed, or the device fails.
+-- A script that fails before its point of no return changes nothing. One that fails after it leaves the node dead, without an
+-- event. After one that was carried out the event is committed, or the device fails.
 abbrev pub RepliesTo : (Stored → Reply → Type 0) → Events → Extent → Processes → List ℕ → Releases → FoundForm → script.Outcome
     → Reply → Type 0
 RepliesTo Boot events extent ps vsn list f (refuses n c) a =
@@ -68,7 +68,7 @@ RepliesTo Boot events extent ps vsn list f (ends r) a =
     ⊎ (a ≡ failed (Some e) (dead (uncertain events extent e (install_size vsn list))))
 
 -- A script that isn't run is refused; one that may begin does, where the record of its event fits, and with a restart that of
--- the next boot behind it.
+-- the next boot after it.
 abbrev pub RunsUnless : (Stored → Reply → Type 0) → Events → Extent → Processes → List ℕ → Releases → FoundForm
     → Option Failure → Reply → Type 0
 RunsUnless Boot events extent ps vsn list f (Some why) a = a ≡ refused (script_refused why) (running events extent ps)

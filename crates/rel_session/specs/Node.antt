@@ -17,7 +17,7 @@ pub data Place : Type 0 where
   closed : Stored → Place
   -- a node with these events, whose store reaches so far, and with these processes
   running : Events → Extent → Processes → Place
-  -- a node that answers Dead until a boot: the device failed it, or a script failed behind its point of no return
+  -- a node that answers Dead until a boot: the device failed it, or a script failed after its point of no return
   dead : Stored → Place
 
 abbrev pub list_or_none : Option Releases → Releases
@@ -39,7 +39,7 @@ at_rest (closed s) = closed s
 at_rest (running events extent ps) = closed (certain events extent)
 at_rest (dead s) = closed s
 
--- What a command did: the events that its answer acknowledges, the one that is in doubt behind them, and whether the
+-- What a command did: the events that its answer acknowledges, the one that is in doubt after them, and whether the
 -- device failed in it.
 pub record CommandOutcome : Type 0 where
   pub acknowledged : Events
@@ -74,7 +74,7 @@ behind e a =
     } in
     reply a.answer outcome a.after
 
--- the reply whose answer stands behind this text
+-- the reply whose answer stands after this text
 abbrev pub with_text : List ℕ → Reply → Reply
 with_text text a = reply (text ++ a.answer) a.outcome a.after
 

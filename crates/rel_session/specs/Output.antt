@@ -6,6 +6,6 @@ use Rattle.std.specs.Io.KnownBytes.{Appends}
 abbrev pub Writes : Option (List ℕ) → Option (List ℕ) → (List ℕ → Type 0) → Type 0
 Writes old new P = (text : List ℕ) × Appends old new text × P text
 
--- this text may be written behind these bytes, where such bytes are allowed
+-- this text may be written after these bytes, where such bytes are allowed
 abbrev pub MayAdd : (Option (List ℕ) → Type 0) → Option (List ℕ) → List ℕ → Type 0
 MayAdd Allowed old text = (new : Option (List ℕ)) → Appends old new text → Allowed new

@@ -51,7 +51,7 @@ pub record IsReached (k : Known) (command : Events) (image : List ℕ) : Type 0 
   pub image_of : IsImageOf image list
   pub start : HasStart k.ran (events ++ more) image
 
--- At each moment of a command on a disk on which no node is known. A creation leaves no store, or one with its event, behind a
+-- At each moment of a command on a disk on which no node is known. A creation leaves no store, or one with its event, after a
 -- moment up to which no more than the first byte was written; one in doubt may have had no such moment, and leaves nothing new on a
 -- store. A boot that is done or that the device failed leaves nothing new but what it has written; any other command nothing at
 -- all.

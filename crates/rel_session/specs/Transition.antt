@@ -144,7 +144,7 @@ ComesTo source p bad does = does ≡ answers (codes "error session 1 BadCommand\
 ComesTo source p quit does = ⊥
 
 -- An event, whose record has a body of so many bytes, is committed where the list takes it, its record fits, and the device
--- does not fail. P says what is replied then, by how far the store reaches behind it.
+-- does not fail. P says what is replied then, by how far the store reaches after it.
 abbrev pub IsCommit : Events → Extent → Processes → Event → ℕ → Result Releases HandlerError → (Extent → Reply → Type 0) → Reply → Type 0
 IsCommit events extent ps e size (Err why) P a = a ≡ refused (refusal_of why) (running events extent ps)
 IsCommit events extent ps e size (Ok next) P a =
@@ -192,11 +192,11 @@ MakesNode (raw bytes) b a = MakesOn bytes b (holds_a_store bytes) a ⊎ FailsToM
 MakesNode (closed s) b a = (a ≡ refused exists (closed s)) ⊎ (a ≡ failed None (closed s))
 MakesNode p b a = a ≡ refused exists p
 
--- the store of a node with these events behind a reboot to the release of this version, which reaches so far
+-- the store of a node with these events after a reboot to the release of this version, which reaches so far
 abbrev pub rebooted : Events → Extent → List ℕ → Stored
 rebooted events extent vsn = store_behind events (rebooting vsn) extent
 
--- This list takes a reboot to an old release, or refuses it. Behind the commit the node boots, and that is the answer.
+-- This list takes a reboot to an old release, or refuses it. After the commit the node boots, and that is the answer.
 abbrev pub Reboots : (Stored → Reply → Type 0) → Events → Extent → Processes → List ℕ → Releases
     → Result Releases HandlerError → Reply → Type 0
 Reboots Boot events extent ps vsn list taken a =
@@ -214,7 +214,7 @@ ReportsStart events extent ps a =
     (a ≡ reply (ok_line (start_versions (permanent_release (releases_after events)))) nothing (running events extent ps))
     ⊎ (a ≡ failed None (dead (certain events extent)))
 
--- What the node replies then, where a boot that an action has behind its commit replies so.
+-- What the node replies then, where a boot that an action has after its commit replies so.
 abbrev pub ActsWith : (Stored → Reply → Type 0) → Place → Action → Reply → Type 0
 ActsWith Boot p (answers text) a = a ≡ reply text nothing p
 ActsWith Boot p (makes_node brought) a = MakesNode p brought a
@@ -236,7 +236,7 @@ ActsWith Boot p reports_start a = a ≡ refused dead_node p
 ActsWith Boot (running events extent ps) (calls c) a = a ≡ reply (calls_line c ps) nothing (running events extent (left_by c ps))
 ActsWith Boot p (calls c) a = a ≡ refused dead_node p
 
--- What the node replies then: it boots behind a reboot, and behind an installation with a restart.
+-- What the node replies then: it boots after a reboot, and after an installation with a restart.
 abbrev pub Acts : Place → Action → Reply → Type 0
 Acts p does a = ActsWith BootsStore p does a
 
@@ -252,7 +252,7 @@ without_node a = reply [] a.outcome (at_rest a.after)
 abbrev pub BootsOrNot : Stored → Reply → Type 0
 BootsOrNot s a = BootsStore s a ⊎ (a ≡ reply [] nothing (closed s))
 
--- What stands in place of the reply where memory was refused behind what an action has written: for the boot behind its commit,
+-- What stands in place of the reply where memory was refused after what an action has written: for the boot after its commit,
 -- for the processes of its node, or for its answer.
 abbrev pub StopsWithin : Place → Action → Reply → Type 0
 StopsWithin p does a = (b : Reply) × ActsWith BootsOrNot p does b × (a ≡ without_node b)

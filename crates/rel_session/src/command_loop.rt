@@ -2,7 +2,7 @@
 //!
 //! The commands come from `session_input`. A failed read and a failed write are reported exactly where one was, and an input that
 //! is too long only where it is. At most 16,777,216 bytes of the input are taken. Each answer is written once its command is done
-//! (`allowed`), and before the next is read. Where memory is refused to the processes, or behind a commit to a boot or to the answer, the session ends without an
+//! (`allowed`), and before the next is read. Where memory is refused to the processes, or after a commit to a boot or to the answer, the session ends without an
 //! answer, and what the command has committed is on the disk.
 ghost use Rattle.std.specs.Prelude.{◌≡◌, ◌≤◌, IsErrOf};
 ghost use Rattle.counted_io.specs.Failures.{Reports};

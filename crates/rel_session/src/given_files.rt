@@ -1,7 +1,7 @@
 //! The files of a session.
 //!
 //! A release is read by `rel_unpack`, and `relup` is answered by `relup_command`, from the files that were given in the session
-//! and behind them those of a source.
+//! and after them those of a source.
 ghost use Rattle.std.specs.Prelude.{◌≡◌, ◌≢◌, ◌≤◌, None, Some, Ok, Err, string_bytes, IfOk, IfErr, OnOk, length};
 ghost use Rattle.session_input.specs.Commands.{given_of};
 ghost use Rattle.rel_session.specs.Files.{give, no_files, read_of};
@@ -43,7 +43,7 @@ impl GivenFiles {
     }
 }
 
-/// The files that were given, and those of a source behind them.
+/// The files that were given, and those of a source after them.
 #[derive(Drop)]
 pub struct SessionFiles<'a, F: Files> {
     /// The files that were given.

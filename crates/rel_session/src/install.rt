@@ -1,6 +1,6 @@
 //! Installs a release.
 //!
-//! Behind an installation whose script ends with a restart the node boots at once, and the answer has two lines: its own, and that
+//! After an installation whose script ends with a restart the node boots at once, and the answer has two lines: its own, and that
 //! of the boot.
 ghost use Rattle.std.specs.Prelude.{◌≡◌, ◌++◌, string_bytes, IfErr, IfOk, IsOkAnd};
 ghost use Rattle.node_store.specs.Commits.{Commits};
@@ -20,7 +20,7 @@ use std::sync::Wait;
 
 impl<D: Disk> Place<D> {
     /// Installs the release of this version by its script. The answer reports the version and the description of the script's
-    /// entry, and the stale modules. Behind a script that ends with a restart the node boots, and the answer of the boot follows.
+    /// entry, and the stale modules. After a script that ends with a restart the node boots, and the answer of the boot follows.
     pub fn install<R: Wait>(
         self,
         rt: &R,
@@ -79,7 +79,7 @@ fn install_release<D: Disk, R: Wait>(
     )
 }
 
-/// This line, and the answer behind it.
+/// This line, and the answer after it.
 fn append_answer(line: String, answer: Result<String, AllocError>) -> Result<String, AllocError>
     ensures { IfOk result (λ text. IsOkAnd answer (λ b.
         string_bytes text ≡ string_bytes line ++ string_bytes b)) }

@@ -32,7 +32,7 @@ use std::sync::Wait;
 pub enum Place<D: Disk> {
     /// A disk without a node.
     Idle(D),
-    /// A node on its disk. It is dead once the device has failed it, or a script has failed behind its point of no return.
+    /// A node on its disk. It is dead once the device has failed it, or a script has failed after its point of no return.
     Made(BootedNode<D>),
 }
 

@@ -17,7 +17,7 @@ one (b ∷ []) e = (b, refl)
 one (b ∷ d ∷ l) e = absurd (omega arith)
 
 module _ (bodies : List (List ℕ)) (text head : List ℕ) (holds : Head bodies text head) where
-  -- the closed gate stands in front of whatever is written behind it
+  -- the closed gate stands in front of whatever is written after it
   up_to_gate : (gate : ℕ) (rest : List ℕ) → take (length head + 1) (head ++ gate ∷ rest) ≡ head ++ gate ∷ []
   up_to_gate gate rest = ap (λ l. take (length head + 1) l) (sym (append_assoc head (gate ∷ []) rest)) ∙ take_at (head ++ gate ∷ []) rest (length head + 1) (length_push head gate)
 
@@ -92,7 +92,7 @@ first_leaves bodies text body old gate n images here at only c (inr torn) =
     let from = subst (λ d. Torn (gate + 1) n d c) (only torn.0 torn.1 ∙ s.is) torn.2 in
     inl (torn_behind bodies text s.head s.holds s.gate s.rest n c s.shut (subst (λ p. Torn (p + 1) n (s.head ++ s.gate ∷ s.rest) c) (sym (gate_at bodies text old gate s at)) from))
 
--- The record is written behind its gate, which is closed.
+-- The record is written after its gate, which is closed.
 pub record Staged (bodies : List (List ℕ)) (text body : List ℕ) (gate : ℕ) (old mid : List ℕ) : Type 0 where
   pub head : List ℕ
   pub shut : ℕ

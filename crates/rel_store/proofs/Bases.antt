@@ -1,4 +1,4 @@
--- What stands while an image is written, while its place is made the base, and while the disk is cut behind it.
+-- What stands while an image is written, while its place is made the base, and while the disk is cut after it.
 use Rattle.std.proofs.Common.{◌≡◌, ◌⊎◌, inl, inr, ℕ, ◌+◌, ◌^◌, ◌<◌, ◌≤◌, Bool, true, false, not, List, [], ◌∷◌, ◌++◌, length, get_or, take, drop, Ok, refl, sym, ◌∙◌, ap, subst, arith, append_assoc, length-append, length-drop}
 use Rattle.std.specs.Prelude.{if◌then◌else◌, ◌==◌, slice_index, bytes_eq}
 use Rattle.std.specs.Int.{w64, from_be_bytes, to_be_bytes}
@@ -43,7 +43,7 @@ still bodies text old c tail here begins base start rest =
       base = base;
     }
 
--- a write of n bytes at this place is of no record: it ends below the base, or begins behind the closed gate
+-- a write of n bytes at this place is of no record: it ends below the base, or begins after the closed gate
 abbrev pub IsFree : ℕ → ℕ → ℕ → ℕ → Type 0
 IsFree base gate n place = ((place ≡ 288) × (288 + n ≤ base)) ⊎ (place ≡ gate + 1)
 
@@ -68,7 +68,7 @@ torn_free bodies text old c gate n place here at (inr past) torn =
       base = base-same c old same;
     }
 
--- An image stands at a place behind the layout.
+-- An image stands at a place after the layout.
 pub record HasImage (place : ℕ) (image bytes : List ℕ) : Type 0 where
   pub low : 288 ≤ place
   pub rest : List ℕ
@@ -261,7 +261,7 @@ module _ (second : Bool) (bodies : List (List ℕ)) (text : List ℕ) (place : �
       which true false is old_one new_one = inl (old_one is)
       which false true is old_one new_one = inl (old_one is)
 
--- the disk is cut behind an image at 288
+-- the disk is cut after an image at 288
 module _ (image text old c : List ℕ) (m : Moved 288 image text old) (cut : Cut (288 + length (image_bytes image)) old c) where
   abbrev n : ℕ
   n = length (image_bytes image)
@@ -275,7 +275,7 @@ module _ (image text old c : List ℕ) (m : Moved 288 image text old) (cut : Cut
   pub cut_layout : take 288 c ≡ take 288 old
   cut_layout = ap (λ l. take 288 l) cut.is ∙ take-append-le 288 kept cut.tail (omega (arith, kept_long)) ∙ take-take 288 (288 + n) old (omega arith)
 
-  -- the image is all that is left of what stood behind the layout
+  -- the image is all that is left of what stood after the layout
   image_left : drop 288 kept ≡ image_bytes image
   image_left =
       drop-take 288 n old

@@ -171,7 +171,7 @@ module _ (second : Bool) (bodies : List (List ℕ)) (text : List ℕ) (gate plac
       other_choice true is = sym (ap (λ t. if t then 0 else 1) is)
       other_choice false is = sym (ap (λ t. if t then 0 else 1) is)
 
-  -- the place is written behind the selectors and the format
+  -- the place is written after the selectors and the format
   before_slot : (i : ℕ) → i ≤ 11 → slice_index with_place i ≡ slice_index old i
   before_slot i low = index-before (base_place second) 8 (to_be_bytes w64 place) imaged with_place slot_now i (omega (arith, low, high second)) ∙ same_index i (omega (arith, low))
     where

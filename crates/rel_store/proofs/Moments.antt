@@ -171,7 +171,7 @@ module _ {D : Type 0} (moment : D → ℕ) (left_since : D → ℕ → List ℕ 
     abbrev Either : List ℕ → Type 0
     Either = StandsEither (records_in store) body (text_in seen store)
 
-    -- the record's bytes are written behind the closed gate
+    -- the record's bytes are written after the closed gate
     abbrev with_body : List ℕ
     with_body = overwritten (store.gate + 1) bytes (seen store.disk)
 

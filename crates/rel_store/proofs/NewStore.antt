@@ -36,7 +36,7 @@ none gate bytes shut = refused (nat_lt (length (gate ∷ bytes)) 289) (has_magic
     refused false true is = absurd cc
     refused false false is = refl
 
--- the bytes of a new store, and anything behind its closed gate
+-- the bytes of a new store, and anything after its closed gate
 record IsNew (first start bytes : List ℕ) : Type 0 where
   rest : List ℕ
   is : bytes ≡ 1 ∷ (new_layout start ++ (1 ∷ (record_bytes first ++ 0 ∷ rest)))
@@ -92,7 +92,7 @@ module _ (start : List ℕ) (few : length start ≤ 127) where
     together : (rest : List ℕ) → 1 ∷ (new_layout start ++ (1 ∷ (record_bytes first ++ 0 ∷ rest))) ≡ (head ++ 1 ∷ record_bytes first) ++ 0 ∷ rest
     together rest = sym (append_assoc head (1 ∷ record_bytes first) (0 ∷ rest))
 
-    -- The bytes behind the gate, as they are written and whatever follows them.
+    -- The bytes after the gate, as they are written and whatever follows them.
     behind : (bytes rest : List ℕ) → bytes ≡ new_layout start ++ (1 ∷ (record_bytes first ++ 0 ∷ [])) → bytes ++ rest ≡ new_layout start ++ (1 ∷ (record_bytes first ++ 0 ∷ rest))
     behind bytes rest spelled =
         ap (λ (l : List ℕ). l ++ rest) spelled
@@ -131,7 +131,7 @@ module _ (start : List ℕ) (few : length start ≤ 127) where
       | inr shut ↦ inl (none gate layout shut)
     ]
 
-    -- while the bytes behind the closed gate are written, there is no store
+    -- while the bytes after the closed gate are written, there is no store
     pub behind_leaves : (closed old : List ℕ) (n : ℕ) (images : List ℕ → Type 0) → closed ≡ overwritten 0 (0 ∷ []) old → Only closed images → (c : List ℕ) → IsTornFrom images 1 n c → IsNoneOrNew first start c
     behind_leaves closed old n images is only c (inl now) = inl (ap records_of (only c now ∙ is) ∙ none 0 (drop 1 old) (omega arith))
     behind_leaves closed old n images is only c (inr torn) =

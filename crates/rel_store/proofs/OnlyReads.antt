@@ -19,7 +19,7 @@ module _ {D : Type 0} (seen : D → List ℕ) (may_leave : D → List ℕ → Ty
     any_moment = goes_on moment left_since old mid new (may_leave old) (may_leave new) so_far.any_moment time (λ c now. so_far.crash c (crash c now));
   }
 
-  -- one run behind another
+  -- one run after another
   pub read_on : (mid new : D) → HasOnlyRead seen may_leave moment left_since old mid → HasOnlyRead seen may_leave moment left_since mid new → HasOnlyRead seen may_leave moment left_since old new
   read_on mid new first second = record {
     same = second.same ∙ first.same;

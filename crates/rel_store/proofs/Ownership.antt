@@ -38,7 +38,7 @@ torn_leaves is_own at n old new own torn =
 pub written_leaves : (is_own : ℕ → Type 0) (at : ℕ) (bytes old new : List ℕ) → Owns is_own at (length bytes) → new ≡ overwritten at bytes old → LeavesOthers is_own old new
 written_leaves is_own at bytes old new own written = torn_leaves is_own at (length bytes) old new own (subst (Torn at (length bytes) old) (sym written) (overwritten_is_torn at bytes old))
 
--- a byte, and what stands behind it, are written one after the other
+-- a byte, and what stands after it, are written one after the other
 pub overwritten_in_two : (at byte : ℕ) (bytes old : List ℕ) → at + 1 ≤ length old → overwritten at (byte ∷ []) (overwritten (at + 1) bytes old) ≡ overwritten at (byte ∷ bytes) old
 overwritten_in_two at byte bytes old within =
     let front = take (at + 1) old in

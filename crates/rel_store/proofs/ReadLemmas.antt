@@ -85,7 +85,7 @@ onto-ok : (body : List ℕ) (r : Result (List (List ℕ)) StoreError) (bodies : 
 onto-ok body (Ok rest) bodies e = (rest, refl, cc)
 onto-ok body (Err f) bodies e = absurd cc
 
--- an open gate that is read: the record behind it is whole, and the rest is read on
+-- an open gate that is read: the record after it is whole, and the rest is read on
 pub record Opened (place : ℕ) (bytes : List ℕ) (bodies : List (List ℕ)) : Type 0 where
   pub short : spelled_length bytes ≤ 16777216
   pub whole : 4 + spelled_length bytes < length bytes
@@ -108,7 +108,7 @@ opened place bytes bodies read = go (is_whole bytes) refl
         let refused : records_from place 0 (1 ∷ bytes) ≡ Err (Damaged place) = ap (λ t. if t then onto (spelled_body bytes) (records_from (place + 1) (4 + spelled_length bytes) bytes) else Err (Damaged place)) e in
         absurd (cc (refused, read))
 
--- the front of a whole record is read as it was, whatever stands behind it
+-- the front of a whole record is read as it was, whatever stands after it
 refronted : (place : ℕ) (bytes behind : List ℕ) → spelled_length bytes ≤ 16777216 → 4 + spelled_length bytes < length bytes → 0 < length behind
     → records_from place 0 (1 ∷ (take (4 + spelled_length bytes) bytes ++ behind)) ≡ onto (spelled_body bytes) (records_from (place + (5 + spelled_length bytes)) 0 behind)
 refronted place bytes behind short whole some =

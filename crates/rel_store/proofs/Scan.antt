@@ -35,7 +35,7 @@ pub space-push : (bodies : List (List ℕ)) (body : List ℕ) → space (bodies 
 space-push [] body = omega arith
 space-push (b ∷ bodies) body = omega (arith, space-push bodies body)
 
--- the gate that stands there, and what is behind it
+-- the gate that stands there, and what is after it
 at_gate : (bytes : List ℕ) (gate byte : ℕ) → gate < length bytes → get_or bytes gate 0 ≡ byte → drop gate bytes ≡ byte ∷ drop (gate + 1) bytes
 at_gate bytes gate byte within is = drop_more bytes gate 0 within ∙ ap (λ (b : ℕ). b ∷ drop (gate + 1) bytes) is
 

@@ -55,7 +55,7 @@ module _ (at n : ℕ) (middle old new : List ℕ) (p : Patched at n middle old n
   pub index-before : (i : ℕ) → i < at → slice_index new i ≡ slice_index old i
   index-before i lt = index-same i at new old lt front
 
-  -- and so does what stands behind it
+  -- and so does what stands after it
   pub beyond : (q : ℕ) → at + n ≤ q → q ≤ length old → drop q new ≡ drop q old ++ p.tail
   beyond q past le =
       let k = q - (at + n) in

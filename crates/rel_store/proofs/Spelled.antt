@@ -26,7 +26,7 @@ spelled_is_read bytes bodies s =
     ∙ ap (λ l. records_from (base_of bytes) 0 l) s.records
     ∙ read (base_of bytes) bodies s.gate s.rest s.short s.shut
 
--- records that are read are spelled, and a closed gate behind them
+-- records that are read are spelled, and a closed gate after them
 record Spells (bodies : List (List ℕ)) (bytes : List ℕ) : Type 0 where
   short : AreShort bodies
   gate : ℕ

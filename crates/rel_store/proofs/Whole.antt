@@ -79,7 +79,7 @@ pub record Head (bodies : List (List ℕ)) (text : List ℕ) (head : List ℕ) :
   pub start : (tail : List ℕ) → text_of (head ++ tail) ≡ text
   pub end : (tail : List ℕ) → length head ≡ base_of (head ++ tail) + space bodies
 
--- A store that stands is its head and a closed gate, and anything behind it.
+-- A store that stands is its head and a closed gate, and anything after it.
 pub record Split (bodies : List (List ℕ)) (text : List ℕ) (bytes : List ℕ) : Type 0 where
   pub head : List ℕ
   pub gate : ℕ
@@ -135,7 +135,7 @@ stands bodies text head gate rest h shut = record {
   start = h.start (gate ∷ rest);
 }
 
--- a head with one record more, behind its open gate
+-- a head with one record more, after its open gate
 pub grown : (bodies : List (List ℕ)) (text head body : List ℕ) → Head bodies text head → length body ≤ 16777216 → Head (bodies ++ body ∷ []) text (head ++ 1 ∷ record_bytes body)
 grown bodies text head body h short =
     let size : length (1 ∷ record_bytes body) ≡ 5 + length body = omega (arith, length-record body) in

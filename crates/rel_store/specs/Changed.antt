@@ -13,7 +13,7 @@ pub record LeavesOthers (is_own : ℕ → Type 0) (old new : List ℕ) : Type 0 
 pub record KeepsOthers (is_own : ℕ → Type 0) (old new : List ℕ) : Type 0 where
   pub there : (i : ℕ) → i < length old → (is_own i → ⊥) → (i < length new) × (slice_index new i ≡ slice_index old i)
 
--- an append's own: a record with a body of n bytes at this gate, and the gate behind it
+-- an append's own: a record with a body of n bytes at this gate, and the gate after it
 abbrev pub IsInRecord : ℕ → ℕ → ℕ → Type 0
 IsInRecord gate n i = (gate ≤ i) × (i < gate + (6 + n))
 
@@ -25,16 +25,16 @@ IsInOtherSlot bytes i = (i ≡ 9) ⊎ ((other_slot bytes ≤ i) × (i < other_sl
 abbrev pub IsFormat : ℕ → ℕ → Type 0
 IsFormat format i = (format ≡ 1) × (i ≡ 11)
 
--- a creation's own: the layout, a record with a body of n bytes, and the gate behind it
+-- a creation's own: the layout, a record with a body of n bytes, and the gate after it
 abbrev pub IsInNewStore : ℕ → ℕ → Type 0
 IsInNewStore n i = i < 294 + n
 
 -- a compaction's own: the selector of the base slots, the one that doesn't count, and an image with a body of n bytes at
--- this place, with its gates; behind 288, where it may stand, also all that follows
+-- this place, with its gates; after 288, where it may stand, also all that follows
 abbrev pub IsInCompaction : List ℕ → ℕ → ℕ → ℕ → Type 0
 IsInCompaction bytes place n i = ((i ≡ 10) ⊎ ((other_base_slot bytes ≤ i) × (i < other_base_slot bytes + 8))) ⊎ ((place ≤ i) × ((place ≡ 288) ⊎ (i < place + (6 + n))))
 
--- these bytes with one record more, which begins at this gate, and a closed gate behind it
+-- these bytes with one record more, which begins at this gate, and a closed gate after it
 abbrev pub with_record : ℕ → List ℕ → List ℕ → List ℕ
 with_record gate body bytes = overwritten gate (1 ∷ (record_bytes body ++ 0 ∷ [])) bytes
 

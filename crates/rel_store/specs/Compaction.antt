@@ -28,7 +28,7 @@ StandsOrImage bodies image text bytes = Stands bodies text bytes ⊎ Stands (ima
 abbrev pub EndsEither : List (List ℕ) → ℕ → List ℕ → ℕ → List ℕ → List ℕ → Type 0
 EndsEither bodies end image ends text bytes = (Stands bodies text bytes × (end_of bytes ≡ end)) ⊎ (Stands (image ∷ []) text bytes × (end_of bytes ≡ ends))
 
--- an image with its gate open, and a closed gate behind it
+-- an image with its gate open, and a closed gate after it
 abbrev pub image_bytes : List ℕ → List ℕ
 image_bytes image = 1 ∷ (record_bytes image ++ 0 ∷ [])
 
@@ -36,7 +36,7 @@ image_bytes image = 1 ∷ (record_bytes image ++ 0 ∷ [])
 abbrev pub with_base : ℕ → List ℕ → List ℕ
 with_base place bytes = overwritten 10 (other_base_selector bytes ∷ []) (overwritten (other_base_slot bytes) (to_be_bytes w64 place) bytes)
 
--- these bytes, cut behind an image of n bytes if it stands at 288
+-- these bytes, cut after an image of n bytes if it stands at 288
 abbrev pub cut_behind : ℕ → ℕ → List ℕ → List ℕ
 cut_behind place n bytes = if place == 288 then take (288 + n) bytes else bytes
 
@@ -61,7 +61,7 @@ abbrev pub IsCutFrom : (List ℕ → Type 0) → ℕ → List ℕ → Type 0
 IsCutFrom images n c = images c ⊎ ((d : List ℕ) × images d × Cut n d c)
 
 -- One of these images, with a torn write of a record at a place; or the old bytes with that record, and with the place
--- torn in a base slot, or the selector that chooses it; or these bytes at 288 with the place, and cut behind the record.
+-- torn in a base slot, or the selector that chooses it; or these bytes at 288 with the place, and cut after the record.
 abbrev pub IsTornInCompaction : (List ℕ → Type 0) → Bool → ℕ → List ℕ → List ℕ → List ℕ → Type 0
 IsTornInCompaction images second place bytes old c =
     IsTornFrom images place (length bytes) c

@@ -47,7 +47,7 @@ DeviceRefused before now Device = HasFailed before now
 DeviceRefused before now NoMemory = Unit {0}
 DeviceRefused before now _ = ⊥
 
--- Why the record at a gate isn't read: the gate is open and the record behind it isn't whole, or the device has failed.
+-- Why the record at a gate isn't read: the gate is open and the record after it isn't whole, or the device has failed.
 abbrev pub RecordRefused : List ℕ → ℕ → ℕ → ℕ → StoreError → Type 0
 RecordRefused bytes gate before now (Damaged at) = (at ≡ gate) × (slice_index bytes gate ≡ 1) × (is_whole (drop (gate + 1) bytes) ≡ false)
 RecordRefused bytes gate before now Device = HasFailed before now

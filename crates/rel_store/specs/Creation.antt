@@ -14,11 +14,11 @@ use Rattle.rel_store.specs.declared.error.StoreError.TheVariants.{NotAStore, Exi
 abbrev pub IsNoneOrNew : List ℕ → List ℕ → List ℕ → Type 0
 IsNoneOrNew first start bytes = (records_of bytes ≡ Err NotAStore) ⊎ Stands (first ∷ []) (slot_with start) bytes
 
--- the bytes of a new store: its layout, its record behind an open gate, and a closed gate
+-- the bytes of a new store: its layout, its record after an open gate, and a closed gate
 abbrev pub new_store : List ℕ → List ℕ → List ℕ
 new_store first start = 1 ∷ (new_layout start ++ (1 ∷ (record_bytes first ++ 0 ∷ [])))
 
--- these are the bytes of a new store behind its gate, of a start text and a record that are no longer than they may be
+-- these are the bytes of a new store after its gate, of a start text and a record that are no longer than they may be
 pub record IsBehindGate (first start bytes : List ℕ) : Type 0 where
   pub few : length start ≤ 127
   pub short : length first ≤ 16777216

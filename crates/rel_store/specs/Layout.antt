@@ -10,7 +10,7 @@ magic = 82 ∷ 69 ∷ 76 ∷ 83 ∷ 84 ∷ 79 ∷ 82 ∷ 49 ∷ []
 abbrev pub part : ℕ → ℕ → List ℕ → List ℕ
 part at n bytes = take n (drop at bytes)
 
--- the store's gate is open, and the magic stands behind it
+-- the store's gate is open, and the magic stands after it
 abbrev pub has_magic : List ℕ → Bool
 has_magic bytes = bytes_eq (take 9 bytes) (1 ∷ magic)
 

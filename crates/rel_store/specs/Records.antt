@@ -5,24 +5,24 @@ use Rattle.rel_store.specs.Layout.{has_magic, base_of, base_slot, text_of}
 use Rattle.rel_store.specs.declared.error.StoreError.{StoreError}
 use Rattle.rel_store.specs.declared.error.StoreError.TheVariants.{NotAStore, Damaged}
 
--- a record behind its gate: the length of its body in four bytes, greatest first, and the body
+-- a record after its gate: the length of its body in four bytes, greatest first, and the body
 abbrev pub record_bytes : List ℕ → List ℕ
 record_bytes body = to_be_bytes w32 (length body) ++ body
 
--- records one after another, each behind an open gate
+-- records one after another, each after an open gate
 abbrev pub records_bytes : List (List ℕ) → List ℕ
 records_bytes [] = []
 records_bytes (body ∷ bodies) = 1 ∷ (record_bytes body ++ records_bytes bodies)
 
--- the length that the bytes behind a gate give
+-- the length that the bytes after a gate give
 abbrev pub spelled_length : List ℕ → ℕ
 spelled_length bytes = from_be_bytes w32 (take 4 bytes)
 
--- the body of the record behind a gate
+-- the body of the record after a gate
 abbrev pub spelled_body : List ℕ → List ℕ
 spelled_body bytes = take (spelled_length bytes) (drop 4 bytes)
 
--- the record behind a gate is no longer than a record may be, and it and the gate after it stand within the bytes
+-- the record after a gate is no longer than a record may be, and it and the gate after it stand within the bytes
 abbrev pub is_whole : List ℕ → Bool
 is_whole bytes = nat_le (spelled_length bytes) 16777216 && nat_lt (4 + spelled_length bytes) (length bytes)
 
@@ -57,7 +57,7 @@ pub record Stands (bodies : List (List ℕ)) (text : List ℕ) (bytes : List ℕ
   pub records : records_of bytes ≡ Ok bodies
   pub start : text_of bytes ≡ text
 
--- They are one with these records, or with this body behind them.
+-- They are one with these records, or with this body after them.
 abbrev pub StandsEither : List (List ℕ) → List ℕ → List ℕ → List ℕ → Type 0
 StandsEither bodies body text bytes = Stands bodies text bytes ⊎ Stands (bodies ++ body ∷ []) text bytes
 

@@ -8,7 +8,7 @@ abbrev pub AreShort : List (List ℕ) → Type 0
 AreShort [] = Unit {0}
 AreShort (body ∷ bodies) = (length body ≤ 16777216) × AreShort bodies
 
--- The open gate and the magic, a base behind the layout, and from there on these records and a closed gate.
+-- The open gate and the magic, a base after the layout, and from there on these records and a closed gate.
 pub record IsSpelled (bodies : List (List ℕ)) (bytes : List ℕ) : Type 0 where
   pub begins : take 9 bytes ≡ 1 ∷ magic
   pub low : 288 ≤ base_of bytes

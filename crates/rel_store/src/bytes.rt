@@ -25,7 +25,7 @@ pub(crate) fn make_room(
     Ok(())
 }
 
-// Appends a record with its gate open, and the closed gate behind it.
+// Appends a record with its gate open, and the closed gate after it.
 fn push_record(buffer: &mut Vec<u8>, body: &[u8]) -> Result<(), AllocError>
     requires { length body.now ≤ 16777216 }
     ensures ok { OnOk result
@@ -40,7 +40,7 @@ fn push_record(buffer: &mut Vec<u8>, body: &[u8]) -> Result<(), AllocError>
     Ok(())
 }
 
-// Fills the buffer with a record, its gate open, and the closed gate behind it.
+// Fills the buffer with a record, its gate open, and the closed gate after it.
 pub(crate) fn spell_record(
     alloc: Global,
     buffer: &mut Vec<u8>,
@@ -54,7 +54,7 @@ pub(crate) fn spell_record(
     push_record(buffer, body)
 }
 
-// A new store behind its gate: its layout and its first record.
+// A new store after its gate: its layout and its first record.
 pub(crate) fn spell_store(alloc: Global, first: &[u8], start: &[u8]) -> Result<Vec<u8>, AllocError>
     requires first { length first.now ≤ 16777216 }
     requires start { length start.now ≤ 127 }

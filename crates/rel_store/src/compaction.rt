@@ -17,8 +17,8 @@ use std::alloc::Global;
 use std::mem;
 
 impl<D: Disk> Store<D> {
-    /// Replaces all records by one, the image. It is put at 288 if it and the closed gate behind it end below the old
-    /// records, where the disk is cut behind it, and else behind the store's closed gate. The start text stays. At `Ok` it is
+    /// Replaces all records by one, the image. It is put at 288 if it and the closed gate after it end below the old
+    /// records, where the disk is cut after it, and else after the store's closed gate. The start text stays. At `Ok` it is
     /// acknowledged: from then on each crash leaves the image alone.
     ///
     /// Reported in this order: `MustReopen`, `Full` where the body is longer than a record's may be, or where the store would
@@ -42,7 +42,7 @@ impl<D: Disk> Store<D> {
             (D.seen (disk_in self.old))) }
 
         // A crash at any moment of the call leaves the records from before it, in a store that ends where it did, or the
-        // image alone, in one that ends behind the image; and all bytes as they were but those of the image, of the base
+        // image alone, in one that ends after the image; and all bytes as they were but those of the image, of the base
         // slot that doesn't count and of its selector, and those that are cut off.
         ensures any_moment { has_failed self.old ≡ false
             → LeavesOnly D.moment D.left_since (disk_in self.old) (disk_in self.new)
@@ -110,7 +110,7 @@ impl<D: Disk> Store<D> {
 }
 
 // Writes these bytes at a place that no record has, and makes it the base: the second base slot that chooses it, or the
-// first, doesn't count yet. If they stand at 288, the disk is cut behind them once no crash can lead back to the old base.
+// first, doesn't count yet. If they stand at 288, the disk is cut after them once no crash can lead back to the old base.
 fn put_image<D: Disk>(
     disk: &mut D,
     place: u64,

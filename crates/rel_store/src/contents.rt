@@ -11,7 +11,7 @@ use crate::layout::{
 use rel_disk::Disk;
 use std::alloc::Global;
 
-// The records of a store, the places of the first and of the closed gate behind them, and which slots count.
+// The records of a store, the places of the first and of the closed gate after them, and which slots count.
 #[derive(Drop)]
 pub(crate) struct Contents {
     pub(crate) records: Vec<Vec<u8>>,
@@ -22,7 +22,7 @@ pub(crate) struct Contents {
     pub(crate) format: u8,
 }
 
-// Records, and the place of the closed gate behind them.
+// Records, and the place of the closed gate after them.
 #[derive(Drop)]
 struct Found {
     records: Vec<Vec<u8>>,

@@ -15,7 +15,7 @@ use std::alloc::{AllocError, Global};
 
 impl<D: Disk> Store<D> {
     /// Makes a store of format 2 with one record on a disk that has none, and with this text of at most 127 bytes as its start
-    /// slot. What stands on the disk behind the store's closed gate stays.
+    /// slot. What stands on the disk after the store's closed gate stays.
     ///
     /// Reported in this order: `Exists` where the disk begins with an open gate and the magic, `Full` where the record is
     /// longer than a record may be, `NoMemory`. Nothing has been written then. `Device` may come instead of each: once
@@ -111,7 +111,7 @@ fn lay_out<D: Disk>(
     Ok(records)
 }
 
-// Writes a store whose bytes behind its gate are these: closes the gate, writes them, and opens it.
+// Writes a store whose bytes after its gate are these: closes the gate, writes them, and opens it.
 fn write_store<D: Disk>(disk: &mut D, bytes: &[u8]) -> Result<(), DeviceFault>
     ensures written { OnOk result
         (D.seen disk.new ≡ overwritten 0 (1 ∷ bytes.now) (D.seen disk.old)) }

@@ -71,7 +71,7 @@ pub(crate) fn place_at(bytes: &[u8], at: usize) -> u64
     u64::from_be_bytes(place)
 }
 
-// The length that a gate and the four bytes behind it give, greatest byte first.
+// The length that a gate and the four bytes after it give, greatest byte first.
 pub(crate) fn body_length(head: &[u8; 5]) -> usize
     ensures { result ≡ spelled_length (drop 1 head.now) }
 {

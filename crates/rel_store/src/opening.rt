@@ -15,16 +15,16 @@ impl<D: Disk> Store<D> {
     /// Opens the store on a disk. Syncs the disk, reads its layout and its records, each once, and writes nothing. At `Ok`
     /// what was read is what a crash leaves. Takes memory for the records alone.
     ///
-    /// Refusals: `Device`, `NoMemory`, `NotAStore`, and `Damaged` at a base slot that gives no place behind the layout
+    /// Refusals: `Device`, `NoMemory`, `NotAStore`, and `Damaged` at a base slot that gives no place after the layout
     /// and within the disk, or at the open gate of a record that is too long or that the disk ends within; the gate
-    /// behind a record belongs to it.
+    /// after a record belongs to it.
     pub fn open_disk(alloc: Global, disk: D) -> Result<Store<D>, (StoreError, D)>
         ensures settled { IfOk result (IsSettled D.seen D.may_leave) }
         ensures sound { IfOk result (IsSoundStore D.seen D.may_leave) }
         ensures records { IfOk result (λ store. records_of (D.seen disk) ≡ Ok (records_in store)) }
         ensures format { IfOk result (λ store. format_in store ≡ format_of (D.seen disk)) }
 
-        // No crash in the call leaves anything that none before it would have left; behind it a crash leaves what a read gives,
+        // No crash in the call leaves anything that none before it would have left; after it a crash leaves what a read gives,
         // whatever the opening answers. One that answers `Device` may have failed in the sync, and `synced` says nothing then.
         ensures any_moment { LeavesOnly D.moment D.left_since disk (disk_of result)
             (D.may_leave disk) }

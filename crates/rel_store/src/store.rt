@@ -22,7 +22,7 @@ use std::mem;
 pub struct Store<D: Disk> {
     pub(crate) disk: D,
     pub(crate) records: Vec<Vec<u8>>,
-    // the place of the closed gate behind the last record
+    // the place of the closed gate after the last record
     pub(crate) gate: u64,
     // the second start slot counts
     pub(crate) second_start: bool,
@@ -159,7 +159,7 @@ impl<D: Disk> Store<D> {
         Ok(())
     }
 
-    /// Reads the start slot that counts: its length byte, its text and what stands behind that. Takes no memory.
+    /// Reads the start slot that counts: its length byte, its text and what stands after that. Takes no memory.
     ///
     /// Refusals: `MustReopen`, `Device`.
     pub fn read_slot(&mut self, slot: &mut [u8; 128]) -> Result<(), StoreError>
@@ -191,7 +191,7 @@ impl<D: Disk> Store<D> {
         Ok(())
     }
 
-    /// Writes the start slot: this text of at most 127 bytes, behind its length and before zeros. Takes no memory.
+    /// Writes the start slot: this text of at most 127 bytes, after its length and before zeros. Takes no memory.
     ///
     /// Refusals: `MustReopen`, `Device`.
     pub fn write_slot(&mut self, text: &[u8]) -> Result<(), StoreError>
@@ -239,7 +239,7 @@ impl<D: Disk> Store<D> {
         Ok(())
     }
 
-    /// Makes the store one of format 2, and behind an `Ok` a crash leaves it one. The records and the start text stay as they
+    /// Makes the store one of format 2, and after an `Ok` a crash leaves it one. The records and the start text stay as they
     /// are at every moment. Takes no memory, and writes nothing where the store is one of format 2 already.
     ///
     /// Refusals: `MustReopen`, `Device`.

@@ -7,7 +7,7 @@ use Rattle.rel_unpack.specs.Applications.{LibraryAt, LibrariesAt}
 use Rattle.rel_unpack.specs.Refusal.{Refusal}
 use Rattle.rel_unpack.specs.Source.{Source}
 
--- What the applications from this place on give comes behind the libraries that were read so far.
+-- What the applications from this place on give comes after the libraries that were read so far.
 pub record AreReadTo (source : Source) (all later : List Application) (done : List Library) : Type 0 where
   pub turn : (ls : List Library) (why : Option Refusal) → LibrariesAt source later ls why → LibrariesAt source all (done ++ ls) why
 

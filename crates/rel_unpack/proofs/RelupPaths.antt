@@ -1,4 +1,4 @@
--- Where the relup of a release stands: behind the last `/` of its path.
+-- Where the relup of a release stands: after the last `/` of its path.
 use Rattle.std.proofs.Common.{◌≡◌, ◌≢◌, ℕ, ◌+◌, ◌-◌, ◌<◌, ◌≤◌, true, false, not, List, [], ◌∷◌, ◌++◌, length, take, drop, get_or, codes, None, sym, ap, ◌∙◌, append_assoc, arith}
 use Rattle.std.specs.Prelude.{◌==◌}
 use Rattle.std.specs.List.{suffix_len}
@@ -16,7 +16,7 @@ other_byte b other = grind (arith, nat_tests)
 slash_byte : (b : ℕ) → b ≡ 47 → not (b == 47) ≡ false
 slash_byte b is = ap (λ c. not (c == 47)) is
 
--- A path is cut behind the place where its last `/` stands.
+-- A path is cut after the place where its last `/` stands.
 cut_behind : (path : List ℕ) (n : ℕ) → n ≤ length path → ((k : ℕ) → n ≤ k → k < length path → get_or path k 0 ≢ 47) → (0 < n → get_or path (n - 1) 0 ≡ 47) → folder_of path ≡ take n path
 cut_behind path n fits others slash =
     let is : suffix_len (λ b. not (b == 47)) path ≡ length path - n =

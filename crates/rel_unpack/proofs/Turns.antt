@@ -9,7 +9,7 @@ abbrev pub behind : {B : Type 0} → List B → Result (List B) Refusal → Resu
 behind done (Ok bs) = Ok (done ++ bs)
 behind done (Err e) = Err e
 
--- Each outcome of those from this place on is one of all, behind what was given so far.
+-- Each outcome of those from this place on is one of all, after what was given so far.
 pub record AreDoneTo {A B : Type 0} (P : A → Outcome B) (all later : List A) (done : List B) : Type 0 where
   pub turn : (r : Result (List B) Refusal) → Each P later r → Each P all (behind done r)
 

@@ -167,7 +167,7 @@ nothing_in_either : {A : Type 0} (xs ys : List A) → xs ++ ys ≡ [] → (xs �
 nothing_in_either [] ys e = (refl, e)
 nothing_in_either (x ∷ xs) ys e = absurd cc
 
--- Where nothing is made of instructions, nothing is made of one of them, and of those behind it.
+-- Where nothing is made of instructions, nothing is made of one of them, and of those after it.
 none_from_one_on : {A : Type 0} (f : Instruction → List A) (front rest : List Instruction) (i : Instruction)
     → flat_map f (front ++ (i ∷ rest)) ≡ [] → (f i ≡ []) × (flat_map f rest ≡ [])
 none_from_one_on f front rest i e =
@@ -268,7 +268,7 @@ is_not_left_out i is none =
     absurd cc
 
 module _ {A : Type 0} (f : Instruction → List A) where
-  -- Where no change stands in the first part, and nothing is made of the second, nothing is made of what stands behind a change.
+  -- Where no change stands in the first part, and nothing is made of the second, nothing is made of what stands after a change.
   none_behind_a_change : (first second front rest : List Instruction) (i : Instruction) → is_change i ≡ true
       → flat_map itself_if_change first ≡ [] → flat_map f second ≡ [] → first ++ second ≡ front ++ (i ∷ rest) → flat_map f rest ≡ []
   none_behind_a_change [] second front rest i is quiet none e = (none_from_one_on f front rest i (sym (ap (flat_map f) e) ∙ none)).1
@@ -291,7 +291,7 @@ module _ {A : Type 0} (f : Instruction → List A) where
       let nothing = nothing_in_either (f k) (flat_map f first) none in
       λ t. (ap f head ∙ nothing.0) t ++ none_before_a_change first second front rest i is nothing.1 quiet tail t
 
--- In a block nothing is suspended behind the suspending, and nothing is resumed before the resuming.
+-- In a block nothing is suspended after the suspending, and nothing is resumed before the resuming.
 suspends_none_later : (d : Direction) (ss xs : List BlockItemForm) → flat_map suspended_by (updating d xs ++ resuming ss) ≡ []
 suspends_none_later d ss xs =
     of_both suspended_by (updating d xs) (resuming ss)

@@ -1,4 +1,4 @@
--- The next choice by counts: it is the first that waits for none, and behind it each waits for one less that waited for it.
+-- The next choice by counts: it is the first that waits for none, and after it each waits for one less that waited for it.
 use Rattle.std.proofs.Common.{◌≡◌, refl, ap, sym, ◌∙◌, ℕ, zero, suc, ◌+◌, ◌-◌, ◌<◌, ◌≤◌, nat_eq, Bool, true, false, not, ◌&&◌, ◌||◌, List, [], ◌∷◌, ◌++◌, length, map, filter, cond, set, get_or, remove, Option, None, Some, if◌then◌else◌, arith}
 use Rattle.std.specs.List.{list_any}
 use Rattle.std.proofs.lemmas.List.{append_assoc, append-nil, length-append, length-map, map-set, get_or-map}

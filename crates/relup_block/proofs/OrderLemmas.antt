@@ -12,7 +12,7 @@ order_more rule (y ∷ ys) x rest e =
     let long : length rest ≡ length ys = choice_length rule (length ys) (y ∷ ys) (x, rest) e refl in
     ap (choose_then (λ r. choices rule (length ys) r)) e ∙ ap (λ (m : ℕ). x ∷ choices rule m rest) (sym long)
 
--- one more is chosen, behind those that were chosen before
+-- one more is chosen, after those that were chosen before
 pub one_more_chosen : (rule : ChoiceRule) (left : List BlockItemForm) (x : BlockItemForm) (rest before now all : List BlockItemForm)
     → choice rule left ≡ Some (x, rest) → now ≡ before ++ (x ∷ []) → before ++ order rule left ≡ all → now ++ order rule rest ≡ all
 one_more_chosen rule left x rest before now all e grown is =

@@ -76,7 +76,7 @@ abbrev pub resuming : List BlockItemForm → List Instruction
 resuming xs = over resume (reverse (filter_map resumption xs))
 
 -- Going up, code is loaded before states are changed. Going down, that of static modules is loaded before it, and all other
--- code behind it: that of dynamic modules, and of modules that are loaded without an update.
+-- code after it: that of dynamic modules, and of modules that are loaded without an update.
 abbrev pub updating : Direction → List BlockItemForm → List Instruction
 updating Up xs = loading xs ++ changing Up xs
 updating Down xs = loading (filter (is_of_kind true) xs) ++ (changing Down xs ++ loading (filter (is_of_kind false) xs))

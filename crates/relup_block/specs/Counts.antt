@@ -45,7 +45,7 @@ waiting_items = map (λ (w : WaitingForm). w.item)
 abbrev pub passed_items : List Waiting → List BlockItemForm
 passed_items ws = waiting_items (all_waiting ws)
 
--- those behind others, with others ahead, each with how many of all the others it waits for
+-- those after others, with others ahead, each with how many of all the others it waits for
 abbrev pub counted_behind : ChoiceRule → List BlockItemForm → List BlockItemForm → List BlockItemForm → List WaitingForm
 counted_behind rule before [] ahead = []
 counted_behind rule before (x ∷ xs) ahead =
@@ -54,7 +54,7 @@ counted_behind rule before (x ∷ xs) ahead =
 abbrev pub counted : ChoiceRule → List BlockItemForm → List BlockItemForm → List WaitingForm
 counted rule passed ahead = counted_behind rule [] passed ahead
 
--- the place of the first that waits for none, behind so many
+-- the place of the first that waits for none, after so many
 abbrev pub first_idle_behind : ℕ → List WaitingForm → Option ℕ
 first_idle_behind n [] = None
 first_idle_behind n (w ∷ ws) = if nat_eq w.waits 0 then Some n else first_idle_behind (n + 1) ws
@@ -89,7 +89,7 @@ step_of (Chosen x) = chosen (block_item_of x)
 step_of Passed = passed
 step_of End = end
 
--- An item ahead, with these behind it, was taken or passed over.
+-- An item ahead, with these after it, was taken or passed over.
 abbrev pub Meets : ChoiceRule → List WaitingForm → BlockItemForm → List BlockItemForm → StepForm → List WaitingForm → Type 0
 Meets rule ws x ahead (chosen y) new =
     (y ≡ x) × (nat_eq (waits_among rule x (waiting_items ws) + waits_among rule x ahead) 0 ≡ true) × (new ≡ map (after_item rule x) ws)

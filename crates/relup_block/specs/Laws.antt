@@ -48,13 +48,13 @@ HaveNoCycle rule number [] = Unit {0}
 HaveNoCycle rule number (x ∷ xs) =
     AllByRecursion (λ (y : BlockItemForm). IsLower rule number y x × IsLower rule number x y) xs × HaveNoCycle rule number xs
 
--- Each of these items stands behind all those that it waits for.
+-- Each of these items stands after all those that it waits for.
 abbrev pub StandBehind : ChoiceRule → List BlockItemForm → Type 0
 StandBehind rule [] = Unit {0}
 StandBehind rule (x ∷ xs) = (is_free rule x xs ≡ true) × StandBehind rule xs
 
 -- The second row is an order of the first: it has its items, each once, and where the dependencies have no cycle, each stands
--- behind all those that it waits for.
+-- after all those that it waits for.
 pub record IsOrder (rule : ChoiceRule) (xs ys : List BlockItemForm) : Type 0 where
   pub same : IsPermutation xs ys
   pub behind : (number : BlockItemForm → ℕ) → HaveNoCycle rule number xs → StandBehind rule ys
@@ -107,7 +107,7 @@ is_change (load p) = true
 is_change (code_change c) = true
 is_change i = false
 
--- Meanwhile the modules of all updates are suspended: none is suspended behind such an instruction, and none is resumed before it.
+-- Meanwhile the modules of all updates are suspended: none is suspended after such an instruction, and none is resumed before it.
 abbrev pub SuspendsMeanwhile : Type 0
 SuspendsMeanwhile = (d : Direction) (xs : List BlockItemForm) (front rest : List Instruction) (i : Instruction)
     → block d xs ≡ front ++ (i ∷ rest) → is_change i ≡ true

@@ -46,7 +46,7 @@ must_wait_for DependenciesFirst x y = depends_on x y
 abbrev pub is_free : ChoiceRule → BlockItemForm → List BlockItemForm → Bool
 is_free rule x others = not (list_any (must_wait_for rule x) others)
 
--- the first item behind these that is free of all the others, and what remains without it
+-- the first item after these that is free of all the others, and what remains without it
 abbrev pub first_free : ChoiceRule → List BlockItemForm → List BlockItemForm → Option (BlockItemForm × List BlockItemForm)
 first_free rule before [] = None
 first_free rule before (x ∷ after) =

@@ -12,7 +12,7 @@ use appup_file::{ModType, StateChange};
 use relup_instruction::{Change, Conversion, Direction, Instr, Purging, Suspension, Timeout};
 use std::alloc::{AllocError, Global};
 
-/// Writes an instruction behind those that stand in `out`.
+/// Writes an instruction after those that stand in `out`.
 pub fn push_instr(instr: Instr, out: &mut Vec<Instr>) -> Result<(), AllocError>
     ensures { OnOk result (Appends out.old.items out.new.items (instruction_of instr ∷ [])) }
 {
@@ -261,7 +261,7 @@ fn rules(direction: Direction) -> (ChoiceRule, ChoiceRule)
     }
 }
 
-/// Writes the instructions of a block behind those that stand in `out`. Up, what depends on others is suspended first and
+/// Writes the instructions of a block after those that stand in `out`. Up, what depends on others is suspended first and
 /// loaded last, and down the other way round.
 pub fn push_block(
     alloc: Global,

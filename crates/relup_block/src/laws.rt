@@ -1,7 +1,7 @@
 //! Laws of blocks, above their definition. Each function does nothing: its contract is the law.
 ghost use Rattle.relup_block.specs.Laws.{MakesOrders, OrdersUp, OrdersDown, ResumesSuspended, LoadsBeforeChange, ChangesBeforeLoad, SuspendsMeanwhile};
 
-/// An order of a block has its items, each once. Where the dependencies among them have no cycle, each item stands behind all
+/// An order of a block has its items, each once. Where the dependencies among them have no cycle, each item stands after all
 /// those that it waits for.
 pub fn an_order_follows_dependencies_without_a_cycle()
     ensures { MakesOrders }

@@ -167,7 +167,7 @@ impl<'i, 'a> Ahead<'i, 'a> {
         }
     }
 
-    // The next of them, and those behind it.
+    // The next of them, and those after it.
     fn next(self) -> Option<(BlockItem<'a>, Ahead<'i, 'a>)>
         requires { HasNaming self }
         ensures { IsNext self.entry result }

@@ -11,7 +11,7 @@ use Rattle.relup_row.specs.declared.release.RelupApp.{RelupApp}
 use Rattle.relup_row.specs.Release.{relup_app_of}
 use Rattle.relup_command.specs.Appups.{AppupAt, WithAppup}
 
--- What was not reached yet is as it was, also behind the next one.
+-- What was not reached yet is as it was, also after the next one.
 pub same_rest : {X : Type 0} (old now : List X) (n : ℕ) (x : X) → n < length now → n < length old → drop n now ≡ drop n old → x ≡ slice_index_or now n x
     → (drop n old ≡ x ∷ drop (n + 1) old) × (drop (n + 1) now ≡ drop (n + 1) old)
 same_rest {X} old now n x in_now in_old same is =

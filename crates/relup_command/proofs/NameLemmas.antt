@@ -37,7 +37,7 @@ Gives {X} P G = (x : X) → P (Ok x) → G x
 gives_value : {X : Type 0} (G : X → Type 0) (x : X) → G x → Gives (λ r. r ≡ Ok x) G
 gives_value G x h y e = let same : x ≡ y = cc in subst G same h
 
--- also behind a test.
+-- also after a test.
 gives_tested : {X : Type 0} (G : X → Type 0) (x : X) (why : Refusal) (b : Bool) → (b ≡ true → G x)
     → Gives (λ r. r ≡ (if b then Ok x else Err why)) G
 gives_tested G x why true h y e = gives_value G x (h refl) y e

@@ -44,7 +44,7 @@ pub record Releases : Type 0 where
 abbrev pub releases_of : ReleasesInMemory → Releases
 releases_of r = record { new = relup_release_of r.new; ups = map relup_release_of r.ups.items; downs = map relup_release_of r.downs.items }
 
--- The releases of some paths. The appups of the new one are read behind all other files.
+-- The releases of some paths. The appups of the new one are read after all other files.
 abbrev pub ReleasesAt : Source → List ℕ → List (List ℕ) → List (List ℕ) → Outcome Releases
 ReleasesAt source new ups downs =
     Then (RelupReleaseAt source new) (λ release.

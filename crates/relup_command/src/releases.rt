@@ -32,7 +32,7 @@ impl Drop for Releases {
     }
 }
 
-/// The releases of these paths. The appups of the new one are read behind all other files.
+/// The releases of these paths. The appups of the new one are read after all other files.
 pub(crate) fn read_releases<F: Files>(
     alloc: Global,
     files: &F,

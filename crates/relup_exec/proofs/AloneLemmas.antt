@@ -152,7 +152,7 @@ failed_alone s start script number c reported front i now v none other at ran fa
     (sym (fault_alone start.first s r v i none values is.1) ∙ is.0)
     ∙ ap (λ n. fails_at (still_early true front) n c) (omega (arith, at.counted))))
 
--- behind the point no instruction is refused
+-- after the point no instruction is refused
 never_refused : (s : Site) (n : ℕ) (is : List Instruction) (r : Run) (m : ℕ) (c : Cause) → outcome_from s false n is r ≡ refuses m c → ⊥
 never_refused s n [] r m c e = absurd cc
 never_refused s n (i ∷ is) r m c e = go (fault s (values_alone r) r i) e (never_refused s (n + 1) is (step_alone s false i r) m c)

@@ -1,4 +1,4 @@
--- What a script leaves that fails behind its point of no return, where the handler carries it out alone: one thing.
+-- What a script leaves that fails after its point of no return, where the handler carries it out alone: one thing.
 use Rattle.std.proofs.Common.{◌≡◌, ◌≢◌, ℕ, zero, suc, ◌<◌, nat_lt, Bool, true, false, true≢false, ◌&&◌, not, if◌then◌else◌, List, [], ◌∷◌, ◌++◌, length, Option, Some, None, refl, sym, ap, subst, ◌∙◌, arith}
 use Rattle.std.proofs.lemmas.Bool.{ltb-true, ltb-false}
 use Rattle.worker_table.specs.Table.{OldVersion, WorkerTable}
@@ -153,7 +153,7 @@ reported_same s first since now from to false (b ∷ ts) (d ∷ us) (i ∷ is) r
     (subst (λ (x : Bool). RanAll s first two.0 to false us is (run_after s false x i r)) (sym same) two.3) in
     λ k. same k ∷ rest k
 
--- What is left where this instruction fails, behind these.
+-- What is left where this instruction fails, after these.
 record Breaks (s : Site) (start : Start) (front : List Instruction) (i : Instruction) (reported : List Bool) (c : Cause) (v : View) : Type 0 where
   then_view : View
   fails : IsFault start.first s then_view (run_behind s start reported front) i c

@@ -36,7 +36,7 @@ run_more_early s start is i a tree v w early ran carried = (
   subst (λ (r : Run). HasDone (record { first = start.first; run = r }) a tree w) (sym (run_push_early s true [] is i (began_at s start) early)) carried.1,
 )
 
--- and behind it
+-- and after it
 pub run_more_late : (s : Site) (start : Start) (reported : List Bool) (is : List Instruction) (b : Bool) (i : Instruction) (a : ProgressForm) (tree : List App) (v w : View) → still_early true is ≡ false
     → Ran s start v reported is → IsCarriedOut s (past_behind s start reported is) false b i a tree v w
     → Ran s start w (reported ++ b ∷ []) (is ++ i ∷ []) × HasDone (past_behind s start (reported ++ b ∷ []) (is ++ i ∷ [])) a tree w

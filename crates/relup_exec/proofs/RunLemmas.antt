@@ -24,7 +24,7 @@ use Rattle.relup_exec.specs.Outcome.{RanAll, RanAllLate, run_through, still_earl
 use Rattle.script_progress.specs.Steps.{HasNoFault, IsEarly, IsLate}
 use Rattle.script_steps.proofs.RowLemmas.{all_middle}
 
--- behind the point
+-- after the point
 pub still_behind : (is : List Instruction) → still_early false is ≡ false
 still_behind [] = refl
 still_behind (i ∷ is) = still_behind is
@@ -45,7 +45,7 @@ ran_push_early s first since mid now true reported (k ∷ is) i r early ran one 
     (ran.0, ran.1, ran.2, ran_push_early s first ran.0 mid now (not (is_point k)) reported is i (run_after s true false k r) early ran.3 one)
 ran_push_early s first since mid now false reported (k ∷ is) i r early ran one = absurd (let no = sym (still_behind is) ∙ early in cc no)
 
--- one instruction more, of which this is reported, behind the point
+-- one instruction more, of which this is reported, after the point
 pub run_push_late : (s : Site) (first since now : View) (e : Bool) (reported : List Bool) (is : List Instruction) (b : Bool) (i : Instruction) (r : Run) → still_early e is ≡ false
     → RanAll s first since now e reported is r → run_through s e (reported ++ b ∷ []) (is ++ i ∷ []) r ≡ run_after s false b i (run_through s e reported is r)
 run_push_late s first since now true reported [] b i r late ran = absurd (cc late)
@@ -93,7 +93,7 @@ behind_point [] rest true = still_behind rest
 behind_point [] rest false = still_behind rest
 behind_point (i ∷ front) rest e = behind_point front rest (e && not (is_point i))
 
--- Nothing stands behind the point yet.
+-- Nothing stands after the point yet.
 pub late_at_first : (s : Site) (first since now : View) (front : List Instruction) (r : Run) → AllByRecursion IsEarly front → AreLonger since now
     → RanAllLate s first since now true [] (front ++ point_of_no_return ∷ []) r
 late_at_first s first since now [] r early longer = (refl, longer)
@@ -101,7 +101,7 @@ late_at_first s first since now (i ∷ front) r early longer =
     let next = run_after s true false i r in
     subst (λ (b : Bool). RanAllLate s first since now (not b) [] (front ++ point_of_no_return ∷ []) next) (sym (not_the_point i early.0)) (late_at_first s first since now front next early.1 longer)
 
--- one instruction more behind it
+-- one instruction more after it
 pub late_push : (s : Site) (first since mid now : View) (e : Bool) (reported : List Bool) (is : List Instruction) (b : Bool) (i : Instruction) (r : Run) → still_early e is ≡ false
     → RanAllLate s first since mid e reported is r → HasNoFault s first mid now (run_through s e reported is r) b i → RanAllLate s first since now e (reported ++ b ∷ []) (is ++ i ∷ []) r
 late_push s first since mid now false reported is b i r late ran one = ran_push_late s first since mid now false reported is b i r late ran one
@@ -136,7 +136,7 @@ not_all_early script runnable all =
     let wrong : IsEarly point_of_no_return = all_middle IsEarly runnable.before point_of_no_return runnable.after (subst (AllByRecursion IsEarly) runnable.is all) in
     cc wrong
 
--- behind the first point stands what stands behind the point of a script that can be run
+-- after the first point stands what stands after the point of a script that can be run
 pub late_behind : (before after front rest : List Instruction) → AllByRecursion IsEarly before → AllByRecursion IsLate after → AllByRecursion IsEarly front
     → before ++ (point_of_no_return ∷ after) ≡ front ++ (point_of_no_return ∷ rest) → AllByRecursion IsLate rest
 late_behind [] after [] rest early late so_far e = let same : after ≡ rest = cc e in subst (AllByRecursion IsLate) same late
@@ -148,7 +148,7 @@ late_behind (b ∷ bs) after [] rest early late so_far e =
     let wrong : IsEarly point_of_no_return = subst IsEarly same early.0 in absurd (cc wrong)
 late_behind (b ∷ bs) after (f ∷ fs) rest early late so_far e = late_behind bs after fs rest early.1 late so_far.1 (cc e)
 
--- an instruction behind so many more than those before the point may stand behind it
+-- an instruction after so many more than those before the point may stand after it
 pub late_at : (front rest done more : List Instruction) (i : Instruction) → AllByRecursion IsLate rest → front ++ (point_of_no_return ∷ rest) ≡ done ++ (i ∷ more) → length front < length done → IsLate i
 late_at front rest [] more i late e far = absurd (omega (arith, far))
 late_at [] rest (d ∷ done) more i late e far = (let same : rest ≡ done ++ (i ∷ more) = cc e in all_middle IsLate done i more (subst (AllByRecursion IsLate) same late))

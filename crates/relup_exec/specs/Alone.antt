@@ -19,7 +19,7 @@ use Rattle.relup_exec.specs.Outcome.{Start, ArmedForm, IsArmed, IsBroken, IsFini
 abbrev pub values_alone : Run → Values
 values_alone r p = replay_from (r.values p) (added (r.courses p).blocks)
 
--- all was done, or the instruction with this number fails: before the point, or behind it
+-- all was done, or the instruction with this number fails: before the point, or after it
 pub data Outcome : Type 0 where
   ends : Run → Outcome
   refuses : ℕ → Cause → Outcome
@@ -37,7 +37,7 @@ unless_fault (Some c) early n more = fails_at early n c
 abbrev pub step_alone : Site → Bool → Instruction → Run → Run
 step_alone s early i r = run_after s early (stays_at (values_alone r) i r) i r
 
--- what comes of these instructions, behind so many others
+-- what comes of these instructions, after so many others
 abbrev pub outcome_from : Site → Bool → ℕ → List Instruction → Run → Outcome
 outcome_from s early n [] r = ends r
 outcome_from s early n (i ∷ is) r =
@@ -59,7 +59,7 @@ pub record HasOneOutcome : Type 0 where
   pub broken : (s : Site) (start : Start) (script : List Instruction) (number : ℕ) (c : Cause) (v : View)
       → start.first.lent ≡ [] → c ≢ no_memory → IsBroken s start script number c v → outcome s (began_at s start) script ≡ breaks number c
 
--- Where an instruction fails behind the point, the handler that carries the script out alone leaves one history in each slot,
+-- Where an instruction fails after the point, the handler that carries the script out alone leaves one history in each slot,
 -- memory aside.
 abbrev pub LeavesOneHistory : Type 0
 LeavesOneHistory = (s : Site) (start : Start) (script : List Instruction) (number : ℕ) (c : Cause) (v w : View) → start.first.lent ≡ [] → c ≢ no_memory

@@ -1,4 +1,4 @@
--- What comes of a script: up to its point of no return, and behind it.
+-- What comes of a script: up to its point of no return, and after it.
 use Rattle.std.specs.Prelude.{◌≡◌, ℕ, ◌+◌, ◌≤◌, Bool, true, false, ◌&&◌, ◌⊎◌, not, List, [], ◌∷◌, ◌++◌, length}
 use Rattle.std.specs.List.{AllByRecursion}
 use Rattle.proc_table.specs.declared.view.View.{View}
@@ -30,7 +30,7 @@ abbrev pub still_early : Bool → List Instruction → Bool
 still_early early [] = early
 still_early early (i ∷ is) = still_early (early && not (is_point i)) is
 
--- What instructions do one after another, the point of no return among them. reported: of each behind the point, whether it leaves
+-- What instructions do one after another, the point of no return among them. reported: of each after the point, whether it leaves
 -- the child that it is on as it is.
 abbrev pub run_through : Site → Bool → List Bool → List Instruction → Run → Run
 run_through s early reported [] r = r
@@ -38,15 +38,15 @@ run_through s true reported (i ∷ is) r = run_through s (not (is_point i)) repo
 run_through s false [] (i ∷ is) r = r
 run_through s false (b ∷ reported) (i ∷ is) r = run_through s false reported is (run_after s false b i r)
 
--- what was done behind these, from the first instruction on
+-- what was done after these, from the first instruction on
 abbrev pub run_behind : Site → Start → List Bool → List Instruction → Run
 run_behind s start reported is = run_through s true reported is (began_at s start)
 
 abbrev pub past_behind : Site → Start → List Bool → List Instruction → Past
 past_behind s start reported is = record { first = start.first; run = run_behind s start reported is }
 
--- None of these failed, each by the histories that the handler had seen at a moment of its own: one behind another, between these
--- two. And of each behind the point this is reported.
+-- None of these failed, each by the histories that the handler had seen at a moment of its own: one after another, between these
+-- two. And of each after the point this is reported.
 abbrev pub RanAll : Site → View → View → View → Bool → List Bool → List Instruction → Run → Type 0
 RanAll s first since now early reported [] r = (reported ≡ []) × AreLonger since now
 RanAll s first since now true reported (i ∷ is) r =
@@ -58,8 +58,8 @@ RanAll s first since now false (b ∷ reported) (i ∷ is) r =
 abbrev pub Ran : Site → Start → View → List Bool → List Instruction → Type 0
 Ran s start now reported is = RanAll s start.first start.first now true reported is (began_at s start)
 
--- The point of no return is one of these instructions, and none of those behind it failed: each by the histories that the handler
--- had seen at a moment of its own, one behind another, between these two. So none of them is judged by an earlier view.
+-- The point of no return is one of these instructions, and none of those after it failed: each by the histories that the handler
+-- had seen at a moment of its own, one after another, between these two. So none of them is judged by an earlier view.
 abbrev pub RanAllLate : Site → View → View → View → Bool → List Bool → List Instruction → Run → Type 0
 RanAllLate s first since now false reported is r = RanAll s first since now false reported is r
 RanAllLate s first since now true reported [] r = ⊥
@@ -80,7 +80,7 @@ pub record ArmedForm : Type 0 where
   pub next : NamedModules
   pub apps : List App
 
--- The point of no return is the first instruction behind so many, all of which may stand before it.
+-- The point of no return is the first instruction after so many, all of which may stand before it.
 pub record IsPointAt (script : List Instruction) (place : ℕ) : Type 0 where
   pub front : List Instruction
   pub rest : List Instruction
@@ -131,9 +131,9 @@ pub record IsFinished (s : Site) (start : Start) (script : List Instruction) (lo
   pub apps_are : apps ≡ (run_behind s start reported script).apps
   pub left : AreLeft start.first (on_all finish (run_behind s start reported script).courses) v
 
--- An instruction behind the point is the first that fails. What was held is let go with what was done to it by then: by those in
+-- An instruction after the point is the first that fails. What was held is let go with what was done to it by then: by those in
 -- front, and by this one for so many of its modules and for the next in the slots below this. It fails by the histories that the
--- handler had seen behind those by which the others didn't.
+-- handler had seen after those by which the others didn't.
 pub record IsBroken (s : Site) (start : Start) (script : List Instruction) (number : ℕ) (c : Cause) (v : View) : Type 0 where
   pub front : List Instruction
   pub instruction : Instruction
@@ -149,12 +149,12 @@ pub record IsBroken (s : Site) (start : Start) (script : List Instruction) (numb
   pub left : AreLeft start.first (on_all finish (courses_within s false instruction modules slot (run_behind s start reported front))) v
   pub longer : AreLonger then_view v
 
--- The whole script was carried out, and what stands behind its point is judged by no view from before this one.
+-- The whole script was carried out, and what stands after its point is judged by no view from before this one.
 pub record IsFinishedFrom (s : Site) (start : Start) (script : List Instruction) (since : View) (loaded : NamedModules) (apps : List App) (v : View) : Type 0 where
   pub finished : IsFinished s start script loaded apps v
   pub late : RanLate s start since v finished.reported script
 
--- An instruction behind the point is the first that fails, and neither it nor those between are judged by a view from before this
+-- An instruction after the point is the first that fails, and neither it nor those between are judged by a view from before this
 -- one.
 pub record IsBrokenFrom (s : Site) (start : Start) (script : List Instruction) (since : View) (number : ℕ) (c : Cause) (v : View) : Type 0 where
   pub broken : IsBroken s start script number c v

@@ -1,4 +1,4 @@
-//! A script behind its point of no return.
+//! A script after its point of no return.
 ghost use Rattle.std.specs.Prelude.{◌≡◌, IfErr, IfOk, OnErr};
 ghost use Rattle.held_processes.specs.Course.{on_all};
 ghost use Rattle.held_processes.specs.Course.Operation.{finish, pass_point};
@@ -19,7 +19,7 @@ use std::alloc::Global;
 use std::sync::Wait;
 use sup_tree::Tree;
 
-/// A script of which an instruction behind the point of no return failed.
+/// A script of which an instruction after the point of no return failed.
 #[derive(Drop)]
 pub struct Failed {
     /// The number of the instruction, counted from 1.

@@ -14,7 +14,7 @@ pub struct Armed {
     // How many instructions stand before the point.
     pub(crate) place: usize,
     pub(crate) progress: Progress,
-    // Room for what is reported of each instruction behind the point.
+    // Room for what is reported of each instruction after the point.
     pub(crate) reported: Vec<bool>,
 }
 

@@ -7,7 +7,7 @@ pub fn a_script_alone_has_one_outcome()
     ensures { HasOneOutcome }
 {}
 
-/// A script that fails behind its point of no return, carried out while no pass is lent, leaves one history in each slot, memory
+/// A script that fails after its point of no return, carried out while no pass is lent, leaves one history in each slot, memory
 /// aside: what was done until then is determined too.
 pub fn a_broken_script_leaves_one_history()
     ensures { LeavesOneHistory }

@@ -53,7 +53,7 @@ from_entries n (v ∷ vs) es is = go (from_entries (n + 1) vs) (entry_in v) (ent
     go more (Some e) (Err k) a b q = absurd cc
     go more (Some e) (Ok later) a b q = let same : e ∷ later ≡ es = cc in subst (AreEntryTerms (v ∷ vs)) same (from_entry v e a, more later b)
 
--- The first of these values that is no entry has this number, behind so many.
+-- The first of these values that is no entry has this number, after so many.
 pub record IsFirstBad (n : ℕ) (vs : List Value) (k : ℕ) : Type 0 where
   pub front : List Value
   pub bad : Value

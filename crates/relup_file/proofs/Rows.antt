@@ -17,7 +17,7 @@ abbrev pub behind : List EntryForm → Result (List EntryForm) ℕ → Result (L
 behind front (Ok es) = Ok (front ++ es)
 behind front (Err n) = Err n
 
--- one entry more behind those in front
+-- one entry more after those in front
 put_behind : (front : List EntryForm) (e : EntryForm) (n : ℕ) (r : Result (List EntryForm) ℕ) → behind (front ++ e ∷ []) r ≡ behind front (put_entry n (Some e) r)
 put_behind front e n (Ok es) = ap Ok (append_assoc front (e ∷ []) es)
 put_behind front e n (Err k) = refl

@@ -19,7 +19,7 @@ put_entry n None rest = Err n
 put_entry n (Some e) (Ok es) = Ok (e ∷ es)
 put_entry n (Some e) (Err k) = Err k
 
--- the entries, behind so many others, or the number of the first that is none
+-- the entries, after so many others, or the number of the first that is none
 abbrev pub entries_in : ℕ → Values → Result (List EntryForm) ℕ
 entries_in n no_values = Ok []
 entries_in n (value v vs) = put_entry (n + 1) (entry_in v) (entries_in (n + 1) vs)

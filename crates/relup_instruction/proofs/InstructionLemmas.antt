@@ -56,7 +56,7 @@ from_over s ns i h e =
     (λ e4. choose P s (codes "start") (Some (start ns)) None i (λ is here. let same : start ns ≡ i = cc in subst (Spells v) same (ap (λ (w : List ℕ). command w (one (atoms_term ns))) is, h))
     (λ none. absurd cc) e4) e3) e2) e
 
--- an instruction of one word, with what stands behind it
+-- an instruction of one word, with what stands after it
 of_one : {A : Type 0} (word s : List ℕ) (make : A → Instruction) (term : A → Value) (P : A → Type 0)
     → ((a : A) → instruction_term (make a) ≡ command word (one (term a))) → ((a : A) → P a → IsInstruction (make a))
     → (v : Value) (o : Option A) → ((a : A) → o ≡ Some a → (v ≡ term a) × P a) → (i : Instruction) → s ≡ word → option_map make o ≡ Some i

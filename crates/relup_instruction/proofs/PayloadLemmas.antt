@@ -1,4 +1,4 @@
--- What stands behind the word of an instruction, both ways.
+-- What stands after the word of an instruction, both ways.
 use Rattle.std.proofs.Common.{◌≡◌, ℕ, List, map, Option, Some, None, ap, subst, ◌∙◌}
 use Rattle.std.specs.List.{AllByRecursion}
 use Rattle.std.specs.Option.{option_map, option_and_then}

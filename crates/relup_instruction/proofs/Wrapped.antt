@@ -1,4 +1,4 @@
--- What is read behind a word, as the instruction that it is.
+-- What is read after a word, as the instruction that it is.
 use Rattle.std.proofs.Common.{◌≡◌, Option, None, Some, MatchOption, IsSomeAnd}
 use Rattle.std.specs.Option.{option_map}
 

@@ -109,7 +109,7 @@ over_modules s names =
     else if bytes_eq s (codes "start") then Some (start names)
     else None
 
--- a word behind the first two, and one term
+-- a word after the first two, and one term
 abbrev pub other_single_in : List ℕ → Value → Option Instruction
 other_single_in s v =
     if bytes_eq s (codes "load") then option_map load (purging_in v)

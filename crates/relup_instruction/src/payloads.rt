@@ -1,4 +1,4 @@
-//! What stands behind the word of an instruction.
+//! What stands after the word of an instruction.
 ghost use Rattle.std.specs.Prelude.{◌≡◌, IfOk, map};
 ghost use Rattle.std.specs.Option.{option_map};
 ghost use Rattle.erl_term.specs.Value.{members_of, value_of};
@@ -201,7 +201,7 @@ pub(crate) fn conversion_in(
     }
 }
 
-// A mode and the list behind it.
+// A mode and the list after it.
 fn with_mode(alloc: Global, mode: &Term, rest: &[Term]) -> Result<Option<Conversion>, AllocError>
     ensures { IfOk result (λ o.
         option_map conversion_of o ≡ with_mode (value_of mode.now) (members_of rest.now)) }

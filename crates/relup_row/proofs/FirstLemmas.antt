@@ -71,7 +71,7 @@ pub no_first : (key : MentionForm → List ℕ) (seen more : Seen) (k : Bor (Lis
     → new_firsts key seen (m ∷ ms) ≡ new_firsts key more ms
 no_first key seen more k m ms is old put = rw (old) (more_seen key seen more k m (firsts key ms) is put)
 
--- What is kept of the mentions before a place, with the first mentions of what comes behind them, are the first mentions of all.
+-- What is kept of the mentions before a place, with the first mentions of what comes after them, are the first mentions of all.
 abbrev pub KeepsFirsts : (MentionForm → List ℕ) → List Mention → ℕ → Seen → List Mention → Type 0
 KeepsFirsts key ms i seen kept = map mention_of kept ++ new_firsts key seen (map mention_of (drop i ms)) ≡ firsts key (map mention_of ms)
 

@@ -12,7 +12,7 @@ use Rattle.relup_block.specs.Block.{block}
 use Rattle.relup_row.specs.Script.{PartForm, block_item, put_item, put, parts, part_script, single}
 use Rattle.relup_row.specs.Script.PartForm.{a_block, a_single}
 
--- parts that stand behind the items of a block that may go on
+-- parts that stand after the items of a block that may go on
 abbrev pub unfinished : List BlockItemForm → List PartForm → List PartForm
 unfinished [] ps = ps
 unfinished (x ∷ xs) (a_block ys ∷ ps) = a_block (x ∷ (xs ++ ys)) ∷ ps

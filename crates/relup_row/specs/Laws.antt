@@ -56,7 +56,7 @@ IsPart (a_single (update u)) = ⊥
 IsPart (a_single (load_module l)) = ⊥
 IsPart p = Unit {0}
 
--- A row is cut into these parts. Its blocks are as long as can be: none stands right behind another one.
+-- A row is cut into these parts. Its blocks are as long as can be: none stands right after another one.
 pub record IsCut (row : List AppupInstruction) (ps : List PartForm) : Type 0 where
   pub whole : flat_map of_part ps ≡ row
   pub each : AllByRecursion IsPart ps

@@ -57,7 +57,7 @@ leaving names = map remove_plainly names ++ (purge names ∷ [])
 abbrev pub stopping : RelupAppForm → List Instruction
 stopping a = (call_with (codes "stop") a.name ∷ []) ++ leaving a.modules
 
--- It goes: behind that it is unloaded.
+-- It goes: after that it is unloaded.
 abbrev pub going : RelupAppForm → List Instruction
 going a = stopping a ++ (call_with (codes "unload") a.name ∷ [])
 
@@ -78,7 +78,7 @@ in_place (load_object_code f) = []
 in_place restart_emulator = []
 in_place i = i ∷ []
 
--- what an instruction outside a block becomes, behind the point of no return
+-- what an instruction outside a block becomes, after the point of no return
 abbrev pub single : WayForm → AppupInstruction → List Instruction
 single w (update u) = []
 single w (load_module l) = []
@@ -116,7 +116,7 @@ abbrev pub part_script : WayForm → PartForm → List Instruction
 part_script w (a_block xs) = block w.direction xs
 part_script w (a_single i) = single w i
 
--- what a row becomes, behind the point of no return
+-- what a row becomes, after the point of no return
 abbrev pub row_script : WayForm → List AppupInstruction → List Instruction
 row_script w is = flat_map (part_script w) (parts is)
 

@@ -19,7 +19,7 @@ pub fn modules_are_fetched_from_the_target()
 {}
 
 /// A row is cut into its blocks and single instructions, in its order. All updates and loads of modules stand in blocks, and no
-/// block stands right behind another one.
+/// block stands right after another one.
 pub fn a_row_is_cut_into_the_longest_blocks()
     ensures { CutsIntoLongestBlocks }
 {}

@@ -1,7 +1,7 @@
 //! What a row of an appup's instructions becomes in a script, on the way from one release to another (OTP: appup(4),
 //! systools:make_relup/3).
 //!
-//! A [`Way`] is between two releases. [`push_row`] writes what a row becomes behind the point of no return, cut into blocks
+//! A [`Way`] is between two releases. [`push_row`] writes what a row becomes after the point of no return, cut into blocks
 //! and single instructions; [`push_added`] and [`push_removed`] what an application does that comes or goes.
 //! [`push_mentions`] and [`push_app_modules`] note the modules that are loaded, [`push_fetches`] writes the
 //! `load_object_code` for them, and [`push_written_fetches`] those that the appup has itself. [`row_asks_restart`] reports

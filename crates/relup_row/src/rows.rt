@@ -159,7 +159,7 @@ fn block_item(instr: &AppupInstr) -> Option<BlockItem<'_>>
     }
 }
 
-/// Writes what a row becomes behind the point of no return.
+/// Writes what a row becomes after the point of no return.
 pub fn push_row(
     alloc: Global,
     way: Way<'_>,

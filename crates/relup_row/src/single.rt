@@ -1,4 +1,4 @@
-//! What the instructions outside a block become, behind the point of no return.
+//! What the instructions outside a block become, after the point of no return.
 ghost use Rattle.std.specs.Prelude.{◌≡◌, ◌∷◌, [], IfOk, OnOk, map, string_bytes};
 ghost use Rattle.relup_instruction.specs.Instruction.{purging_of, instruction_of};
 ghost use Rattle.appup_file.specs.Instruction.{appup_instruction_of};

@@ -307,12 +307,12 @@ reports_one script f is g = (λ same. fault_is script g (sym is ∙ ap Some same
 pub reports_none : (script : List Instruction) → None ≡ script_fault script → (g : ScriptFault) → IsScriptFault script g → ⊥
 reports_none script is g h = let other = is_fault script g h in absurd cc
 
--- Each of these may stand behind the point, whether it is run or not.
+-- Each of these may stand after the point, whether it is run or not.
 abbrev pub MayFollow : List Instruction → Type 0
 MayFollow [] = Unit {0}
 MayFollow (i ∷ is) = (may_stand Late (is_end is) i ≡ true) × MayFollow is
 
--- A script with one point, behind which each stands where it may, has no fault but instructions that can't be run.
+-- A script with one point, after which each stands where it may, has no fault but instructions that can't be run.
 all_early : (is : List Instruction) → AllByRecursion (λ i. (is_supported i && may_precede i) ≡ true) is → AreRight Early is
 all_early [] h = tt
 all_early (i ∷ is) h = (h.0, all_early is h.1)

@@ -80,7 +80,7 @@ may_precede (code_change c) = true
 may_precede (apply c) = is_error c
 may_precede i = false
 
--- what may stand behind it
+-- what may stand after it
 abbrev pub may_follow : Instruction → Bool
 may_follow (load_object_code f) = false
 may_follow point_of_no_return = false
@@ -104,7 +104,7 @@ may_stand Late is_last i = may_follow i && (is_last || not (is_restart i))
 abbrev pub IsRight : Side → Bool → Instruction → Type 0
 IsRight side is_last i = IsTrue (is_supported i && may_stand side is_last i)
 
--- an instruction with these behind it is the last one
+-- an instruction with these after it is the last one
 abbrev pub is_end : List Instruction → Bool
 is_end is = length is == 0
 
@@ -132,7 +132,7 @@ fault_at side is_last n i =
     if is_supported i then (if may_stand side is_last i then None else Some (Misplaced n))
     else Some (Unsupported n)
 
--- The first instruction at fault on this side, which begins behind so many instructions, has this fault.
+-- The first instruction at fault on this side, which begins after so many instructions, has this fault.
 pub record IsFirstFault (side : Side) (n : ℕ) (part : List Instruction) (f : ScriptFault) : Type 0 where
   pub front : List Instruction
   pub wrong : Instruction
@@ -141,7 +141,7 @@ pub record IsFirstFault (side : Side) (n : ℕ) (part : List Instruction) (f : S
   pub right : AllByRecursion (IsRight side false) front
   pub fault : fault_at side (is_end rest) (n + (length front + 1)) wrong ≡ Some f
 
--- The script has one point of no return, and an instruction before it has this fault, or none and one behind it.
+-- The script has one point of no return, and an instruction before it has this fault, or none and one after it.
 pub record HasWrong (script : List Instruction) (f : ScriptFault) : Type 0 where
   pub before : List Instruction
   pub after : List Instruction
@@ -155,12 +155,12 @@ IsScriptFault script NoPoint = points script ≡ 0
 IsScriptFault script TwoPoints = 1 < points script
 IsScriptFault script f = HasWrong script f
 
--- how it is found: what stands before and behind the first point
+-- how it is found: what stands before and after the first point
 abbrev pub split_point : List Instruction → Option (List Instruction × List Instruction)
 split_point [] = None
 split_point (i ∷ is) = if is_point i then Some ([], is) else option_map (λ p. (i ∷ p.0, p.1)) (split_point is)
 
--- the first fault on a side, behind so many instructions
+-- the first fault on a side, after so many instructions
 abbrev pub part_fault : Side → ℕ → List Instruction → Option ScriptFault
 part_fault side n [] = None
 part_fault side n (i ∷ is) = option_or (fault_at side (is_end is) (n + 1) i) (part_fault side (n + 1) is)

@@ -57,7 +57,7 @@ fn fault_of(script: &[Instr]) -> Option<ScriptFault>
     }
 }
 
-// What stands before and behind the first point of no return.
+// What stands before and after the first point of no return.
 fn split_point(script: &[Instr]) -> Option<(&[Instr], &[Instr])>
     ensures { option_map (λ p. (script_of p.0.now, script_of p.1.now)) result
         ≡ split_point (script_of script.now) }
@@ -70,7 +70,7 @@ fn split_point(script: &[Instr]) -> Option<(&[Instr], &[Instr])>
     None
 }
 
-// The first fault on a side, behind so many instructions.
+// The first fault on a side, after so many instructions.
 fn part_fault(side: Side, before: usize, part: &[Instr]) -> Option<ScriptFault>
     requires { before + length part.now < 2 ^ 63 }
     ensures { result ≡ part_fault side before (script_of part.now) }

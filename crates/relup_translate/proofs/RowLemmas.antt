@@ -1,4 +1,4 @@
--- What holds of each instruction that the instructions of an appup become behind the point of no return.
+-- What holds of each instruction that the instructions of an appup become after the point of no return.
 use Rattle.std.proofs.Common.{ℕ, true, false, List, [], ◌∷◌, map, filter, filter_map, flat_map, Option, None, Some, IfSome}
 use Rattle.std.specs.List.{AllByRecursion}
 use Rattle.rel_files.specs.declared.release.StartType.{StartType}

@@ -21,7 +21,7 @@ use Rattle.relup_row.proofs.ListLemmas.{of_both, of_first, of_last, of_each, of_
 use Rattle.relup_translate.proofs.RowLemmas.{HoldsOfMade, written, of_rows}
 use Rattle.relup_translate.proofs.WayLemmas.{of_sound, of_all_rows}
 
--- Behind the point stand instructions that may follow it at any place.
+-- After the point stand instructions that may follow it at any place.
 abbrev Follows : Instruction → Type 0
 Follows i = (may_follow i && not (is_restart i)) ≡ true
 
@@ -62,7 +62,7 @@ follows_rows w rs h =
     of_rows Follows (λ name. Unit {0}) follows w rs (trivially _)
     (of_parts Follows (AllByRecursion IsPlain) (flat_map written) (of_parts Follows IsPlain written follows_written) rs h)
 
--- Behind them stands a restart, if any.
+-- After them stands a restart, if any.
 follows_anywhere : (is_last : Bool) (i : Instruction) → Follows i → (may_follow i && (is_last || not (is_restart i))) ≡ true
 follows_anywhere is_last i h = go is_last (may_follow i) (not (is_restart i)) h
   where

@@ -85,7 +85,7 @@ pub record IsWhole (w : WayForm) : Type 0 where
 abbrev pub SoundIsWhole : Type 0
 SoundIsWhole = (w : WayForm) → (way_fault w ≡ None) ↔ IsWhole w
 
--- These instructions stand in the script behind its point of no return, one right behind another.
+-- These instructions stand in the script after its point of no return, one right after another.
 pub record StandsBehindPoint (script part : List Instruction) : Type 0 where
   pub front : List Instruction
   pub between : List Instruction
@@ -115,7 +115,7 @@ HasEachEntry = (new : RelupReleaseForm) (ups downs : List RelupReleaseForm) (r :
 abbrev pub Fetches : Instruction → Type 0
 Fetches i = (f : FetchForm) × (i ≡ load_object_code f)
 
--- One point of no return parts the script: before it stand fetches alone, and behind it each instruction where it may stand, a
+-- One point of no return parts the script: before it stand fetches alone, and after it each instruction where it may stand, a
 -- restart at the end alone.
 pub record IsParted (script : List Instruction) : Type 0 where
   pub before : List Instruction

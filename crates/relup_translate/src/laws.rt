@@ -18,7 +18,7 @@ pub fn a_way_is_sound_where_each_changed_application_has_its_entry()
     ensures { SoundIsWhole }
 {}
 
-/// The script of a way has all that its changes become, behind its point: of each application that comes, of each that goes over
+/// The script of a way has all that its changes become, after its point: of each application that comes, of each that goes over
 /// from another version, and of each that goes.
 pub fn a_script_changes_each_application_that_differs()
     ensures { ScriptsChangeAll }
@@ -30,7 +30,7 @@ pub fn a_made_relup_has_an_entry_for_each_release()
     ensures { HasEachEntry }
 {}
 
-/// One point of no return parts each script that is made. Before it stand `load_object_code` alone, and behind it no instruction
+/// One point of no return parts each script that is made. Before it stand `load_object_code` alone, and after it no instruction
 /// that may not stand there, whether it can be run or not: a restart of the runtime system at the end alone.
 pub fn made_scripts_are_parted_by_their_point()
     ensures { PartsScripts }

@@ -139,7 +139,7 @@ fn push_restart(changes: &[AppChange<'_>], out: &mut Vec<Instr>) -> Result<(), A
     }
 }
 
-// The fetches, the point of no return, all else, and a restart behind it.
+// The fetches, the point of no return, all else, and a restart after it.
 fn push_script(
     alloc: Global,
     way: Way<'_>,

@@ -23,8 +23,8 @@ use text_cases::Answer;
 /// The text is the inputs of calls of the process of `ch3`, a script, and inputs of further calls, with ` | ` between them. The
 /// answer is what the calls answer, whether the script can't be run, is refused, or is armed, and then, by the mode: `before`,
 /// what a call is answered while it is armed, and, once it was rolled back, what the further calls answer; `whole`, which
-/// instruction behind the point fails, or that the script is done and which modules are loaded then, and what the further calls
-/// answer; `tree`, the same, and behind it the ids of the members of `ch_app`, with `-` before one for which nothing stands. The
+/// instruction after the point fails, or that the script is done and which modules are loaded then, and what the further calls
+/// answer; `tree`, the same, and after it the ids of the members of `ch_app`, with `-` before one for which nothing stands. The
 /// modes of single operations are those of [`push_way`].
 pub(crate) fn answer<R: Wait>(
     rt: &R,

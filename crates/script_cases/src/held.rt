@@ -23,7 +23,7 @@ const LIBRARY: &[u8] =
 /// The table of `ch3` that is loaded: from version 1 the states 0 and 3 become others.
 const NEW_TABLE: &[u8] = b"{worker,ch3,\"2\",100,[{add,1,2},{change,\"1\",[],[{0,100},{3,103}]}]}.";
 
-/// The mode names a [`Way`]. The text is the inputs of calls of the first process before it, and behind ` | ` those behind it. The
+/// The mode names a [`Way`]. The text is the inputs of calls of the first process before it, and after ` | ` those after it. The
 /// answer is what these calls are answered, between them what a client is answered meanwhile, and the states then.
 pub(crate) fn push_way<R: Wait>(
     rt: &R,

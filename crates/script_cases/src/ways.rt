@@ -121,7 +121,7 @@ fn load<R: Wait>(
     }
 }
 
-// The client calls behind a load.
+// The client calls after a load.
 fn go_on(
     table: &ProcTable,
     seat: &mut HandlerSeat,

@@ -82,7 +82,7 @@ abbrev pub is_stuck : Option OldVersion → ChangeForm → Values → Run → Bo
 is_stuck None c seen r = holds_user (modules_by_slot_in r) c.name r.courses
 is_stuck (Some old) c seen r = lacks_row old c.extra seen (modules_by_slot_in r) c.name r.courses
 
--- one of these changes can't be made, behind those in front of it
+-- one of these changes can't be made, after those in front of it
 abbrev pub change_fault : Site → Direction → List ChangeForm → Values → Run → Option Cause
 change_fault s mode [] seen r = None
 change_fault s mode (c ∷ cs) seen r =
@@ -145,7 +145,7 @@ call_fault s seen c r =
     if is_error c then error_cause c.args
     else if is_on_child c then child_call_fault seen (child_call c) r else app_call_fault s (app_call c) r
 
--- Why an instruction fails behind what was done, where the histories that the handler has seen leave this; memory aside.
+-- Why an instruction fails after what was done, where the histories that the handler has seen leave this; memory aside.
 abbrev pub fault : Site → Values → Run → Instruction → Option Cause
 fault s seen r (load_object_code f) = fetch_fault (library_for s f) f.modules
 fault s seen r (load p) = load_fault (module_named p.name r.fetched) (modules_by_slot_in r) p.name

@@ -231,7 +231,7 @@ abbrev pub call_within : CallForm → ℕ → Run → Courses
 call_within c n r = if is_on_child c then child_within (child_call c) n r else r.courses
 
 -- The courses where an instruction failed: it was done for so many of its modules, and for the next one in the slots below this. A
--- call that fails behind the point was done for one where what stood for its child was given up.
+-- call that fails after the point was done for one where what stood for its child was given up.
 abbrev pub courses_within : Site → Bool → Instruction → ℕ → ℕ → Run → Courses
 courses_within s early (suspend ss) n slot r = each_within course.Operation.suspend (suspended_in ss) n slot (modules_by_slot_in r) r.courses
 courses_within s early (load p) n slot r = load_within early p.name (worker_in (module_named p.name r.fetched)) slot (modules_by_slot_in r) r.courses

@@ -25,7 +25,7 @@ use Rattle.script_progress.specs.Stops.{StopsAt}
 abbrev pub IsEarly : Instruction → Type 0
 IsEarly i = IsTrue (is_supported i && may_precede i)
 
--- It may stand behind it.
+-- It may stand after it.
 abbrev pub IsLate : Instruction → Type 0
 IsLate i = IsTrue (is_supported i && may_follow i)
 
@@ -94,7 +94,7 @@ CarriesOut s past early i (Err e) a tree v w =
     × StopsAt past.first s w past.run i (cause_of e.cause) e.modules e.slot
     × AllFollow past.first (courses_within s early i e.modules e.slot past.run) a.held w
 
--- The instruction fails behind the point of no return, by the histories that the handler had seen at a moment between these two.
+-- The instruction fails after the point of no return, by the histories that the handler had seen at a moment between these two.
 pub record IsFailed (s : Site) (past : Past) (i : Instruction) (e : Failure) (hs : HeldSlots) (v w : View) : Type 0 where
   pub then_view : View
   pub fails : IsFault past.first s then_view past.run i (cause_of e.cause)
@@ -103,7 +103,7 @@ pub record IsFailed (s : Site) (past : Past) (i : Instruction) (e : Failure) (hs
   pub longer : AreLonger then_view w
   pub partly : AllFollow past.first (courses_within s false i e.modules e.slot past.run) hs w
 
--- It was carried out behind the point of no return, and this is reported of the child that it is on; or it fails.
+-- It was carried out after the point of no return, and this is reported of the child that it is on; or it fails.
 abbrev pub CarriesOutLate : Site → Past → Instruction → Result Bool Failure → ProgressForm → List App → View → View → Type 0
 CarriesOutLate s past i (Ok stays) a tree v w = IsCarriedOut s past false stays i a tree v w
 CarriesOutLate s past i (Err e) a tree v w = IsFailed s past i e a.held v w

@@ -39,7 +39,7 @@ abbrev pub is_stuck_at : Option OldVersion → ChangeForm → ℕ → Values →
 is_stuck_at None c slot seen r = is_stuck None c seen r
 is_stuck_at (Some old) c slot seen r = nat_lt slot slots && is_lowest (lacks_row_at old c.extra seen (modules_by_slot_in r) c.name r.courses) slot
 
--- whether the change behind so many others is the first that can't be made, for the process in this slot
+-- whether the change after so many others is the first that can't be made, for the process in this slot
 abbrev pub is_first_stuck : Site → Direction → List ChangeForm → ℕ → ℕ → Values → Run → Bool
 is_first_stuck s mode [] n slot seen r = false
 is_first_stuck s mode (c ∷ cs) zero slot seen r = is_stuck_at (old_version s mode c.name r) c slot seen r

@@ -37,7 +37,7 @@ enum AppCall<'a> {
     Idle,
 }
 
-/// Makes a call on an application or on a child of a supervisor behind the point of no return, or raises the script's error. It
+/// Makes a call on an application or on a child of a supervisor after the point of no return, or raises the script's error. It
 /// reports whether a child was left as it is. Where it fails, the failure reports why, and whether what stood for a child was given
 /// up. It waits for processes that clients have.
 pub fn apply<R: Wait>(

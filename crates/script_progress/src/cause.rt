@@ -71,7 +71,7 @@ impl Cause {
     ghost use Rattle.script_progress.specs.Fault.{cause_name, cause_text};
     ghost use Rattle.script_progress.specs.InMemory.{cause_of};
 
-    /// The text of a cause: its name, and behind that of an error its term.
+    /// The text of a cause: its name, and after that of an error its term.
     pub fn text(&self, alloc: Global) -> Result<String, AllocError>
         ensures { IfOk result (λ s. string_bytes s ≡ cause_text (cause_of self.now)) }
     {

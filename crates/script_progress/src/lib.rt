@@ -6,7 +6,7 @@
 //! is done so far (specs/Script), why an instruction fails (specs/Fault) and how far it comes then (specs/Stops), and that it was
 //! carried out or fails (specs/Steps: `CarriesOut`, `CarriesOutLate`). A [`Failure`] reports both; [`Cause::text`] is how the cause
 //! is shown.
-//! [`apply`] makes a call behind the point of no return: an application is started or stopped, a child of a supervisor ends, goes
+//! [`apply`] makes a call after the point of no return: an application is started or stopped, a child of a supervisor ends, goes
 //! or begins again, or the script raises an error, as [`raise`] does before the point. A call that takes a child away, or begins
 //! it again, leaves one that is up as it is, and `apply` reports which it did, since what the rest of a script does goes by that
 //! (`carried`). Where it fails, of the progress only what is held is said, so that it can be given back.

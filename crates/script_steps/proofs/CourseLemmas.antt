@@ -30,7 +30,7 @@ pub each_push : (op : Operation) (names : List (List ℕ)) (n : List ℕ) (users
 each_push op [] n users cs = refl
 each_push op (m ∷ ms) n users cs = each_push op ms n users (on_module users m op cs)
 
--- a process that isn't held behind a suspension wasn't before it
+-- a process that isn't held after a suspension wasn't before it
 free_at : (a b : Bool) (c : Course) → (a && not (is_held (if b then course_after suspend c else c).hold)) ≡ true → (a && not (is_held c.hold)) ≡ true
 free_at true true c e = absurd (true≢false (sym e))
 free_at false true c e = absurd (true≢false (sym e))

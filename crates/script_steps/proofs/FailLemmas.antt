@@ -20,7 +20,7 @@ use Rattle.script_steps.specs.Steps.{goes_by_looks}
 use Rattle.script_progress.proofs.CallLemmas.{early_error, error_fault, error_memory, error_on_no_child}
 use Rattle.script_progress.proofs.SeenLemmas.{cause_seen, seen_in}
 
--- behind the point of no return, one that is on no child fails by what is seen now
+-- after the point of no return, one that is on no child fails by what is seen now
 pub late_of : {X : Type 0} (s : Site) (past : Past) (i : Instruction) (r : Result X Failure) (a : ProgressForm) (tree : List App) (v w : View) → AreLonger v w → CarriesOut s past false i r a tree v w
     → CarriesOutLate s past i (on_no_child r) a tree v w
 late_of s past i (Ok x) a tree v w longer is = is

@@ -58,7 +58,7 @@ plain_carried s past plain names a hs tree v w done longer follow = (
       }),
 )
 
--- Nothing is done here for old code, nor for a restart: it is behind the script's end.
+-- Nothing is done here for old code, nor for a restart: it is after the script's end.
 abbrev pub is_idle : Instruction → Bool
 is_idle (purge names) = true
 is_idle restart_emulator = true

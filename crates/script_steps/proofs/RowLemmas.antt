@@ -3,7 +3,7 @@ use Rattle.std.proofs.Common.{◌≡◌, ℕ, ◌<◌, ◌+◌, List, [], ◌∷
 use Rattle.std.proofs.lemmas.List.{drop_more, map-append, map_more, take-append-drop}
 use Rattle.std.specs.List.{AllByRecursion}
 
--- what stands in front of a place, at it, and behind it
+-- what stands in front of a place, at it, and after it
 pub parted : {X Y : Type 0} (f : X → Y) (xs : List X) (i : ℕ) (x : X) → i < length xs → x ≡ get_or xs i x
     → map f xs ≡ map f (take i xs) ++ (f x ∷ map f (drop (i + 1) xs))
 parted f xs i x within at =

@@ -91,7 +91,7 @@ asks_among : (f : List ℕ → Bool) (front : List (List ℕ)) (n : List ℕ) (r
 asks_among f [] n rest e = ap (λ (b : Bool). b || list_any f rest) e
 asks_among f (m ∷ front) n rest e = ap (λ (b : Bool). f m || b) (asks_among f front n rest e) ∙ or_true (f m)
 
--- one that isn't held behind the suspension of others wasn't before
+-- one that isn't held after the suspension of others wasn't before
 pub suspended_asks : (ss : List Suspension) (i : ℕ) (s : Suspension) (users : ModulesBySlot) (cs : Courses) → i < length ss → s ≡ get_or ss i s
     → has_free_user users (suspension_of s).name (on_each course.Operation.suspend (suspended_in (map suspension_of (take i ss))) users cs) ≡ true
     → list_any (λ n. has_free_user users n cs) (suspended_in (map suspension_of ss)) ≡ true
@@ -388,7 +388,7 @@ pub mode_is : (m : Option Direction) → unwrap_or m Up ≡ mode_of m
 mode_is None = refl
 mode_is (Some d) = refl
 
--- what was done behind some of the changes
+-- what was done after some of the changes
 abbrev pub past_changes : Site → Direction → List ChangeForm → Past → Past
 past_changes s mode cs past = record past { run = changed s mode cs past.run }
 
@@ -396,7 +396,7 @@ behind_first : (b : Bool) (o p q : Option Cause) → (o ≡ None → p ≡ q) �
 behind_first true o p q others e = absurd (cc e)
 behind_first false o p q others e = others e
 
--- behind changes that can be made, the others
+-- after changes that can be made, the others
 pub fault_behind : (s : Site) (mode : Direction) (front rest : List ChangeForm) (seen : Values) (r : Run) → change_fault s mode front seen r ≡ None
     → change_fault s mode (front ++ rest) seen r ≡ change_fault s mode rest seen (changed s mode front r)
 fault_behind s mode [] rest seen r none = refl
@@ -425,7 +425,7 @@ first_behind s mode (d ∷ front) c rest slot seen r none =
     first_behind s mode front c rest slot seen next both.1
     ∙ ap (λ (b : Bool). not b && is_first_stuck s mode (front ++ (c ∷ rest)) (length front) slot seen next) (sym both.0)
 
--- where those in front can be made, it asks for memory as it does behind them
+-- where those in front can be made, it asks for memory as it does after them
 asks_behind : (s : Site) (mode : Direction) (front : List ChangeForm) (c : ChangeForm) (rest : List ChangeForm) (seen : Values) (r : Run) → change_fault s mode front seen r ≡ None
     → change_asks s mode c (changed s mode front r) ≡ true → changes_ask s mode (front ++ (c ∷ rest)) seen r ≡ true
 asks_behind s mode [] c rest seen r none asks =

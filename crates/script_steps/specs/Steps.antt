@@ -49,7 +49,7 @@ GivesTable past early name (Err e) hs v =
     × AllFollow past.first (load_within early name (worker_in (module_named name past.run.fetched)) e.slot (modules_by_slot_in past.run) past.run.courses) hs v
     × (is_memory (cause_of e.cause) ≡ true → table_fault (worker_in (module_named name past.run.fetched)) (modules_by_slot_in past.run) name ≡ None)
 
--- The change of code can't be made, behind so many others, for the process in this slot.
+-- The change of code can't be made, after so many others, for the process in this slot.
 abbrev pub FailsToChange : Site → Past → Direction → ℕ → ChangeForm → Failure → ProgressForm → View → Type 0
 FailsToChange s past mode number c e a v =
     IsCause (change_fault s mode (c ∷ []) (values_seen v) past.run) (cause_of e.cause) × (e.modules ≡ number)

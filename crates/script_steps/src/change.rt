@@ -40,7 +40,7 @@ pub(crate) fn change_code(
     Ok(())
 }
 
-// One change of code, behind so many others.
+// One change of code, after so many others.
 fn change_once(
     progress: &mut Progress,
     alloc: Global,

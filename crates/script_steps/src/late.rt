@@ -1,4 +1,4 @@
-//! The instructions that may stand behind the point of no return.
+//! The instructions that may stand after the point of no return.
 ghost use Rattle.std.specs.Prelude.{◌≡◌, false};
 ghost use Rattle.relup_instruction.specs.Instruction.{instruction_of};
 ghost use Rattle.script_progress.specs.InMemory.{site_of};
@@ -17,7 +17,7 @@ use script_progress::{Failure, Progress, Site, apply, on_no_child};
 use std::alloc::Global;
 use std::sync::Wait;
 
-/// Carries out an instruction that may stand behind the point of no return, and reports whether the child that it is on, if it
+/// Carries out an instruction that may stand after the point of no return, and reports whether the child that it is on, if it
 /// is on one, was left as it is. By those before it, and by what was reported of them, the caller's proof names what was done. It
 /// waits for processes that clients have.
 pub fn carry_out_late<R: Wait>(

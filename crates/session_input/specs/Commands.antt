@@ -56,7 +56,7 @@ pub data ParsedLine : Type 0 where
   file_begins : List ℕ → ParsedLine
   whole_command : Command → ParsedLine
 
--- The words behind a command's own, by their kind: none, one path, or one version. A path is not empty.
+-- The words after a command's own, by their kind: none, one path, or one version. A path is not empty.
 abbrev pub without_words : List (List ℕ) → ParsedLine → ParsedLine
 without_words [] parsed = parsed
 without_words words parsed = whole_command bad
@@ -88,7 +88,7 @@ change_named word vsn =
     else if bytes_eq word (codes "reboot_old") then reboot_old vsn
     else bad
 
--- what such a word says with the words behind it
+-- what such a word says with the words after it
 abbrev pub parse_change : List ℕ → List (List ℕ) → ParsedLine
 parse_change word words = with_word (version_in words) (λ vsn. whole_command (change_named word vsn))
 
@@ -112,7 +112,7 @@ abbrev pub relup_of : Option (List ℕ) → Option (List (List ℕ)) → Option 
 relup_of (Some new) (Some ups) (Some downs) = relup new ups downs
 relup_of new ups downs = bad
 
--- what the word of such a request says with the words behind it
+-- what the word of such a request says with the words after it
 abbrev pub parse_relup : List (List ℕ) → ParsedLine
 parse_relup (new ∷ ups ∷ downs ∷ []) = whole_command (relup_of (path_of new) (paths_of ups) (paths_of downs))
 parse_relup words = whole_command bad
@@ -153,7 +153,7 @@ abbrev pub flood_of : List ℕ → List ℕ → Option ℕ → Option ℕ → Co
 flood_of app id (Some input) (Some times) = if names_process app id then flood app id input times else bad
 flood_of app id input times = bad
 
--- what the word of such a command says with the words behind it
+-- what the word of such a command says with the words after it
 abbrev pub parse_peek : List (List ℕ) → ParsedLine
 parse_peek (app ∷ id ∷ []) = whole_command (peek_of app id)
 parse_peek words = whole_command bad
@@ -166,7 +166,7 @@ abbrev pub parse_flood : List (List ℕ) → ParsedLine
 parse_flood (app ∷ id ∷ input ∷ times ∷ []) = whole_command (flood_of app id (input_of input) (times_of times))
 parse_flood words = whole_command bad
 
--- what the word of a command on a file says with the words behind it
+-- what the word of a command on a file says with the words after it
 abbrev pub parse_path_command : List ℕ → List (List ℕ) → ParsedLine
 parse_path_command word words =
     if bytes_eq word (codes "file") then with_word (path_in words) file_begins
@@ -175,7 +175,7 @@ parse_path_command word words =
     else if bytes_eq word (codes "relup") then parse_relup words
     else parse_change word words
 
--- what the word of a command on a process says with the words behind it
+-- what the word of a command on a process says with the words after it
 abbrev pub parse_process_command : List ℕ → List (List ℕ) → ParsedLine
 parse_process_command word words =
     if bytes_eq word (codes "peek") then parse_peek words
@@ -183,7 +183,7 @@ parse_process_command word words =
     else if bytes_eq word (codes "flood") then parse_flood words
     else parse_path_command word words
 
--- what a command's word says with the words behind it
+-- what a command's word says with the words after it
 abbrev pub parse_command : List ℕ → List (List ℕ) → ParsedLine
 parse_command word words =
     if bytes_eq word (codes "boot") then without_words words (whole_command boot)
@@ -214,11 +214,11 @@ parse_line line =
     else if is_utf8 line then parse_words (words_of line)
     else whole_command bad
 
--- the line behind the last line of a file
+-- the line after the last line of a file
 abbrev pub is_end : List ℕ → Bool
 is_end line = bytes_eq line (codes ".end")
 
--- what a line that says this makes of the commands after it, or of the file that begins behind it
+-- what a line that says this makes of the commands after it, or of the file that begins after it
 abbrev pub put_parsed : ParsedLine → Feed Command → (List ℕ → Feed Command) → Feed Command
 put_parsed blank rest file_at = rest
 put_parsed (file_begins path) rest file_at = file_at path
@@ -231,7 +231,7 @@ abbrev mutual
   commands_of cut = cut
   commands_of (next l ls) = put_parsed (parse_line l) (commands_of ls) (λ path. commands_behind path [] ls)
 
-  -- those behind a file of which these bytes are there already
+  -- those after a file of which these bytes are there already
   pub commands_behind : List ℕ → List ℕ → Feed (List ℕ) → Feed Command
   commands_behind path bs over = next bad over
   commands_behind path bs cut = cut

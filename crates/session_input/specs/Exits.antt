@@ -10,7 +10,7 @@ exit_status Write = 1
 exit_status NoMemory = 3
 exit_status Limit = 4
 
--- what stands on standard error behind the program's name
+-- what stands on standard error after the program's name
 abbrev pub exit_text : SessionError → List ℕ
 exit_text Read = codes "input or output failed"
 exit_text Write = codes "input or output failed"

@@ -37,7 +37,7 @@ impl SessionError {
         }
     }
 
-    /// What such a program reports behind its name.
+    /// What such a program reports after its name.
     pub fn exit_text(self) -> &'static str
         ensures { result.now ≡ exit_text self }
     {

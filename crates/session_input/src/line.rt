@@ -38,7 +38,7 @@ impl Line {
         Ok(())
     }
 
-    /// Whether it stands behind the last line of a file.
+    /// Whether it stands after the last line of a file.
     pub fn is_end(&self) -> bool
         ensures { (most : ℕ) (l : List ℕ) → 4 ≤ most → IsKept most self.now l → result ≡ is_end l }
     {

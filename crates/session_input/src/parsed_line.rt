@@ -66,7 +66,7 @@ impl ParsedLine {
         }
     }
 
-    // What a command's word says with the words behind it, each by its kind.
+    // What a command's word says with the words after it, each by its kind.
     fn of_command(alloc: Global, word: &str, words: &[&str]) -> Result<ParsedLine, AllocError>
         ensures { IfOk result (λ parsed.
             parsed_line_of parsed ≡ parse_command word.now (map (λ word. word.now) words.now)) }
@@ -82,7 +82,7 @@ impl ParsedLine {
         }
     }
 
-    // What the word of a command on a process says with the words behind it.
+    // What the word of a command on a process says with the words after it.
     fn of_process_command(
         alloc: Global,
         word: &str,
@@ -99,7 +99,7 @@ impl ParsedLine {
         }
     }
 
-    // What the word of a command on a file says with the words behind it.
+    // What the word of a command on a file says with the words after it.
     fn of_path_command(alloc: Global, word: &str, words: &[&str]) -> Result<ParsedLine, AllocError>
         ensures { IfOk result (λ parsed. parsed_line_of parsed
             ≡ parse_path_command word.now (map (λ word. word.now) words.now)) }
@@ -113,7 +113,7 @@ impl ParsedLine {
         }
     }
 
-    // What the word of a file says with the words behind it.
+    // What the word of a file says with the words after it.
     fn of_file(alloc: Global, words: &[&str]) -> Result<ParsedLine, AllocError>
         ensures { IfOk result (λ parsed. parsed_line_of parsed
             ≡ with_word (path_within (map (λ word. word.now) words.now)) file_begins) }
@@ -124,7 +124,7 @@ impl ParsedLine {
         })
     }
 
-    // What the word of a new node says with the words behind it.
+    // What the word of a new node says with the words after it.
     fn of_create(alloc: Global, words: &[&str]) -> Result<ParsedLine, AllocError>
         ensures { IfOk result (λ parsed. parsed_line_of parsed
             ≡ with_word (path_within (map (λ word. word.now) words.now))
@@ -136,7 +136,7 @@ impl ParsedLine {
         }))
     }
 
-    // What the word of a release to take in says with the words behind it.
+    // What the word of a release to take in says with the words after it.
     fn of_set_unpacked(alloc: Global, words: &[&str]) -> Result<ParsedLine, AllocError>
         ensures { IfOk result (λ parsed. parsed_line_of parsed
             ≡ with_word (path_within (map (λ word. word.now) words.now))
@@ -148,7 +148,7 @@ impl ParsedLine {
         }))
     }
 
-    // What the word of a relup's request says with the words behind it.
+    // What the word of a relup's request says with the words after it.
     fn of_relup(alloc: Global, words: &[&str]) -> Result<ParsedLine, AllocError>
         ensures { IfOk result (λ parsed.
             parsed_line_of parsed ≡ parse_relup (map (λ word. word.now) words.now)) }
@@ -159,7 +159,7 @@ impl ParsedLine {
         }
     }
 
-    // What the word of a peek says with the words behind it.
+    // What the word of a peek says with the words after it.
     fn of_peek(alloc: Global, words: &[&str]) -> Result<ParsedLine, AllocError>
         ensures { IfOk result (λ parsed.
             parsed_line_of parsed ≡ parse_peek (map (λ word. word.now) words.now)) }
@@ -170,7 +170,7 @@ impl ParsedLine {
         }
     }
 
-    // What the word of a call says with the words behind it.
+    // What the word of a call says with the words after it.
     fn of_call(alloc: Global, words: &[&str]) -> Result<ParsedLine, AllocError>
         ensures { IfOk result (λ parsed.
             parsed_line_of parsed ≡ parse_call (map (λ word. word.now) words.now)) }
@@ -183,7 +183,7 @@ impl ParsedLine {
         }
     }
 
-    // What the word of a flood says with the words behind it.
+    // What the word of a flood says with the words after it.
     fn of_flood(alloc: Global, words: &[&str]) -> Result<ParsedLine, AllocError>
         ensures { IfOk result (λ parsed.
             parsed_line_of parsed ≡ parse_flood (map (λ word. word.now) words.now)) }
@@ -197,7 +197,7 @@ impl ParsedLine {
         }
     }
 
-    // What the word of a command on a listed release says with the words behind it.
+    // What the word of a command on a listed release says with the words after it.
     fn of_change(alloc: Global, word: &str, words: &[&str]) -> Result<ParsedLine, AllocError>
         ensures { IfOk result (λ parsed.
             parsed_line_of parsed ≡ parse_change word.now (map (λ word. word.now) words.now)) }

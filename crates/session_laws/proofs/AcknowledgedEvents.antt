@@ -35,7 +35,7 @@ whole source p c unread a more full is = is
 whole source p c unwritten a more full is = absurd full
 whole source p c out_of_memory a more full is = absurd full
 
--- the first of some replies is that to the first command, and the others are those to the commands behind it
+-- the first of some replies is that to the first command, and the others are those to the commands after it
 pub next_answered : (base : Source) (files : Files) (p : Place) (c : Command) (rest : Feed Command) (ending : Ending) (a : Reply) (more : List Reply) → EndsInFull ending → Replies base files p (next c rest) ending (a ∷ more)
     → Transition (source_of base files) p c a × Replies base (files_behind files c) a.after rest ending more
 next_answered base files p c rest ending a more full right = (whole (source_of base files) p c ending a more full right.0, right.1)
@@ -79,13 +79,13 @@ finds_more (closed s) found finds = doubt_more s.known.acknowledged s.known.in_d
 finds_more (running events extent ps) found finds = ([], finds ∙ sym (append-nil events))
 finds_more (dead s) found finds = doubt_more s.known.acknowledged s.known.in_doubt found finds
 
--- so do those behind a reply
+-- so do those after a reply
 keeps_more : (p : Place) (a : Reply) → KeepsEvents p a → (between : Events) × (acknowledged_at a.after ≡ acknowledged_at p ++ (between ++ a.outcome.acknowledged))
 keeps_more p a keeps =
     let (more, is) = finds_more p keeps.found keeps.finds in
     (more, keeps.are ∙ ap (λ (l : Events). l ++ a.outcome.acknowledged) is ∙ append_assoc (acknowledged_at p) more a.outcome.acknowledged)
 
--- what is left behind a reply is left by the command or behind it
+-- what is left after a reply is left by the command or after it
 stands_for_later : (p : Place) (a : Reply) (more : List Reply) (image : List ℕ) → KeepsEvents p a → StandsForAll a.after more image → StandsForAll p (a ∷ more) image
 stands_for_later p a more image keeps of = record {
   events = of.events;
@@ -131,7 +131,7 @@ rest_right base files p commands ending (a ∷ first) rest right =
     let n = first_answered base files p commands ending a (first ++ rest) right in
     rest_right base (files_behind files n.command) a.after n.rest ending first rest n.right
 
--- behind replies from a known store it is known, its events begin with those before, and a node ran no sooner
+-- after replies from a known store it is known, its events begin with those before, and a node ran no sooner
 abbrev IsStill : Place → List Reply → Type 0
 IsStill p replies =
     IsKnown (place_after p replies) × (more : Events) × (acknowledged_at (place_after p replies) ≡ acknowledged_at p ++ more)
@@ -238,7 +238,7 @@ module _ {D : Type 0} (v : Device D) (laws : IsDevice v) where
         moments = session_images base fs (place_after p first) left ending rest mid new right_then known_then then behind;
       }
 
-  -- the disk behind a session
+  -- the disk after a session
   pub handed_back : (p : Place) (replies : List Reply) (old new : D) → Executes v p replies old new → Holds v (place_after p replies) new
   handed_back p [] old new (leaves, then, counted) = then
   handed_back p (a ∷ more) old new (mid, happens, leads) = handed_back a.after more mid new leads

@@ -209,7 +209,7 @@ files_line (Some why) good = reported_line why good
 abbrev IsLineName : Library → Type 0
 IsLineName l = is_one_line l.app.name ≡ true
 
--- the name of a library that differs, or what is reported behind it
+-- the name of a library that differs, or what is reported after it
 difference_line : (es : Releases) (ls : List Library) (o : Option Refusal) → AllByRecursion IsLineName ls → OrNone ReportsLine o → ReportsFilesLine (option_or (difference ls es) o)
 difference_line es [] o names good = files_line o good
 difference_line es (l ∷ ls) o names good = go (differs es l) (difference_line es ls o names.1 good)

@@ -47,7 +47,7 @@ use Rattle.rel_session.proofs.Contradiction.{never}
 use Rattle.session_laws.proofs.InstallationLemmas.{each_reply}
 use Rattle.session_laws.proofs.InstallLines.{append_left, done_or_failed, restart_first, reports_ok}
 
--- what an answer reports: that the command was done, that the device failed, within a boot or not, that a script failed behind its
+-- what an answer reports: that the command was done, that the device failed, within a boot or not, that a script failed after its
 -- point of no return, or that nothing was done
 data Report : Type 0 where
   it_is_done : Report
@@ -65,7 +65,7 @@ report_of (x ∷ s) =
     else if bytes_eq (take 16 (x ∷ s)) (codes "error handler 15") then script_broke
     else nothing_done
 
--- the outcome, and the kind of the place behind it
+-- the outcome, and the kind of the place after it
 pub record Effect : Type 0 where
   pub outcome : CommandOutcome
   pub kind : Kind
@@ -92,7 +92,7 @@ changed runs c it_is_done = effect (done (c.event ∷ [])) runs
 changed runs c it_failed = effect (failed_with (Some c.event)) fails
 changed k c t = effect nothing k
 
--- An installation without a restart is done on a node that runs; a script that failed behind its point of no return leaves it dead.
+-- An installation without a restart is done on a node that runs; a script that failed after its point of no return leaves it dead.
 abbrev installing : Kind → List ℕ → Report → Effect
 installing runs vsn it_is_done = effect (done (installed vsn ∷ [])) runs
 installing runs vsn it_failed = effect (failed_with (Some (installed vsn))) fails
@@ -191,7 +191,7 @@ changes : (events : Events) (extent : Extent) (ps : Processes) (c : Transition.C
 changes events extent ps c l (Some why) o plain a is = effect_as (changed runs c) a _ is (sym (ap (changed runs c) (plain_files why)))
 changes events extent ps c l None o plain a is = commits c.event (changed runs c) refl refl events extent ps (c.size l) o _ plain (λ x a is. effect_as (changed runs c) a _ is refl) a is
 
--- the boot behind a commit
+-- the boot after a commit
 boots_behind : (vsn : List ℕ) (s : Stored) (a b : Reply) → Transition.BootsStore s b → a ≡ behind (reboot_old vsn) b → HasEffect (rebooted runs vsn) a
 boots_behind vsn s a b (inl (events, extent, has, (list, after, is))) reported = effect_as (rebooted runs vsn) a _ (reported ∙ ap (behind (reboot_old vsn)) is) refl
 boots_behind vsn s a b (inr (inl is)) reported = effect_as (rebooted runs vsn) a _ (reported ∙ ap (behind (reboot_old vsn)) is) refl
@@ -244,7 +244,7 @@ boots (closed s) a is = boots_store at_rest s a refl is
 boots (running events extent ps) a is = boots_store runs (certain events extent) a refl is
 boots (dead s) a is = boots_store fails s a refl is
 
--- the effect of a reply behind an event
+-- the effect of a reply after an event
 abbrev effect_behind : Event → Effect → Effect
 effect_behind e x =
     effect (record { acknowledged = e ∷ x.outcome.acknowledged; in_doubt = x.outcome.in_doubt; failed = x.outcome.failed }) x.kind

@@ -54,7 +54,7 @@ use Rattle.rel_session.proofs.ListLemmas.{current-booted, list_after-push}
 use Rattle.rel_session.proofs.ExtentLemmas.{booted_reach, compacted_twice, none_rebooted, releases-booted}
 use Rattle.rel_session.proofs.LoopLemmas.{replies_next}
 
--- Where the device does not fail, the place behind a reply is one of these again.
+-- Where the device does not fail, the place after a reply is one of these again.
 pub data IsFair : Place → Type 0 where
   of_raw : (x : List ℕ) → IsFair (raw x)
   rests : (ran events : Events) (extent : Extent) (list : Releases) → BeginWith ran events → list_after events ≡ Some list → IsFair (closed (at_rest_since ran events extent))
@@ -91,7 +91,7 @@ reported_reply P text p is fair = fair_reply P (reply text nothing p) is refl fa
 mapped : (P Q : Reply → Type 0) → ((a : Reply) → P a → Q a) → Has P → Has Q
 mapped P Q f has = record { given = has.given; is = f has.given has.is; works = has.works; fair = has.fair; compact = has.compact }
 
--- how far the store reaches behind a commit, once it was compacted
+-- how far the store reaches after a commit, once it was compacted
 abbrev reach : Events → Extent → Event → ℕ → Extent
 reach events extent e size = compacted (extent_behind extent size) (releases_after (events ++ e ∷ []))
 
@@ -112,7 +112,7 @@ commits events extent ps list c size P after done = by_list (commanded c (releas
     by_list (Err why) e = reported_reply _ _ _ refl (runs events extent ps list after)
     by_list (Ok grown) e = by_room grown e (fits_or_not extent size)
 
--- so short it is behind a commit
+-- so short it is after a commit
 stays_compact : (events : Events) (extent : Extent) (e : Event) (size : ℕ) → reach events extent e size ≡ compacted (reach events extent e size) (releases_after (events ++ e ∷ []))
 stays_compact events extent e size = compacted_twice (extent_behind extent size) (releases_after (events ++ e ∷ []))
 
@@ -195,7 +195,7 @@ changed p c (rests ran events extent list since after) = reported_reply _ _ _ re
 changed p c (died ran events extent list since after) = reported_reply _ _ _ refl (died ran events extent list since after)
 changed p c (runs events extent ps list after) = changes events extent ps list c (c.files (releases_after events)) after
 
--- Behind an installation with a restart the node boots: it starts a one-shot, or the store is as short as it was.
+-- After an installation with a restart the node boots: it starts a one-shot, or the store is as short as it was.
 restart_compact : (events : Events) (x : Extent) → x ≡ compacted x (releases_after events) → (b : Reply) → Transition.AnswersBoot events x b → RunsOneShot b.after ⊎ IsCompact b.after
 restart_compact events x compact b (list, after, is) = by_one_shot (has_one_shot (releases_after events)) refl
   where

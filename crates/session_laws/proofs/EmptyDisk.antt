@@ -93,7 +93,7 @@ first_event base files p commands ending (b ∷ first) a rest empty right (worke
     let there = still_empty b (left_on_empty (source_of base files) p n.command b empty n.is) worked nothing in
     first_event base (files_behind files n.command) b.after n.rest ending first a rest there n.right works none some
 
--- the store is known behind such a reply
+-- the store is known after such a reply
 becomes_known : (p : Place) (first : List Reply) (a : Reply) → a.outcome.acknowledged ≢ [] → BecomesKnown p (first ++ a ∷ [])
 becomes_known p [] a some = inl (inr some)
 becomes_known p (b ∷ first) a some = inr (becomes_known b.after first a some)

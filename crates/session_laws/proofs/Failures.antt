@@ -75,12 +75,12 @@ boots_store s a (inl (events, extent, has, (list, after, is))) = plain a _ is (i
 boots_store s a (inr (inl is)) = plain a _ is (inr (refl, inr (inl refl)))
 boots_store s a (inr (inr (events, extent, has, is))) = plain a _ is (inr (refl, inr (inl refl)))
 
--- a boot behind a commit
+-- a boot after a commit
 boots_or_not : (s : Stored) (a : Reply) → Transition.BootsOrNot s a → IsPlain a
 boots_or_not s a (inl boot) = boots_store s a boot
 boots_or_not s a (inr is) = plain a _ is (inl refl)
 
--- a boot behind an installation
+-- a boot after an installation
 restarts : (vsn : List ℕ) (list : Releases) (f : FoundForm) (ps : Processes) (s : Stored) (b : Reply) → Transition.BootsOrNot s b → IsPlain (restarted_reply vsn list f ps b)
 restarts vsn list f ps s b (inl (inl (events, extent, has, (then, after, is)))) = subst (λ (t : Reply). IsPlain (restarted_reply vsn list f ps t)) (sym is) (inl refl)
 restarts vsn list f ps s b (inl (inr (inl is))) =

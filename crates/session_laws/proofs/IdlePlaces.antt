@@ -26,7 +26,7 @@ use Rattle.session_laws.proofs.ActionLemmas.{kind_of, runs_node}
 use Rattle.rel_session.proofs.ExtentLemmas.{has_only}
 use Rattle.rel_session.proofs.ListLemmas.{list_after-push}
 
--- what a boot finds: a store, with the list that it leads to, if there is one, and how far the store reaches behind it; or none
+-- what a boot finds: a store, with the list that it leads to, if there is one, and how far the store reaches after it; or none
 -- that it takes, with the line that says why, and whether the bytes begin as a store does
 pub data Found : Type 0 where
   listed : Option Releases → Extent → Found

@@ -210,7 +210,7 @@ line_plain : (l : List ℕ) → is_one_line l ≡ true → IsPlainLine (parse_li
 line_plain l line =
     either (nat_lt most_line (length l)) (whole_command bad) _ tt (either (is_blank l) blank _ tt (either (is_utf8 l) (parse_words (words_of l)) (whole_command bad) (words_plain (words_of l) (split_plain 32 l line)) tt))
 
--- the commands of lines, and those behind a file that began
+-- the commands of lines, and those after a file that began
 commands_plain : (ls : Feed (List ℕ)) → AreFeedLines ls → HaveLinePaths (commands_of ls) × ((path bs : List ℕ) → HaveLinePaths (commands_behind path bs ls))
 commands_plain over lines = (tt, λ path bs. (tt, tt))
 commands_plain cut lines = (tt, λ path bs. tt)

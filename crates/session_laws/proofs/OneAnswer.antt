@@ -138,7 +138,7 @@ one_fits : {T : Type 0} (exact : Bool) (x y : Extent) (size : ℕ) (b : Reply) �
 one_fits true x y size b near asks fits over_it is = absurd (over_it (subst (λ z. HasSpace z size) (near refl) fits))
 one_fits false x y size b near asks fits over_it is = absurd (asks.1 refl is)
 
--- Behind a commit stores reach equally far that did so before, where they are as short as a compaction leaves them.
+-- After a commit stores reach equally far that did so before, where they are as short as a compaction leaves them.
 reach_alike : (base other x y : Extent) (l m : Releases) → base ≡ other → l ≡ m → x ≡ compacted base l → y ≡ compacted other m → x ≡ y
 reach_alike base other x y l m near same here there = let both : compacted base l ≡ compacted other m = λ k. compacted (near k) (same k) in here ∙ (both ∙ sym there)
 
@@ -230,11 +230,11 @@ module _ (exact : Bool) (a b : Reply) (both : Fine a b) where
   boots laws p q (both_idle r s f g here there near) is also = boots_found r s f g (both_idle r s f g here there near) near (boots_as laws r f a both.0 here is) (boots_as laws s g b both.1 there also)
   boots laws p q (both_run events others extent stop ps qs same near one) is also = stores_alike events others extent stop same near is also
 
--- replies behind an event
+-- replies after an event
 behind_same : (exact : Bool) (e : Event) (x y : Reply) → Same exact x y → Same exact (behind e x) (behind e y)
 behind_same exact e x y (reported, outcomes, then) = (reported, ap (λ (o : CommandOutcome). (behind e (record { answer = []; outcome = o; after = x.after })).outcome) outcomes, then)
 
--- and behind a line
+-- and after a line
 with_text_same : (exact : Bool) (line : List ℕ) (x y : Reply) → Same exact x y → Same exact (with_text line x) (with_text line y)
 with_text_same exact line x y (reported, outcomes, then) = (ap (λ t. line ++ t) reported, outcomes, then)
 
@@ -249,7 +249,7 @@ rests events x r free fine small (inl (es, n, has, (list, after, reported))) =
     subst (λ l. x ≡ compacted x (releases_after l)) only.0 (subst (λ y. y ≡ compacted y (releases_after es)) only.1 (compact ∙ booted_reach n es none))
 rests events x r free fine small (inr fails) = boot_failure r _ fails fine
 
--- Behind a boot that starts no one-shot none is current.
+-- After a boot that starts no one-shot none is current.
 none_runs_once : (events : Events) (x : Extent) (r : Reply) → has_one_shot (releases_after events) ≡ false → r.outcome.failed ≡ false → Transition.BootsStore (certain events x) r → RunsOneShot r.after → ⊥
 none_runs_once events x r free fine (inl (es, n, has, (list, after, reported))) once =
     let only = has_only events events es x n has in
@@ -258,7 +258,7 @@ none_runs_once events x r free fine (inl (es, n, has, (list, after, reported))) 
     let lost : true ≡ false = sym here ∙ ap has_current (releases-booted es) ∙ current-booted (releases_after es) ∙ none in cc
 none_runs_once events x r free fine (inr fails) once = boot_failure r _ fails fine
 
--- how far the store reaches behind an installation with a restart, by the boot behind it
+-- how far the store reaches after an installation with a restart, by the boot after it
 restarted_reach : (r s : Reply) (events : Events) (base x : Extent) (vsn : List ℕ) (l : Releases) (f : FoundForm) (ps : Processes) → r.outcome.failed ≡ false → IsSmall r → MayReach base (releases_after (events ++ restart_installed vsn ∷ [])) x
     → Transition.BootsStore (restarted events x vsn) s → r ≡ restarted_reply vsn l f ps s → x ≡ compacted base (releases_after (events ++ restart_installed vsn ∷ []))
 restarted_reach r s events base x vsn l f ps fine small reach boot is = by_one_shot (has_one_shot (releases_after all)) refl

@@ -1,4 +1,4 @@
--- Behind each reply the modules of processes have versions.
+-- After each reply the modules of processes have versions.
 use Rattle.std.proofs.Common.{◌≡◌, inl, inr, ℕ, Bool, true, false, List, [], ◌∷◌, ◌++◌, Option, Some, None, Result, Ok, Err, refl, sym, subst}
 use Rattle.std.specs.List.{AllByRecursion}
 use Rattle.library.specs.Library.{IsLibrary}
@@ -35,7 +35,7 @@ use Rattle.session_laws.proofs.InstallationLemmas.{each_reply}
 use Rattle.rel_session.proofs.ListLemmas.{list_after-push}
 use Rattle.session_laws.proofs.Versions.{OfList, of_image, list_versions, listed_versions, stored_versions, certain_versions}
 
--- the place behind a reply has such versions
+-- the place after a reply has such versions
 abbrev KeepsVersions : Reply → Type 0
 KeepsVersions a = HasModuleVersionsAt a.after
 

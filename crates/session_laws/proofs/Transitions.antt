@@ -57,7 +57,7 @@ keeps_as p a b is keeps = subst (KeepsEvents p) (sym is) keeps
 still_as : (p : Place) (answer : List ℕ) (a : Reply) → a ≡ reply answer nothing p → KeepsEvents p a
 still_as p answer a is = keeps_as p a (reply answer nothing p) is (keeps_still p (reply answer nothing p) refl refl)
 
--- one of a known store, behind which it is known too
+-- one of a known store, after which it is known too
 keeps_known : (p : Place) (a : Reply) (found : Events) → Finds p found → acknowledged_at a.after ≡ found ++ a.outcome.acknowledged → IsKnown a.after → BeginWith (ran_at p) (ran_at a.after) → KeepsEvents p a
 keeps_known p a found finds are known ran = record { found = found; finds = finds; are = are; known = λ k. known; ran = ran }
 
@@ -114,7 +114,7 @@ boots_store p s a finds here ran (inl (events, extent, has, is)) = booted p even
 boots_store p s a finds here ran (inr (inl is)) = failed_as s _ (Some booting) p a here ran is
 boots_store p s a finds here ran (inr (inr (events, extent, has, is))) = failed_as (uncertain_boot s.known.ran events extent) _ (Some booting) p a (finds events extent has) ran is
 
--- behind an event that was committed
+-- after an event that was committed
 keeps_behind : (events : Events) (extent : Extent) (ps : Processes) (then : Extent) (e : Event) (b : Reply) → KeepsEvents (closed (certain (events ++ e ∷ []) then)) b → KeepsEvents (running events extent ps) (behind e b)
 keeps_behind events extent ps then e b keeps =
     let found : keeps.found ≡ events ++ e ∷ [] = ⊎_elim (λ is. is) (λ is. is) keeps.finds in
@@ -122,7 +122,7 @@ keeps_behind events extent ps then e b keeps =
     (keeps.are ∙ ap (λ (l : Events). l ++ b.outcome.acknowledged) found ∙ append_assoc events (e ∷ []) b.outcome.acknowledged) (keeps.known (inl tt))
     (with_first events (events ++ e ∷ []) (ran_at b.after) (e ∷ [], refl) keeps.ran)
 
--- a reply keeps them too whose answer stands behind a text
+-- a reply keeps them too whose answer stands after a text
 keeps_text : (p : Place) (text : List ℕ) (a : Reply) → KeepsEvents p a → KeepsEvents p (with_text text a)
 keeps_text p text a keeps = record { found = keeps.found; finds = keeps.finds; are = keeps.are; known = keeps.known; ran = keeps.ran }
 
@@ -134,7 +134,7 @@ boots (closed s) a is = boots_store (closed s) s a (may_have s) (inl refl) (with
 boots (running events extent ps) a is = boots_store (running events extent ps) (certain events extent) a (λ es n has. ⊎_elim (λ e. e) (λ e. e) (may_have (certain events extent) es n has)) refl (with_themselves events) is
 boots (dead s) a is = boots_store (dead s) s a (may_have s) (inl refl) (with_themselves s.known.ran) is
 
--- so does a boot behind a commit, which had no memory or replies
+-- so does a boot after a commit, which had no memory or replies
 boots_or_not : (s : Stored) (b : Reply) → Transition.BootsOrNot s b → KeepsEvents (closed s) b
 boots_or_not s b (inl boot) = boots_store (closed s) s b (may_have s) (inl refl) (with_themselves s.known.ran) boot
 boots_or_not s b (inr is) = still_as (closed s) [] b is

@@ -45,7 +45,7 @@ FailsOnlyWithTheDevice {D} v base =
     → Replies base files p commands ending replies → Executes v p replies old new → (HasFailed v old new → ⊥)
     → NoneFails replies × NoneInDoubt replies
 
--- that the device failed in the boot behind an installation, whose own line stands before that
+-- that the device failed in the boot after an installation, whose own line stands before that
 abbrev pub ReportsBootFailureBehind : List ℕ → Type 0
 ReportsBootFailureBehind answer =
     (other : List ℕ) × (descr : Value) × (stale : List (List ℕ))
@@ -63,7 +63,7 @@ ReportsDoubt source =
     → Transition source p c a → a.outcome.in_doubt ≡ Some e
     → (a.outcome.failed ≡ true) × ReportsFailure a.answer
 
--- Nothing is in doubt of the store, and its start record was last right behind some of its events.
+-- Nothing is in doubt of the store, and its start record was last right after some of its events.
 abbrev pub HasNoDoubt : Stored → Type 0
 HasNoDoubt s = (s ≡ at_rest_since s.known.ran s.known.acknowledged s.extent) × BeginWith s.known.ran s.known.acknowledged
 
@@ -79,7 +79,7 @@ abbrev pub IsCompact : Place → Type 0
 IsCompact (running events extent ps) = extent ≡ compacted extent (releases_after events)
 IsCompact p = Unit {0}
 
--- one of these events has a record behind which a long store is compacted: each has but a boot
+-- one of these events has a record after which a long store is compacted: each has but a boot
 abbrev pub HaveRecord : Events → Type 0
 HaveRecord [] = ⊥
 HaveRecord (booting ∷ events) = HaveRecord events
@@ -90,7 +90,7 @@ abbrev pub RunsOneShot : Place → Type 0
 RunsOneShot (running events extent ps) = has_current (releases_after events) ≡ true
 RunsOneShot p = ⊥
 
--- Where these events were committed, such a store was left; behind a restart, unless its boot has started a one-shot.
+-- Where these events were committed, such a store was left; after a restart, unless its boot has started a one-shot.
 abbrev pub LeavesCompactStore : Events → Place → Type 0
 LeavesCompactStore (restart_installed v ∷ events) p = RunsOneShot p ⊎ IsCompact p
 LeavesCompactStore events p = HaveRecord events → IsCompact p

@@ -22,7 +22,7 @@ acknowledged_at (closed s) = s.known.acknowledged
 acknowledged_at (running events extent ps) = events
 acknowledged_at (dead s) = s.known.acknowledged
 
--- the events behind which the start record there was last sure to be right
+-- the events after which the start record there was last sure to be right
 abbrev pub ran_at : Place → Events
 ran_at (raw bytes) = []
 ran_at (closed s) = s.known.ran
@@ -47,7 +47,7 @@ Finds (closed s) events = MayBe s events
 Finds (running events extent ps) found = found ≡ events
 Finds (dead s) events = MayBe s events
 
--- Behind a reply the acknowledged events are those that it found, with its own at the end. A store that is known stays
+-- After a reply the acknowledged events are those that it found, with its own at the end. A store that is known stays
 -- so, and one with an acknowledged event is known. The start record was right no sooner than before.
 pub record KeepsEvents (p : Place) (a : Reply) : Type 0 where
   pub found : Events
@@ -60,12 +60,12 @@ pub record KeepsEvents (p : Place) (a : Reply) : Type 0 where
 abbrev pub EachKeeps : Source → Type 0
 EachKeeps source = (p : Place) (c : Command) (a : Reply) → MayLeave source p c a → KeepsEvents p a
 
--- where the disk stands behind these replies
+-- where the disk stands after these replies
 abbrev pub place_after : Place → List Reply → Place
 place_after p [] = p
 place_after p (a ∷ more) = place_after a.after more
 
--- These are the acknowledged events behind the replies. Behind each reply they are those that its command found, with its own at
+-- These are the acknowledged events after the replies. After each reply they are those that its command found, with its own at
 -- the end. So there are no others.
 abbrev pub HaveAll : Place → List Reply → Events → Type 0
 HaveAll p [] events = events ≡ acknowledged_at p
@@ -73,7 +73,7 @@ HaveAll p (a ∷ more) events =
     (found : Events) × Finds p found × (acknowledged_at a.after ≡ found ++ a.outcome.acknowledged) × HaveAll a.after more events
 
 -- The store may have these events at a moment of the replies: those that a command finds, with none, some or all of its own at
--- the end, in order; or those that are found behind the replies.
+-- the end, in order; or those that are found after the replies.
 abbrev pub MayBeWithin : Place → List Reply → Events → Type 0
 MayBeWithin p [] events = Finds p events
 MayBeWithin p (a ∷ more) events =
@@ -96,8 +96,8 @@ abbrev pub BecomesKnown : Place → List Reply → Type 0
 BecomesKnown p [] = IsKnown p
 BecomesKnown p (a ∷ more) = (IsKnown p ⊎ (a.outcome.acknowledged ≢ [])) ⊎ BecomesKnown a.after more
 
--- Behind the first replies of a session the acknowledged events are those before it with those of these replies. At each moment
--- from there on a crash leaves the list of events that begin with all of them. Behind these stand only what was in doubt, and
+-- After the first replies of a session the acknowledged events are those before it with those of these replies. At each moment
+-- from there on a crash leaves the list of events that begin with all of them. After these stand only what was in doubt, and
 -- what the other replies add. And it leaves a start record that is no older than when it was last right, as it is where a node
 -- runs.
 pub record KeepsAll {D : Type 0} (v : Device D) (p : Place) (first rest : List Reply) (old new : D) : Type 0 where
@@ -125,7 +125,7 @@ BeginsWhereOneEnded {D} v =
     (p : Place) (replies : List Reply) (old new : D)
     → Executes v p replies old new → Starts v (at_rest (place_after p replies)) new
 
--- the store of such bytes behind a crash: their events are acknowledged then, and none is in doubt
+-- the store of such bytes after a crash: their events are acknowledged then, and none is in doubt
 abbrev pub store_left : (p : Place) (replies : List Reply) (image : List ℕ) → StandsForAll p replies image → Stored
 store_left p replies image of = at_rest_since (ran_at p) of.events (extent_of image)
 
@@ -135,7 +135,7 @@ BeginsBehindACrash {D} v =
     (p : Place) (replies : List Reply) (image : List ℕ) (disk : D) (of : StandsForAll p replies image)
     → Only image (v.may_leave disk) → Starts v (closed (store_left p replies image of)) disk
 
--- This store is handed back behind the replies. It has all events that were acknowledged before them, and its start record is no
+-- This store is handed back after the replies. It has all events that were acknowledged before them, and its start record is no
 -- older than it was then.
 pub record IsHandedBack (p : Place) (replies : List Reply) (s : Stored) : Type 0 where
   pub is : closed s ≡ at_rest (place_after p replies)
@@ -150,8 +150,8 @@ GoesOn {D} v p replies old new Next =
     × ((image : List ℕ) (later : D) → v.left_since new (v.moment old) image → Only image (v.may_leave later)
     → (of : StandsForAll p replies image) × Next (store_left p replies image of) later)
 
--- A session may begin with this store on the disk, and so over as many sessions. Behind its replies the acknowledged events are
--- those of the store with those of the replies. Behind any of them a crash may come, or its end, and then a next session.
+-- A session may begin with this store on the disk, and so over as many sessions. After its replies the acknowledged events are
+-- those of the store with those of the replies. After any of them a crash may come, or its end, and then a next session.
 abbrev pub Lasts : {D : Type 0} → Device D → Source → ℕ → Stored → D → Type 0
 Lasts v base zero s disk = Starts v (closed s) disk
 Lasts {D} v base (suc n) s disk =

@@ -49,7 +49,7 @@ pub fn a_list_decides_what_is_answered<D: Disk, E: Disk, F: Files>()
 pub fn a_text_determines_one_run<D: Disk, F: Files>()
     ensures one { (files : F) → DeterminesOneRun (F.gives files) }
 
-    // The paths of an input's commands are as it asks, and so are the versions of a store with nothing in doubt, and those behind
+    // The paths of an input's commands are as it asks, and so are the versions of a store with nothing in doubt, and those after
     // each reply.
     ensures paths { ReadsLinePaths }
     ensures versions { KeepsVersions D.Disk }

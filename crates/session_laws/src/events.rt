@@ -8,8 +8,8 @@ use rel_disk::Disk;
 /// Each reply keeps the acknowledged events, and adds only its own, also where its command is stopped within for want of memory.
 ///
 /// At each moment of a session, ended or broken off, a crash leaves the list of events that begin with all those acknowledged before
-/// that moment. Behind these stand only the one that was in doubt, if there was one, and what later commands add, in order. And it
-/// leaves a start record that is no older than the last of the acknowledged events behind which it was right, as it is where a node
+/// that moment. After these stand only the one that was in doubt, if there was one, and what later commands add, in order. And it
+/// leaves a start record that is no older than the last of the acknowledged events after which it was right, as it is where a node
 /// runs.
 pub fn a_crash_loses_nothing_acknowledged<D: Disk, F: Files>()
     ensures replies { (files : F) → EachKeeps (F.gives files) }

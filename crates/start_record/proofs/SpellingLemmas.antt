@@ -40,7 +40,7 @@ is_utf8 v are =
     (IsAscii-append v.erts (32 ∷ (v.vsn ++ 10 ∷ [])) (IsAscii-from_all v.erts (is_ascii v.erts are.0))
     (IsAscii-cons 32 (v.vsn ++ 10 ∷ []) (omega arith) (IsAscii-append v.vsn (10 ∷ []) (IsAscii-from_all v.vsn (is_ascii v.vsn are.1)) (IsAscii-cons 10 [] (omega arith) IsAscii-nil))))
 
--- what stands before the first space, and behind it
+-- what stands before the first space, and after it
 parted : (a b c d : List ℕ) → list_all is_visible a ≡ true → list_all is_visible c ≡ true → a ++ 32 ∷ b ≡ c ++ 32 ∷ d → (a ≡ c) × (b ≡ d)
 parted [] b [] d h k e = (refl, cc)
 parted [] b (y ∷ c) d h k e =
@@ -77,7 +77,7 @@ spells_one slot v w of_v of_w = same_start v w of_v.versions of_w.versions (same
 pub text_of : (slot text rest : List ℕ) (v : Versions) → slot ≡ length text ∷ (text ++ rest) → SpellsStart slot v → text ≡ v.erts ++ 32 ∷ (v.vsn ++ 10 ∷ [])
 text_of slot text rest v read spelled = same_text slot text rest (start_text v) spelled.rest read spelled.is
 
--- the bytes that a slot's length counts stand behind it
+-- the bytes that a slot's length counts stand after it
 pub behind_length : (slot bytes : List ℕ) (n : ℕ) → length slot ≡ 128 → n ≡ get_or slot 0 0 → n ≤ 127 → bytes ≡ slice_range (take 127 (drop 1 slot)) 0 n → slot ≡ length bytes ∷ (bytes ++ drop n (drop 1 slot))
 behind_length [] bytes n long at few is = absurd (omega (arith, long))
 behind_length (b ∷ bs) bytes n long at few is =

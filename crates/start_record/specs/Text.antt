@@ -24,7 +24,7 @@ AreTooLong v = (62 < length v.erts) ⊎ (62 < length v.vsn)
 abbrev pub start_text : Versions → List ℕ
 start_text v = v.erts ++ 32 ∷ (v.vsn ++ 10 ∷ [])
 
--- The bytes of a start slot spell these versions: their text stands behind its length. What follows isn't looked at.
+-- The bytes of a start slot spell these versions: their text stands after its length. What follows isn't looked at.
 pub record SpellsStart (slot : List ℕ) (v : Versions) : Type 0 where
   pub versions : AreVersions v
   pub rest : List ℕ

@@ -155,7 +155,7 @@ others_have_slots : (o : Option NewProcess) (ps : List Preparation) (m : Member)
 others_have_slots None ps m v n w (is, same) few = subst (λ z. length (to_begin ps) ≤ free_count z) (sym same) few
 others_have_slots (Some p) ps m v n w (pid, began, is) few = let one = begins_take_one.0 p.begins v w pid began in omega (arith, one, few)
 
--- behind one that began there is one for each that is left
+-- after one that began there is one for each that is left
 pub slots_left : (left rest : List Preparation) (p : Preparation) (v : View) (m : Member) (w : View) → left ≡ p ∷ rest → IsBegun p v m w
     → length (to_begin left) ≤ free_count v → length (to_begin rest) ≤ free_count w
 slots_left left rest p v m w split begun few =

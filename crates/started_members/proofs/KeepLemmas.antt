@@ -27,7 +27,7 @@ processes_of_members_in : (bs : List Branch) → processes_among (members_in bs)
 processes_of_members_in [] = refl
 processes_of_members_in (b ∷ bs) = processes-append (branch_members b) (members_in bs) ∙ ap (λ ps. processes_of b ++ ps) (processes_of_members_in bs)
 
--- The branches that stand deeper, and those behind them, are all of them.
+-- The branches that stand deeper, and those after them, are all of them.
 deeper_and_behind : (depth : ℕ) (bs : List Branch) → deeper depth bs ++ behind_deeper depth bs ≡ bs
 deeper_and_behind depth [] = refl
 deeper_and_behind depth (b ∷ bs) = go (nat_lt depth b.member.depth) (deeper_and_behind depth bs)
@@ -66,7 +66,7 @@ children_keep name cs m bs = go (is_supervisor name m.state)
     go true = new_children_keep (one_deeper m.depth) cs bs
     go false = IsPermutation-refl _
 
--- It stays so behind one more process, or none.
+-- It stays so after one more process, or none.
 process_in_front : (o : Option StartedProcess) (ps qs : List StartedProcess) → IsPermutation ps qs → IsPermutation (process_and o ps) (process_and o qs)
 process_in_front None ps qs h = h
 process_in_front (Some p) ps qs h = IsPermutation-cons p ps qs h

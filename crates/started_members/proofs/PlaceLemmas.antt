@@ -38,7 +38,7 @@ both_parts depth (m ∷ ms) = by (nat_lt depth m.depth) (both_parts depth ms)
     by true both = ap (λ ns. m ∷ ns) both
     by false both = refl
 
--- what is known of the member behind so many others
+-- what is known of the member after so many others
 pub record IsPlace (n : ℕ) (ms : List Member) (p : Place) : Type 0 where
   pub is : ms ≡ p.before ++ (with_below p ++ p.behind)
   pub counted : n ≡ length p.before
@@ -60,7 +60,7 @@ place_is (suc n) (m ∷ ms) p is = by (place_at n ms) (place_is n ms) is
         subst (IsPlace (suc n) (m ∷ ms)) further
         (record { is = ap (λ ns. m ∷ ns) before.is; counted = ap suc before.counted; child = before.child; below = before.below })
 
--- there is a member behind so many others
+-- there is a member after so many others
 pub is_there : (n : ℕ) (ms : List Member) → n < length ms → (p : Place) × (place_at n ms ≡ Some p)
 is_there n [] inside = absurd (omega (arith, inside))
 is_there zero (m ∷ ms) inside = (first_place m ms, refl)
@@ -68,7 +68,7 @@ is_there (suc n) (m ∷ ms) inside =
     let later = is_there n ms (omega (arith, inside)) in
     (record later.0 { before = m ∷ later.0.before }, ap (one_further m) later.1)
 
--- a place behind so many members is found among all
+-- a place after so many members is found among all
 pub placed_at : (ms : List Member) (i n k : ℕ) → i ≤ length ms → k ≡ i + n → in_front (take i ms) (place_at n (drop i ms)) ≡ place_at k ms
 placed_at ms i n k few is =
     let long = length-take-le i ms few in
@@ -91,7 +91,7 @@ child_here depth id ms i m inside at deep same named =
     ∙ ap₂ (λ a b. if a && b then Some (first_place m rest) else one_further m (child_at depth id rest)) (same_number m.depth depth same) named in
     sym (placed_at ms i 0 i (omega (arith, inside)) (omega arith)) ∙ ap (in_front (take i ms)) (ap (place_at 0) split ∙ (sym found ∙ ap (child_at depth id) (sym split)))
 
--- the members behind this one
+-- the members after this one
 abbrev pub behind_place : ℕ → List Member → List Member
 behind_place i ms = take (length ms - (i + 1)) (drop (i + 1) ms)
 
@@ -115,7 +115,7 @@ few_deeper depth (m ∷ ms) = by (nat_lt depth m.depth) (few_deeper depth ms)
     by true few = omega (arith, few)
     by false few = omega arith
 
--- there are fewer below a member than behind it
+-- there are fewer below a member than after it
 pub few_below : (depth start : ℕ) (ms : List Member) → start < length ms → start + 1 + length (deeper_members depth (behind_place start ms)) ≤ length ms
 few_below depth start ms inside =
     let few = few_deeper depth (behind_place start ms) in
@@ -134,7 +134,7 @@ ranged ms o start below m inside there counted =
     counted ∙ ((λ j. length (deeper_members (place.child m j).depth (take_rest ms (start + 1) j))) ∙ ((λ j. length (deeper_members p.child.depth (drop (next j) ms))) ∙ ap length place.below)) in
     subst (λ q. AreAt q ms (Some (start, start + 1 + below))) (sym found.1 ∙ there) (record { is = place.is; start_is = place.counted; end_is = omega (arith, long) })
 
--- what stands in front of a range, in it first, and behind it
+-- what stands in front of a range, in it first, and after it
 pub record Around (p : Place) (ms : List Member) (start end : ℕ) : Type 0 where
   pub before : take start ms ≡ p.before
   pub child : slice_index_or ms start p.child ≡ p.child

@@ -37,7 +37,7 @@ state_at (Worker w) c [] = Ended
 state_at (Worker w) c (pid ∷ pids) = Process (process_of (record { child = c; table = w }) pid)
 state_at (Super s) c pids = Supervisor c.start
 
--- the places that are left to those behind it
+-- the places that are left to those after it
 abbrev pub left_behind : Table → List Pid → List Pid
 left_behind (Worker w) [] = []
 left_behind (Worker w) (pid ∷ pids) = pids

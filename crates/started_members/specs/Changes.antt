@@ -1,4 +1,4 @@
--- Members where the supervisors of a module have the children of another table, in order, and behind them those that it doesn't
+-- Members where the supervisors of a module have the children of another table, in order, and after them those that it doesn't
 -- name (OTP: supervisor, code_change/3). No process begins or ends.
 use Rattle.std.specs.Prelude.{◌≡◌, ℕ, ◌+◌, ◌<◌, Bool, List, [], ◌∷◌, length, map, min, nat_lt, remove, slice_index_or, Option, Some, None, if◌then◌else◌}
 use Rattle.std.specs.List.{find, flat_map}
@@ -31,7 +31,7 @@ abbrev pub deeper : ℕ → List Branch → List Branch
 deeper depth [] = []
 deeper depth (b ∷ bs) = if nat_lt depth b.member.depth then b ∷ deeper depth bs else []
 
--- that one, and those behind it
+-- that one, and those after it
 abbrev pub behind_deeper : ℕ → List Branch → List Branch
 behind_deeper depth [] = []
 behind_deeper depth (b ∷ bs) = if nat_lt depth b.member.depth then behind_deeper depth bs else b ∷ bs
@@ -60,7 +60,7 @@ abbrev pub without_id : List ℕ → List Branch → List Branch
 without_id id [] = []
 without_id id (b ∷ bs) = if has_id id b then bs else b ∷ without_id id bs
 
--- the children of the table, each with what stood under its id, and behind them those that it doesn't name
+-- the children of the table, each with what stood under its id, and after them those that it doesn't name
 abbrev pub new_children : ℕ → List ChildSpec → List Branch → List Branch
 new_children depth [] bs = bs
 new_children depth (c ∷ cs) bs = child_for depth c (find (has_id c.id) bs) ∷ new_children depth cs (without_id c.id bs)
@@ -81,7 +81,7 @@ branches name cs (m ∷ ms) = with_member name cs m (branches name cs ms)
 abbrev pub members_changed : List ℕ → List ChildSpec → List Member → List Member
 members_changed name cs ms = members_in (branches name cs ms)
 
--- the first of these branches with this id stands behind so many others
+-- the first of these branches with this id stands after so many others
 pub record StandsAtId (id : List ℕ) (bs : List stored.Branch) (place : ℕ) : Type 0 where
   pub inside : place < length bs
   pub there : (d : stored.Branch) → find (has_id id) (branches_of bs) ≡ Some (branch_of (slice_index_or bs place d))

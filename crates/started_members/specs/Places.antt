@@ -14,7 +14,7 @@ use Rattle.started_members.specs.Looks.{StateLookedAt}
 use Rattle.started_members.specs.Ends.{MemberEnded}
 use Rattle.started_members.specs.Members.{is_supervisor, process_in}
 
--- a child among members: those in front of it, those below it, and those behind these
+-- a child among members: those in front of it, those below it, and those after these
 pub record Place : Type 0 where
   pub before : List Member
   pub child : Member
@@ -89,7 +89,7 @@ abbrev pub ChildEndedUnless : Bool → Option Place → View → View → Type 0
 ChildEndedUnless true o v w = w ≡ v
 ChildEndedUnless false o v w = MemberEnded (option_and_then (λ (p : Place). process_in p.child) o) v w
 
--- the member behind so many others, with those below it
+-- the member after so many others, with those below it
 abbrev pub place_at : ℕ → List Member → Option Place
 place_at n [] = None
 place_at zero (m ∷ ms) = Some (first_place m ms)

@@ -1,4 +1,4 @@
--- Members for which all memory is there, before their processes begin and behind it.
+-- Members for which all memory is there, before their processes begin and after it.
 use Rattle.std.specs.Prelude.{◌≡◌, ℕ, List, [], ◌∷◌, Option, None, Some, Ok}
 use Rattle.mod_table.specs.declared.table.Table.{Table}
 use Rattle.mod_table.specs.declared.table.Table.TheVariants.{Worker, Super}

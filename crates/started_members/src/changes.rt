@@ -17,7 +17,7 @@ struct Branch {
     below: Vec<Member>,
 }
 
-/// The members where each supervisor of this module has these children, in order, and behind them those of its own that are not
+/// The members where each supervisor of this module has these children, in order, and after them those of its own that are not
 /// among these. A child is known by its id, and what stands for it stays.
 // From the last member on, so that those below a member are there before it. The first branch stands last meanwhile.
 pub fn changed_members(
@@ -90,7 +90,7 @@ fn next_deeper(branches: &mut Vec<Branch>, depth: usize) -> Option<Branch>
     branches.pop()
 }
 
-// The children that the table names, with what stood under their ids, and behind them the others.
+// The children that the table names, with what stood under their ids, and after them the others.
 fn name_children(
     alloc: Global,
     depth: usize,
@@ -185,7 +185,7 @@ fn joined(alloc: Global, branches: Vec<Branch>) -> Result<Vec<Member>, AllocErro
     Ok(members)
 }
 
-// A branch behind these members.
+// A branch after these members.
 fn with_branch(mut members: Vec<Member>, branch: Branch) -> Result<Vec<Member>, AllocError>
     ensures { IfOk result (λ ms. ms.items ≡ members.items ++ branch_members (branch_of branch)) }
 {

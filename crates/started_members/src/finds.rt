@@ -32,7 +32,7 @@ fn lower(found: Option<Pid>, pid: Pid) -> Pid
     }
 }
 
-/// Puts those of these members that run this module behind those that are there.
+/// Puts those of these members that run this module after those that are there.
 pub fn add_using(pids: &mut Vec<Pid>, members: &[Member], module: &str) -> Result<(), AllocError>
     ensures { OnOk result (pids.new.items
         ≡ pids.old.items ++ using_among «module».now (processes_among members.now)) }

@@ -28,7 +28,7 @@ pub enum MemberState {
     Supervisor(Name),
 }
 
-/// A member of an application: its top, or a child of one of its supervisors. The children of a supervisor stand behind it, each
+/// A member of an application: its top, or a child of one of its supervisors. The children of a supervisor stand after it, each
 /// with its own before the next.
 #[derive(Drop)]
 pub struct Member {

@@ -26,7 +26,7 @@ pub fn range_of_child(members: &[Member], module: &str, id: &str) -> Option<(usi
     Some((start, start + 1 + below))
 }
 
-// Behind how many of these members it stands.
+// After how many of these members it stands.
 fn place_of_child(members: &[Member], module: &str, id: &str) -> Option<usize>
     ensures inside { IfSome result (λ n. n < length members.now) }
     ensures there { option_and_then (λ n. place_at n members.now) result
@@ -41,7 +41,7 @@ fn place_of_child(members: &[Member], module: &str, id: &str) -> Option<usize>
     None
 }
 
-// Behind how many of these members the first with this id and this depth stands, before any that stands less deep.
+// After how many of these members the first with this id and this depth stands, before any that stands less deep.
 fn place_below(members: &[Member], depth: usize, id: &str) -> Option<usize>
     ensures inside { IfSome result (λ n. n < length members.now) }
     ensures there { option_and_then (λ n. place_at n members.now) result

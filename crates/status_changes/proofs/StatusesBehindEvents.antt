@@ -214,7 +214,7 @@ follow-promotion ss ts are =
     ap (λ b. ((each_is is_same ss ts || each_is is_booted ss ts) || are_installed ss ts) || b) are
     ∙ or_true ((each_is is_same ss ts || each_is is_booted ss ts) || are_installed ss ts)
 
--- the statuses behind the event follow those before it
+-- the statuses after the event follow those before it
 abbrev pub FollowBy : Event → Releases → Type 0
 FollowBy e es = follow (statuses_of (recorded es)) (statuses_of (recorded (with_statuses (status_behind e) es))) ≡ true
 

@@ -15,7 +15,7 @@ KeepsReleases (unpacked p) = ⊥
 KeepsReleases (removed v) = ⊥
 KeepsReleases e = Unit {0}
 
--- The statuses behind such an event follow those before it, as records report both.
+-- The statuses after such an event follow those before it, as records report both.
 abbrev pub EventsMakeThemFollow : Type 0
 EventsMakeThemFollow =
     (e : Event) (es next : Releases) → KeepsReleases e → IsOrderly es → step e es ≡ Some next

@@ -67,7 +67,7 @@ abbrev pub are_installed : List Status → List Status → Bool
 are_installed before behind =
     each_is is_left_or_changed before behind && nat_le (how_many_are is_installed before behind) 1 && nat_le (how_many_are is_replaced before behind) 1
 
--- One event makes these statuses of those, or they are the same. Exactly one is permanent before and behind.
+-- One event makes these statuses of those, or they are the same. Exactly one is permanent before and after.
 abbrev pub follow : List Status → List Status → Bool
 follow before behind =
     each_is is_same before behind || each_is is_booted before behind || are_installed before behind || each_is is_promoted before behind

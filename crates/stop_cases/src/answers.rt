@@ -10,7 +10,7 @@ use std::thread::Threads;
 use text_cases::{Answer, first_word, number};
 
 /// The answer in one of these modes. A text is a number and the lines of a session, parted by ` | `: those that give its files, and
-/// behind ` || ` its commands. So many of the commands go by before the first call that is cut off or fails.
+/// after ` || ` its commands. So many of the commands go by before the first call that is cut off or fails.
 ///
 /// - `stops`: the disk stops at each call in turn (src/stops.rt).
 /// - `faults`: one call of the disk fails, each in turn, and does nothing (src/faults.rt).

@@ -15,8 +15,8 @@ use std::sync::Wait;
 use text_cases::{Answer, CaseFiles, first_word};
 
 /// Appends what the commands of a session answer, with ` | ` between them, and ` / ` between the lines of an answer. Its files are a
-/// path, a blank and the bytes each. Where memory is refused to a call of a library, the answer begins with `NoMemory`, and behind
-/// a comma stands what the same call answers that is made again. A node that is dead behind a command is booted at once.
+/// path, a blank and the bytes each. Where memory is refused to a call of a library, the answer begins with `NoMemory`, and after
+/// a comma stands what the same call answers that is made again. A node that is dead after a command is booted at once.
 pub(crate) fn push_calls<H: Wait>(
     rt: &H,
     alloc: Global,
@@ -71,7 +71,7 @@ fn follow_at<H: Wait, D: Disk, F: Files>(
     }
 }
 
-// Has the node follow a command, and boots it where it is dead behind that.
+// Has the node follow a command, and boots it where it is dead after that.
 fn follow_on<H: Wait, D: Disk, F: Files>(
     rt: &H,
     alloc: Global,

@@ -59,7 +59,7 @@ fn follow_once<H: Wait, D: Disk, F: Files>(
     }
 }
 
-// Installs a release by its script. Behind one that leaves the node dead the answer of its boot is to follow.
+// Installs a release by its script. After one that leaves the node dead the answer of its boot is to follow.
 fn install<H: Wait, D: Disk>(
     rt: &H,
     alloc: Global,

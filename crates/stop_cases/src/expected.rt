@@ -5,7 +5,7 @@ use std::alloc::{AllocError, Global};
 use std::sync::Wait;
 use std::thread::Threads;
 
-/// Behind each command of a session on a disk that never fails, none of them first: what was written by then, and what a boot
+/// After each command of a session on a disk that never fails, none of them first: what was written by then, and what a boot
 /// reports.
 #[derive(Drop)]
 pub(crate) struct Expected {
@@ -16,7 +16,7 @@ pub(crate) struct Expected {
 struct Step {
     written: String,
     reported: String,
-    // what a boot reports that comes in place of the one behind a restart: none where the command has none
+    // what a boot reports that comes in place of the one after a restart: none where the command has none
     within: String,
 }
 
@@ -35,7 +35,7 @@ impl Expected {
         Ok(expected)
     }
 
-    // Notes what a session of these lines writes, and what a boot reports behind it.
+    // Notes what a session of these lines writes, and what a boot reports after it.
     fn add<H: Threads + Wait + Sync>(
         &mut self,
         rt: &H,
@@ -74,7 +74,7 @@ impl Expected {
             .map_or("", |step| step.written.as_str())
     }
 
-    /// Whether a boot may report this behind so many answers: what it reports behind these commands, or behind one more, or within
+    /// Whether a boot may report this after so many answers: what it reports after these commands, or after one more, or within
     /// that.
     pub(crate) fn explains(&self, answered: usize, boot: &str) -> bool {
         let next = answered.saturating_add(1);
@@ -93,7 +93,7 @@ impl Expected {
     }
 }
 
-// The line of the boot with which the last command of this text ended, behind a line of its own; none where it has one line.
+// The line of the boot with which the last command of this text ended, after a line of its own; none where it has one line.
 fn boot_line<'a>(text: &'a str, before: &str) -> &'a str {
     let answer = text.strip_prefix(before).unwrap_or("");
     match answer.split_once('\n') {
@@ -102,7 +102,7 @@ fn boot_line<'a>(text: &'a str, before: &str) -> &'a str {
     }
 }
 
-// What a boot reports that comes in place of this one: its line, and what stands behind it.
+// What a boot reports that comes in place of this one: its line, and what stands after it.
 fn reported_within<H: Threads + Wait + Sync>(
     rt: &H,
     alloc: Global,

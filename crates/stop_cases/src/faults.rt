@@ -8,7 +8,7 @@ use std::thread::Threads;
 use text_cases::Answer;
 
 /// Appends for how many of the disk's calls it is so, up to the first for which it isn't, that where this call fails its command
-/// is answered Device, all behind it Dead up to the next boot, and that a boot behind the session reports what it had acknowledged,
+/// is answered Device, all after it Dead up to the next boot, and that a boot after the session reports what it had acknowledged,
 /// or that with the command which failed. The calls are those from the first that the command of number `from` makes, counted from
 /// 0.
 pub(crate) fn push_faults<H: Threads + Wait + Sync>(
@@ -86,12 +86,12 @@ fn is_explained<H: Threads + Wait + Sync>(
     Ok(is_device_then_dead(rest, behind) && expected.explains(answered, boot.as_str()))
 }
 
-// Whether the first of these commands is answered Device, and each behind it Dead up to a boot.
+// Whether the first of these commands is answered Device, and each after it Dead up to a boot.
 fn is_device_then_dead(text: &str, commands: &[String]) -> bool {
     let mut lines = text.lines();
     let mut first = lines.next().unwrap_or("");
     if is_installed(first, commands) {
-        // its boot is answered behind it
+        // its boot is answered after it
         first = lines.next().unwrap_or("");
     }
     if first != "error handler 16 Device" && first != "error boot 3 Device" {

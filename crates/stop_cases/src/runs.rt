@@ -14,10 +14,10 @@ pub(crate) const CAPACITY: usize = 65_536;
 /// The bytes of its log.
 pub(crate) const LOG: usize = 4 * CAPACITY;
 
-/// What is asked behind a session: a boot, the releases, the start record, and what runs.
+/// What is asked after a session: a boot, the releases, the start record, and what runs.
 pub(crate) const BOOT: &str = "boot\nreleases\nstart\nprocs\nmodules\n";
 
-/// So behind the boot.
+/// So after the boot.
 pub(crate) const REST: &str = "releases\nstart\nprocs\nmodules\n";
 
 /// The lines of a session.
@@ -30,7 +30,7 @@ pub(crate) struct Session {
 }
 
 impl Session {
-    /// The session of a text: lines parted by ` | `, and the commands behind ` || `.
+    /// The session of a text: lines parted by ` | `, and the commands after ` || `.
     pub(crate) fn of(alloc: Global, text: &str) -> Result<Session, AllocError> {
         let (files, commands) = text.split_once(" || ").unwrap_or(("", text));
         Ok(Session {
@@ -71,7 +71,7 @@ fn push_line(lines: &mut String, line: &str) -> Result<(), AllocError> {
     lines.push('\n')
 }
 
-/// What a session of these lines writes, with the disk behind it.
+/// What a session of these lines writes, with the disk after it.
 pub(crate) fn run<H: Threads + Wait + Sync, D: Disk + Drop>(
     rt: &H,
     alloc: Global,

@@ -69,7 +69,7 @@ fn calls_of<H: Threads + Wait + Sync>(
     Ok(u64::MAX - disk.stop.left)
 }
 
-// Whether each image is, that a crash may leave behind a stop in this call.
+// Whether each image is, that a crash may leave after a stop in this call.
 fn is_explained<H: Threads + Wait + Sync>(
     rt: &H,
     alloc: Global,
@@ -85,7 +85,7 @@ fn is_explained<H: Threads + Wait + Sync>(
     Ok(explained && stopped.stop.stopped)
 }
 
-// Whether a boot of each image that a crash may leave of this disk reports what is expected behind so many answers.
+// Whether a boot of each image that a crash may leave of this disk reports what is expected after so many answers.
 fn explains_images<H: Threads + Wait + Sync>(
     rt: &H,
     alloc: Global,

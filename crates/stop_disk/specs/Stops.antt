@@ -6,11 +6,11 @@ use Rattle.stop_disk.specs.declared.stop_disk.StopDisk.{StopDisk}
 use Rattle.stop_disk.specs.declared.stop_disk.Fate.{Fate}
 use Rattle.stop_disk.specs.declared.stop_disk.Fate.TheVariants.{Passes, Stops, IsBehind}
 
--- what becomes of a call: it is passed on, the disk stops in it, or it is behind the stop
+-- what becomes of a call: it is passed on, the disk stops in it, or it is after the stop
 abbrev pub fate_of : Stop → Fate
 fate_of s = if nat_lt 0 s.left then Passes else if s.stopped then IsBehind else Stops
 
--- the stop behind a call: a call nearer, or one refusal more
+-- the stop after a call: a call nearer, or one refusal more
 abbrev pub stop_behind : Stop → Stop
 stop_behind s =
     if nat_lt 0 s.left then record s { left = s.left - 1 }

@@ -1,4 +1,4 @@
-//! A disk that stops behind so many calls.
+//! A disk that stops after so many calls.
 ghost use Rattle.std.specs.Prelude.{◌≡◌, ◌⊎◌, ◌+◌, ◌≤◌, ◌/◌, false, length, take, slice_range, IsErr, IfOk, OnOk};
 ghost use Rattle.rel_disk.specs.Damage.{overwritten, Torn, Cut, Follows, Within, Only};
 ghost use Rattle.rel_disk.specs.Moments.{Elapses, HasFailed};
@@ -7,7 +7,7 @@ ghost use Rattle.stop_disk.specs.Stops.{all_failures, stop_behind, fate_of, Stop
 use rel_disk::{DeviceFault, Disk};
 
 /// A disk that passes on so many calls which answer a `Result`. The next one fails: a write writes the first half of its bytes,
-/// rounded down, and another call does nothing. Each call behind it fails and does nothing.
+/// rounded down, and another call does nothing. Each call after it fails and does nothing.
 #[derive(Drop)]
 pub struct StopDisk<D: Disk> {
     /// The disk within.

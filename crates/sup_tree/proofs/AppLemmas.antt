@@ -8,7 +8,7 @@ pub not_there : {X : Type 0} (o : Option X) → is_some o ≡ false → o ≡ No
 not_there None is = refl
 not_there (Some x) is = absurd cc
 
--- one application more is kept, behind the others
+-- one application more is kept, after the others
 pub app_pushed : (before reserved after : List StartedApp) (a : StartedApp) (apps : List App) (b : App) → after ≡ reserved ++ a ∷ [] → reserved ≡ before → map app_of before ≡ apps
     → app_of a ≡ b → map app_of after ≡ apps ++ b ∷ []
 app_pushed before reserved after a apps b pushed same are is =

@@ -16,7 +16,7 @@ among-append slot ps qs =
     let there = λ (p : StartedProcess). p.pid.slot == slot in
     ap (option_map (λ (p : StartedProcess). p.module)) (find-append there ps qs) ∙ option_map-option_or _ (find there ps) (find there qs)
 
--- what is found in an application, or else in those behind it
+-- what is found in an application, or else in those after it
 in_first : (slot : ℕ) (left rest : List App) (a : App) → left ≡ a ∷ rest → module_in slot left ≡ option_or (module_among slot (app_processes a)) (module_in slot rest)
 in_first slot left rest a split = ap (module_in slot) split ∙ among-append slot (app_processes a) (all_processes rest)
 

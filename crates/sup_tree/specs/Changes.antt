@@ -1,4 +1,4 @@
--- What change_children gives the supervisors of a module: the children of their table in order, and behind them those that it
+-- What change_children gives the supervisors of a module: the children of their table in order, and after them those that it
 -- doesn't name (OTP: supervisor, code_change/3). No process begins or ends.
 use Rattle.std.specs.Prelude.{ℕ, List, map}
 use Rattle.started_members.specs.Table.{ChildSpec}

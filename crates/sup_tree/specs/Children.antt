@@ -64,7 +64,7 @@ abbrev pub DeletesChild : {E : Type 0} → List ℕ → List ℕ → List App �
 DeletesChild name id apps v (Ok stays) apps' w = ChildDeleted name id apps v stays apps' w
 DeletesChild name id apps v (Err e) apps' w = (has_one_supervisor name apps ≡ false) × (apps' ≡ apps) × (w ≡ v)
 
--- The first application with a supervisor of this module stands behind so many others.
+-- The first application with a supervisor of this module stands after so many others.
 pub record SupervisesAt (name : List ℕ) (apps : List StartedApp) (place : ℕ) : Type 0 where
   pub inside : place < length apps
   pub there : (d : StartedApp) → find (λ (a : App). supervises_in name a.members) (map app_of apps) ≡ Some (app_of (slice_index_or apps place d))

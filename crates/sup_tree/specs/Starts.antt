@@ -36,7 +36,7 @@ AnswersMembers most tables top (Ok ms) = (app_fault tables top ≡ None) × (new
 AnswersMembers most tables top (Err NoSlot) = (app_fault tables top ≡ None) × (most < length (app_starts tables top))
 AnswersMembers most tables top (Err e) = StartFaultIs e (app_fault tables top)
 
--- All that the application starts began, and it is started, behind those that were, with its members.
+-- All that the application starts began, and it is started, after those that were, with its members.
 pub record AppStarted (name : List ℕ) (top : Option (List ℕ)) (tables : Tables) (apps : List App) (v : View) (apps' : List App) (w : View) : Type 0 where
   pub new : app_named name apps ≡ None
   pub sound : app_fault tables top ≡ None

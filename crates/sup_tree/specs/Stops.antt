@@ -17,7 +17,7 @@ abbrev pub StopsApp : {X E : Type 0} → List ℕ → List App → View → Resu
 StopsApp name apps v (Ok x) apps' w = AppStopped name apps v apps' w
 StopsApp name apps v (Err e) apps' w = (app_named name apps ≡ None) × (apps' ≡ apps) × (w ≡ v)
 
--- the application of this name stands behind so many others
+-- the application of this name stands after so many others
 pub record StandsAt (name : List ℕ) (apps : List StartedApp) (place : ℕ) : Type 0 where
   pub inside : place < length apps
   pub there : (d : StartedApp) → app_named name (map app_of apps) ≡ Some (app_of (slice_index_or apps place d))

@@ -20,7 +20,7 @@ impl Tree {
         Ok(Tree { apps })
     }
 
-    /// Each started supervisor of this module gets the children of the table, in order, and behind them those of its children
+    /// Each started supervisor of this module gets the children of the table, in order, and after them those of its children
     /// that the table doesn't name. A child that the table names is known by its id, and what stands for it stays. Nothing
     /// changes where no memory was left.
     pub fn change_children(

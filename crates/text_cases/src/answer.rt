@@ -47,7 +47,7 @@ impl Answer {
         self.note(done);
     }
 
-    /// Appends a text behind another.
+    /// Appends a text after another.
     pub fn push_after(&mut self, before: &str, text: &str) {
         self.push(before);
         self.push(text);
@@ -59,7 +59,7 @@ impl Answer {
         self.note(done);
     }
 
-    /// Appends a number behind a text.
+    /// Appends a number after a text.
     pub fn push_counted(&mut self, before: &str, number: u64) {
         self.push(before);
         self.push_number(number);

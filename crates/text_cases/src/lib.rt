@@ -1,7 +1,7 @@
 //! Cases of texts, a line each, for programs that show what a library makes of them.
 //!
-//! A case is a mode and, behind a blank, a text. [`answer_cases`] reads cases from the input and writes each with ` => ` and
-//! its answer behind it. Headings, which begin with `#`, and empty lines are written as they are. So the output alone
+//! A case is a mode and, after a blank, a text. [`answer_cases`] reads cases from the input and writes each with ` => ` and
+//! its answer after it. Headings, which begin with `#`, and empty lines are written as they are. So the output alone
 //! reads as a table.
 //!
 //! An [`Answer`] is what functions append to. [`first_word`] and [`number`] take texts apart, and [`enclosed`] puts them

@@ -16,7 +16,7 @@ pub fn bytes_of(alloc: Global, text: &str) -> Result<Option<Vec<u8>>, AllocError
     Ok(Some(bytes))
 }
 
-// Appends what stands behind a `~`, if it is one of the two forms.
+// Appends what stands after a `~`, if it is one of the two forms.
 fn add_form(bytes: &mut Vec<u8>, part: &str) -> Result<bool, AllocError> {
     match part.strip_prefix('(') {
         Some(copies) => add_copies(bytes, copies),
@@ -72,7 +72,7 @@ fn digit(byte: u8) -> Option<u8>
     }
 }
 
-/// A text with what stands before it and what stands behind it.
+/// A text with what stands before it and what stands after it.
 pub fn enclosed(
     alloc: Global,
     before: &[u8],

@@ -21,7 +21,7 @@ pub(crate) fn push_with_instrs(alloc: Global, row: &[u8], answer: &mut Answer) {
     }
 }
 
-/// Appends what is found for a version, with the file behind it.
+/// Appends what is found for a version, with the file after it.
 pub(crate) fn push_searched(alloc: Global, direction: Direction, text: &str, answer: &mut Answer) {
     let (vsn, file) = first_word(text);
     push_found(alloc, direction, vsn, file.as_bytes(), answer);

@@ -11,7 +11,7 @@ use relup_translate::{RelupRelease, TranslateError, make_relup};
 use std::alloc::Global;
 use text_cases::{Answer, enclosed};
 
-// What stands before and behind the instructions of an upgrade, and of a downgrade.
+// What stands before and after the instructions of an upgrade, and of a downgrade.
 const BEFORE_UP: &[u8] =
     b"{{\"B\",\"14\",[{k,\"5\",temporary,{[k1],none}},{a,\"2\",permanent,{[a,b,c,d],{\"2\",[{\"1\",[";
 

@@ -5,7 +5,7 @@ use Rattle.rel_disk.proofs.Moments.{started, goes_on}
 use Rattle.disk_cases.proofs.disk_callers.append.Goals.{then-is_err-via-then-is_err, then-is_err-via-else-is_err+then-is_err-2}
 use Rattle.disk_cases.proofs.disk_callers.append.Goals as goal
 
--- a list is the front of itself, with or without more behind it
+-- a list is the front of itself, with or without more after it
 front_of : (old more : List ℕ) → take (length old) (old ++ more) ≡ old
 front_of [] more = refl
 front_of (x ∷ xs) more = ap (λ l. x ∷ l) (front_of xs more)

@@ -4,7 +4,7 @@ use Rattle.library.specs.InMemory.{shared_of}
 use Rattle.loaded_modules.specs.Loaded.{modules_with, library_modules, modules_in_map, named_modules, loaded_behind, listed_in_map}
 use Rattle.loaded_modules.proofs.loaded.load_library.Given as goal
 
--- what is left of the library goes in front of what was loaded so far, and is listed behind it
+-- what is left of the library goes in front of what was loaded so far, and is listed after it
 abbrev pub invariant-loop-place : goal.invariant-loop-place
 invariant-loop-place l =
     let library = shared_of l.library in

@@ -18,7 +18,7 @@ first_read bytes gate n buf some read =
     let here : gate + 0 ≡ gate = omega arith in
     ap (λ l. get_or l 0 0) read ∙ get_or-take (gate + n - gate) (drop gate bytes) 0 0 (omega arith) ∙ get_or-drop gate bytes 0 0 ∙ ap (λ i. get_or bytes i 0) here
 
--- a gate so near the end has no whole record behind it
+-- a gate so near the end has no whole record after it
 too_near : (bytes : List ℕ) (gate len size : ℕ) → len ≡ length bytes → len - gate ≤ 5 → length bytes - gate ≤ 5 + size
 too_near bytes gate len size is near = omega arith
 

@@ -11,7 +11,7 @@ use Rattle.rel_store.proofs.Exits.{no_success, no_value}
 use Rattle.rel_store.proofs.NewStore.{begun_after_reading, creates_after_reading}
 use Rattle.rel_store.proofs.creation.lay_out.Goals as goal
 
--- the store is written behind what was read
+-- the store is written after what was read
 pub returns-in_err-write_store-clause-any_moment : goal.returns-in_err-write_store-clause-any_moment
 returns-in_err-write_store-clause-any_moment g c =
     creates_after_reading g.D.Disk.moment g.D.Disk.left_since g.D.Disk.seen g.D.Disk.may_leave c.args.first.now c.args.start.now c.args.disk.now c.holds_a_store.new.disk c.write_store.new.disk c.holds_a_store.ensures.any_moment c.holds_a_store.ensures.crash c.holds_a_store.ensures.same (c.write_store.ensures.any_moment c.args.first.now c.args.start.now (record { few = c.requires; short = c.if-first-gt-MAX_BODY.false; spelled = c.deref.ensures.value ∙ c.in_ok-bytes.ensures }))

@@ -3,7 +3,7 @@ use Rattle.rel_store.proofs.Exits.{on_success}
 use Rattle.rel_store.proofs.NewStore.{opened_over, begun}
 use Rattle.rel_store.proofs.creation.write_store.Goals as goal
 
--- what is behind the closed gate is written, and the gate is opened
+-- what is after the closed gate is written, and the gate is opened
 pub returns-clause-any_moment : goal.returns-clause-any_moment
 returns-clause-any_moment g c = λ first start behind.
     inr (

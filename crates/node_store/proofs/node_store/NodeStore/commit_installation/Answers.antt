@@ -7,7 +7,7 @@ use Rattle.node_store.specs.State.{disk_in}
 use Rattle.node_store.proofs.CompactionLemmas.{commits_compacting, commits_installation, committed_change, fails_compacting, is_done_with, right_still}
 use Rattle.node_store.proofs.node_store.NodeStore.commit_installation.Goals as goal
 
--- the device failed behind the commit
+-- the device failed after the commit
 pub returns-in_err-compact-clause-commits : goal.returns-in_err-compact-clause-commits
 returns-in_err-compact-clause-commits g c =
     let h = c.args.self.now in

@@ -6,7 +6,7 @@ use Rattle.node_upgrade.specs.InMemory.{upgrade_of}
 use Rattle.node_upgrade.specs.Upgrade.{site_for}
 use Rattle.node_upgrade.proofs.upgrade.Upgrade.carry_out.Goals as goal
 
--- an instruction behind the point is the first that fails
+-- an instruction after the point is the first that fails
 pub returns-in-Err-run_after-clause-refused : goal.returns-in-Err-run_after-clause-refused
 returns-in-Err-run_after-clause-refused g c =
     let failed = c.in-Err-run_after.field-0 in

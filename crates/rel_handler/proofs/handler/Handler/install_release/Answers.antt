@@ -125,7 +125,7 @@ commit_installation-requires-clause-stays g c = ap leaves_permanent c.in_ok-even
 pub commit_installation-requires-clause-listed : goal.commit_installation-requires-clause-listed
 commit_installation-requires-clause-listed g c = ap brings_release c.in_ok-event.ensures.event ∙ event_brings_none c.restarts.result c.args.vsn.now
 
--- the device failed behind the script
+-- the device failed after the script
 pub returns-in_err-commit_installation-clause-commits : goal.returns-in_err-commit_installation-clause-commits
 returns-in_err-commit_installation-clause-commits g c =
     rw (← c.self.view_is)

@@ -49,7 +49,7 @@ returns-in_err-move_permanent-clause-refused g c =
     let refused = subst (λ vsn. CommandRefused g.D.Disk.failures (made_permanent vsn) (change_size (made_permanent vsn) (list_in h)) h c.move_permanent.new.self c.in_err-move_permanent.field-0.0) c.in_ok-from_str.ensures.ok c.in_err-move_permanent.ensures.refused in
     refuses_with (CommandRefused g.D.Disk.failures (made_permanent c.args.vsn.now) (change_size (made_permanent c.args.vsn.now) (list_in h)) h c.move_permanent.new.self) c.from_residual-in_err-move_permanent.result c.in_err-move_permanent.field-0.0 c.from_residual-in_err-move_permanent.ensures refused)
 
--- the device failed behind the move
+-- the device failed after the move
 pub returns-in_err-compact-clause-commits : goal.returns-in_err-compact-clause-commits
 returns-in_err-compact-clause-commits g c =
     rw (← c.self.view_is)

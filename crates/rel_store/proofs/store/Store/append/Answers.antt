@@ -18,12 +18,12 @@ use Rattle.rel_store.proofs.Scan.{passed_on}
 use Rattle.rel_store.proofs.Refusals.{not_both, device_not_reopened, device_not_full, memory_not_reopened, memory_not_full, none_answered, same_store, sound_still}
 use Rattle.rel_store.proofs.store.Store.append.Goals as goal
 
--- what stands behind the gate in a record's bytes
+-- what stands after the gate in a record's bytes
 behind_gate : (bytes body : List ℕ) → bytes ≡ 1 ∷ (record_bytes body ++ 0 ∷ []) → take (length bytes - 1) (drop 1 bytes) ≡ record_bytes body ++ 0 ∷ []
 behind_gate bytes body spelled =
     ap (λ l. take (length l - 1) (drop 1 l)) spelled ∙ take_all (length (1 ∷ (record_bytes body ++ 0 ∷ [])) - 1) (record_bytes body ++ 0 ∷ []) (omega arith)
 
--- a record's bytes behind its gate, and the gate, are an append's own
+-- a record's bytes after its gate, and the gate, are an append's own
 in_record : (bytes : List ℕ) (gate : ℕ) (body : List ℕ) → bytes ≡ record_bytes body ++ 0 ∷ [] → Owns (IsInRecord gate (length body)) (gate + 1) (length bytes)
 in_record bytes gate body spelled = λ i from within. (omega (arith, from), omega (arith, within, ap length spelled, length-append (record_bytes body) (0 ∷ []), length-record body))
 

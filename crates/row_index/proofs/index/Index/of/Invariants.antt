@@ -2,6 +2,6 @@ use Rattle.std.proofs.Common.{◌≡◌, ◌++◌, map}
 use Rattle.row_index.specs.Stored.{row_of}
 use Rattle.row_index.proofs.index.Index.of.Given as goal
 
--- the entries so far, and behind them what is left of the map
+-- the entries so far, and after them what is left of the map
 abbrev pub invariant-loop-pair : goal.invariant-loop-pair
 invariant-loop-pair l = map row_of l.entries.items ++ l.pair-iterator ≡ l.initial.pair-iterator

@@ -2,7 +2,7 @@ use Rattle.std.proofs.Common.{◌≡◌, ◌<◌, ◌≤◌, ℕ, length, slice_
 use Rattle.stop_disk.specs.Crashes.{is_within}
 use Rattle.stop_disk.proofs.marks.Marks.fill.Given as goal
 
--- the places so far are filled, and those behind them are as they were
+-- the places so far are filled, and those after them are as they were
 abbrev pub invariant-loop-at : goal.invariant-loop-at
 invariant-loop-at l =
     (length l.bytes ≡ length l.fn.bytes)
