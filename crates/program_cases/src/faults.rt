@@ -22,7 +22,7 @@ pub(crate) fn push_faults(host: &HostRuntime, words: &str, answer: &mut Answer) 
     }
 }
 
-fn disk_over(host: &HostRuntime, how: &str, name: &str) -> Option<FileDisk> {
+fn disk_over(host: &HostRuntime, how: &str, name: &str) -> Option<FileDisk<File>> {
     let file = opened(host, how, name).ok()?;
     let memory = MemDisk::with_bytes(host.alloc(), b"abc", 4, 1024).ok()?;
     Some(FileDisk::over(file, memory))
@@ -35,7 +35,8 @@ fn opened(host: &HostRuntime, how: &str, name: &str) -> io::Result<File> {
         .open(host, name)
 }
 
-fn push_steps<D: Disk>(disk: &mut D, steps: &str, answer: &mut Answer) {
+/// Appends what each of these steps answers.
+pub(crate) fn push_steps<D: Disk>(disk: &mut D, steps: &str, answer: &mut Answer) {
     for name in steps.split(' ') {
         let done = step(disk, name).is_ok();
         answer.push_after(name, if done { " ok, " } else { " failed, " });

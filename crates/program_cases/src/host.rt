@@ -3,6 +3,7 @@ use crate::disks::{Use, push_disk, push_edited, push_openings};
 use crate::faults::push_faults;
 use crate::folders::{push_contents, push_made, push_read, push_read_below};
 use crate::options::push_options;
+use crate::watched::push_watched;
 use rel_host::is_below;
 use text_cases::Answer;
 
@@ -28,9 +29,10 @@ pub(crate) fn push_host(host: &HostRuntime, mode: &str, words: &str, answer: &mu
 }
 
 // `open NAME`: whether it opens as a disk. `open_twice NAME`: whether it does while it is open, and then once it is closed. `edit
-// NAME`: the bytes of the disk, those behind three writes, a cut and an opening more, and those in the file. `store NAME`
+// NAME`: the bytes of the disk, those after three writes, a cut and an opening more, and those in the file. `store NAME`
 // makes a store of two records, and `records NAME` shows them. `faults HOW NAME STEPS`: what the steps answer of a disk over the
-// file, which is opened HOW: `reads` or `writes` or `fills`, for reads, for both, or for writes alone.
+// file, which is opened HOW: `reads` or `writes` or `fills`, for reads, for both, or for writes alone. `watched CALL NAME STEPS`:
+// which calls of the file and of its folder an opening and the steps make, where the call of this number fails.
 fn push_of_disks(host: &HostRuntime, mode: &str, name: &str, answer: &mut Answer) {
     match mode {
         "open" => push_disk(host, Use::Open, name, answer),
@@ -39,6 +41,7 @@ fn push_of_disks(host: &HostRuntime, mode: &str, name: &str, answer: &mut Answer
         "store" => push_disk(host, Use::MakeStore, name, answer),
         "records" => push_disk(host, Use::ShowRecords, name, answer),
         "faults" => push_faults(host, name, answer),
+        "watched" => push_watched(host, name, answer),
         _ => answer.push("no such mode"),
     }
 }

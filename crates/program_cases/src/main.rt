@@ -15,6 +15,7 @@ mod narrow_writers;
 mod options;
 mod sessions;
 mod streams;
+mod watched;
 
 use crate::answers::answer;
 use std::alloc::Global;

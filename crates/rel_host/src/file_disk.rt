@@ -5,18 +5,14 @@ ghost use Rattle.rel_disk.specs.Damage.{Torn, Cut, Follows, Within};
 ghost use Rattle.rel_disk.specs.ImageLaws.{content_is_image, counts_now, only_now};
 ghost use Rattle.rel_disk.specs.Images.{Image, ImageSince};
 ghost use Rattle.rel_disk.specs.Moments.{HasFailed};
-ghost use Rattle.rel_host.specs.FileState.{IsOpened, Does, Fails, FailsToSync, all_failures, broken};
+ghost use Rattle.rel_host.specs.FileState.{IsOpened, IsReadAfterSync, GivesAfterSync, Does, Fails, FailsToSync, all_failures, broken};
 
-use crate::readers::read_within;
+use crate::disk_file::{DiskFile, DiskHost};
 use rel_disk::{DeviceFault, Disk, MemDisk};
 use std::alloc::Global;
 use std::fmt::{self, Display, Formatter};
-use std::fs::{File, OpenOptions};
 use std::io::ErrorKind;
 use std::marker::Model;
-use std::os::unix::fs::FileExt;
-use std::rt::Files;
-use std::{fs, io};
 use thiserror::Error;
 
 /// The most bytes of the file.
@@ -70,34 +66,41 @@ impl Display for OpenError {
 /// the images, is trusted. So it is a premise that bytes that were not written since the last sync stay over a crash, also
 /// where bytes beside them in one sector were written.
 #[derive(Drop)]
-pub struct FileDisk {
-    file: File,
+pub struct FileDisk<F> {
+    file: F,
     memory: MemDisk,
     faults: u64,
     is_broken: bool,
 }
 
-// Clauses see the disk in memory, the faults, and whether the file has failed.
-impl Model for FileDisk {
+// Clauses see the file, the disk in memory, the faults, and whether the file has failed.
+impl<F> Model for FileDisk<F> {
     ghost use Rattle.rel_host.specs.FileState.{FileState};
 
-    ghost Value = { FileState };
+    ghost Value = { FileState F };
 
-    ghost view = { λ d. record { memory = d.memory; faults = d.faults; is_broken = d.is_broken } };
+    ghost view = { λ d. record {
+      file = d.file;
+      memory = d.memory;
+      faults = d.faults;
+      is_broken = d.is_broken;
+    } };
 }
 
-impl FileDisk {
-    /// Opens a file and reads it whole. A missing file is made empty, and its folder is synced. The file is locked as long as the
-    /// disk is there, so a second opening is refused, also by another process.
-    pub fn open<R: Files<File = File>>(
-        host: &R,
+impl<F: DiskFile + Drop> FileDisk<F> {
+    /// Opens a file and reads it whole, once it and its folder are synced. A missing file is made empty. The file is locked as long
+    /// as the disk is there, so a second opening is refused, also by another process.
+    pub fn open<H: DiskHost<File = F>>(
+        host: &H,
         alloc: Global,
         path: &str,
     ) -> Result<Self, OpenError>
-        ensures { IfOk result IsOpened }
+        ensures opened { IfOk result IsOpened }
+        ensures read { IfOk result (IsReadAfterSync F.did F.gave) }
+        ensures kept { IsOk result → H.has_kept host.now path.now }
     {
-        let file = open_locked(host, path)?;
-        let bytes = read_file(alloc, &file)?;
+        let mut file = open_locked(host, path)?;
+        let bytes = read_file(alloc, &mut file)?;
         match MemDisk::with_bytes(alloc, &bytes, CAPACITY, LOG) {
             Ok(memory) => Ok(FileDisk::over(file, memory)),
             Err(_) => Err(OpenError::NoMemory),
@@ -105,8 +108,13 @@ impl FileDisk {
     }
 
     /// A disk over this file, of which the disk in memory reads the bytes.
-    pub fn over(file: File, memory: MemDisk) -> Self
-        ensures { result ≡ record { memory = memory; faults = 0; is_broken = false } }
+    pub fn over(file: F, memory: MemDisk) -> Self
+        ensures { result ≡ record {
+          file = file;
+          memory = memory;
+          faults = 0;
+          is_broken = false;
+        } }
     {
         FileDisk {
             file,
@@ -129,7 +137,7 @@ impl FileDisk {
     }
 }
 
-impl Disk for FileDisk {
+impl<F: DiskFile + Drop> Disk for FileDisk<F> {
     ghost seen = { λ d. content d.memory.first d.memory.calls };
 
     ghost may_leave = { λ d. Image d.memory.first d.memory.calls };
@@ -166,8 +174,8 @@ impl Disk for FileDisk {
 
     fn write_at(&mut self, at: u64, bytes: &[u8]) -> Result<(), DeviceFault>
         requires { at ≤ length (content self.old.memory.first self.old.memory.calls) }
-        ensures done { OnOk result (Does (wrote at bytes.now) self.old self.new) }
-        ensures failed { OnErr result (Fails (wrote at bytes.now) self.old self.new) }
+        ensures done { OnOk result (Does F.did (wrote at bytes.now) self.old self.new) }
+        ensures failed { OnErr result (Fails F.failed (wrote at bytes.now) self.old self.new) }
 
         // As of every disk.
         ensures part { Torn at (length bytes.now)
@@ -183,7 +191,7 @@ impl Disk for FileDisk {
             return self.fail();
         }
         self.memory.write_at(at, bytes)?;
-        if self.file.write_all_at(bytes, at).is_err() {
+        if self.file.write_all(at, bytes).is_err() {
             return self.fail();
         }
         Ok(())
@@ -191,8 +199,8 @@ impl Disk for FileDisk {
 
     fn cut(&mut self, len: u64) -> Result<(), DeviceFault>
         requires { len ≤ length (content self.old.memory.first self.old.memory.calls) }
-        ensures done { OnOk result (Does (cut_to len) self.old self.new) }
-        ensures failed { OnErr result (Fails (cut_to len) self.old self.new) }
+        ensures done { OnOk result (Does F.did (cut_to len) self.old self.new) }
+        ensures failed { OnErr result (Fails F.failed (cut_to len) self.old self.new) }
 
         // As of every disk.
         ensures part { Cut len (content self.old.memory.first self.old.memory.calls)
@@ -206,15 +214,15 @@ impl Disk for FileDisk {
             return self.fail();
         }
         self.memory.cut(len)?;
-        if self.file.set_len(len).is_err() {
+        if self.file.cut_to(len).is_err() {
             return self.fail();
         }
         Ok(())
     }
 
     fn sync(&mut self) -> Result<(), DeviceFault>
-        ensures done { OnOk result (Does synced self.old self.new) }
-        ensures failed { OnErr result (FailsToSync self.old self.new) }
+        ensures done { OnOk result (Does F.did synced self.old self.new) }
+        ensures failed { OnErr result (FailsToSync F.did F.failed self.old self.new) }
 
         // As of every disk.
         ensures crash { Within (Image self.old.memory.first self.old.memory.calls)
@@ -222,7 +230,7 @@ impl Disk for FileDisk {
         ensures counted { all_failures self.old ≤ all_failures self.new }
         ensures cause { IsErr result → HasFailed (all_failures self.old) (all_failures self.new) }
     {
-        if self.is_broken || self.file.sync_all().is_err() {
+        if self.is_broken || self.file.sync().is_err() {
             return self.fail();
         }
         self.memory.sync()
@@ -233,68 +241,38 @@ impl Disk for FileDisk {
     }
 }
 
-// Opens a file, or makes it, and locks it.
-fn open_locked<R: Files<File = File>>(host: &R, path: &str) -> Result<File, OpenError> {
-    let Ok(file) = open_file(host, path) else {
+// Opens a file, or makes it, and locks it. A file outlives a crash once its folder is synced, also one that was there: the run that
+// made it may have ended before that.
+fn open_locked<H: DiskHost>(host: &H, path: &str) -> Result<H::File, OpenError>
+    ensures { IsOk result → H.has_kept host.now path.now }
+{
+    let Ok(file) = host.open_or_make(path) else {
         return Err(OpenError::CantOpen);
     };
-    if file.try_lock().is_err() {
+    if host.sync_folder_of(path).is_err() {
+        return Err(OpenError::CantOpen);
+    }
+    if !file.lock() {
         return Err(OpenError::InUse);
     }
     Ok(file)
 }
 
-// Opens a file for reads and writes, or makes it. What is no file is refused. A file outlives a crash once its folder is synced,
-// also one that was there: the run that made it may have ended before that.
-fn open_file<R: Files<File = File>>(host: &R, path: &str) -> io::Result<File> {
-    let file = OpenOptions::new()
-        .read(true)
-        .write(true)
-        .create(true)
-        .open(host, path)?;
-    if !file.metadata()?.is_file() {
-        return Err(io::Error::from(ErrorKind::InvalidInput));
-    }
-    sync_folder(host, path)?;
-    Ok(file)
-}
-
-// Syncs the folder of a file.
-fn sync_folder<R: Files<File = File>>(host: &R, path: &str) -> io::Result<()> {
-    fs::open(host, folder_of(path))?.sync_all()
-}
-
-// The folder of a file.
-fn folder_of(path: &str) -> &str {
-    match path.rsplit_once('/') {
-        None => ".",
-        Some(("", _)) => "/",
-        Some((folder, _)) => folder,
-    }
-}
-
 // The file's bytes, which a crash leaves.
-fn read_file(alloc: Global, file: &File) -> Result<Vec<u8>, OpenError>
-    ensures { IfOk result (λ bytes. length bytes.items ≤ 67108864) }
+fn read_file<F: DiskFile>(alloc: Global, file: &mut F) -> Result<Vec<u8>, OpenError>
+    ensures short { IfOk result (λ bytes. length bytes.items ≤ 67108864) }
+    ensures read { IfOk result (λ bytes. GivesAfterSync F.did F.gave bytes.items file.old file.new) }
 {
-    if file.sync_all().is_err() {
+    if file.sync().is_err() {
         return Err(OpenError::CantRead);
     }
-    if has_more(file, CAPACITY) {
+    if file.is_longer_than(CAPACITY) {
         return Err(OpenError::TooLong);
     }
-    match read_within(alloc, file, CAPACITY) {
+    match file.read_whole(alloc, CAPACITY) {
         Ok(Some(bytes)) => Ok(bytes),
         Ok(None) => Err(OpenError::TooLong),
         Err(e) if e.kind() == ErrorKind::OutOfMemory => Err(OpenError::NoMemory),
         Err(_) => Err(OpenError::CantRead),
-    }
-}
-
-// Whether the host reports more bytes than these of a file, so that it need not be read to refuse it.
-fn has_more(file: &File, limit: usize) -> bool {
-    match file.metadata() {
-        Ok(found) => found.len() > limit as u64,
-        Err(_) => false,
     }
 }
