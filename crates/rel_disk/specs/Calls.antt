@@ -20,3 +20,10 @@ abbrev pub cost : List ℕ → List Call → Call → ℕ
 cost first older (wrote at bytes) = 32 + length bytes
 cost first older (cut_to len) = 32 + (length (content first older) - len)
 cost first older synced = 32
+
+-- how many of these calls are syncs
+abbrev pub sync_count : List Call → ℕ
+sync_count [] = 0
+sync_count (wrote at bytes ∷ older) = sync_count older
+sync_count (cut_to len ∷ older) = sync_count older
+sync_count (synced ∷ older) = sync_count older + 1

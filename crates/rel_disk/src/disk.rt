@@ -1,7 +1,7 @@
 // A disk as its callers see it: what a read gives, and what a crash may leave.
 ghost use Rattle.std.specs.Prelude.{◌≡◌, ◌+◌, ◌≤◌, List, ℕ, length, take, slice_range, IfOk, OnOk, IsErr};
 ghost use Rattle.rel_disk.specs.Damage.{overwritten, Torn, Cut, Follows, Within, Only};
-ghost use Rattle.rel_disk.specs.Moments.{Elapses, HasFailed};
+ghost use Rattle.rel_disk.specs.Moments.{Elapses, MaySync, HasFailed};
 
 use thiserror::Error;
 
@@ -33,6 +33,9 @@ pub trait Disk {
     /// What a crash at some moment from this one on may have left, in a call or between two.
     ghost left_since: { Self → ℕ → List ℕ → Type 0 };
 
+    /// How many syncs have taken effect, whatever they answered.
+    ghost syncs: { Self → ℕ };
+
     /// How often the device has failed; at 2^64 - 1 the count stays.
     ghost failures: { Self → ℕ };
 
@@ -43,6 +46,7 @@ pub trait Disk {
         ensures crash { Within (may_leave self.old) (may_leave self.new) }
         ensures time { Elapses (moment self.old) (moment self.new)
             (left_since self.old) (left_since self.new) (may_leave self.new) }
+        ensures unsynced { syncs self.new ≡ syncs self.old }
         ensures counted { failures self.old ≤ failures self.new }
         ensures cause { IsErr result → HasFailed (failures self.old) (failures self.new) };
 
@@ -55,6 +59,7 @@ pub trait Disk {
         ensures crash { Within (may_leave self.old) (may_leave self.new) }
         ensures time { Elapses (moment self.old) (moment self.new)
             (left_since self.old) (left_since self.new) (may_leave self.new) }
+        ensures unsynced { syncs self.new ≡ syncs self.old }
         ensures counted { failures self.old ≤ failures self.new }
         ensures cause { IsErr result → HasFailed (failures self.old) (failures self.new) };
 
@@ -67,6 +72,7 @@ pub trait Disk {
             (may_leave self.new) }
         ensures time { Elapses (moment self.old) (moment self.new)
             (left_since self.old) (left_since self.new) (may_leave self.new) }
+        ensures unsynced { syncs self.new ≡ syncs self.old }
         ensures counted { failures self.old ≤ failures self.new }
         ensures cause { IsErr result → HasFailed (failures self.old) (failures self.new) };
 
@@ -78,16 +84,21 @@ pub trait Disk {
         ensures crash { Follows (Cut len) (may_leave self.old) (may_leave self.new) }
         ensures time { Elapses (moment self.old) (moment self.new)
             (left_since self.old) (left_since self.new) (may_leave self.new) }
+        ensures unsynced { syncs self.new ≡ syncs self.old }
         ensures counted { failures self.old ≤ failures self.new }
         ensures cause { IsErr result → HasFailed (failures self.old) (failures self.new) };
 
-    /// After it, a crash leaves what a read gives. One that failed may have left reads with any of the images.
+    /// After one that takes effect, a crash leaves what a read gives. One that failed may have taken effect, or left reads with
+    /// any of the images.
     fn sync(&mut self) -> Result<(), DeviceFault>
         ensures durable { OnOk result (Only (seen self.old) (may_leave self.new)) }
         ensures same { OnOk result (seen self.new ≡ seen self.old) }
         ensures crash { Within (may_leave self.old) (may_leave self.new) }
         ensures time { Elapses (moment self.old) (moment self.new)
             (left_since self.old) (left_since self.new) (may_leave self.new) }
+        ensures synced { OnOk result (syncs self.new ≡ syncs self.old + 1) }
+        ensures effect { MaySync (syncs self.old) (syncs self.new)
+            (Only (seen self.old) (may_leave self.new)) }
         ensures counted { failures self.old ≤ failures self.new }
         ensures cause { IsErr result → HasFailed (failures self.old) (failures self.new) };
 

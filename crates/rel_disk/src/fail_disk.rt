@@ -1,7 +1,7 @@
 // A disk that fails one call, to show what its callers make of it.
 ghost use Rattle.std.specs.Prelude.{◌≡◌, ◌⊎◌, ◌+◌, ◌-◌, ◌≤◌, ◌/◌, true, false, length, take, slice_range, IsErr, IfOk, OnOk};
 ghost use Rattle.rel_disk.specs.Damage.{overwritten, Torn, Cut, Follows, Within, Only};
-ghost use Rattle.rel_disk.specs.Moments.{Elapses, HasFailed};
+ghost use Rattle.rel_disk.specs.Moments.{Elapses, MaySync, HasFailed};
 ghost use Rattle.rel_disk.specs.FailDisk.{after_turn, all_failures, turn_of, TakesTurn};
 
 use crate::{DeviceFault, Disk};
@@ -90,6 +90,8 @@ impl<D: Disk> Disk for FailDisk<D> {
 
     ghost left_since = { λ f. D.left_since f.disk };
 
+    ghost syncs = { λ f. D.syncs f.disk };
+
     ghost failures = { all_failures D.failures };
 
     ghost reads_an_image = { λ f. D.reads_an_image f.disk };
@@ -108,6 +110,7 @@ impl<D: Disk> Disk for FailDisk<D> {
         ensures crash { Within (D.may_leave self.old.disk) (D.may_leave self.new.disk) }
         ensures time { Elapses (D.moment self.old.disk) (D.moment self.new.disk)
             (D.left_since self.old.disk) (D.left_since self.new.disk) (D.may_leave self.new.disk) }
+        ensures unsynced { D.syncs self.new.disk ≡ D.syncs self.old.disk }
         ensures counted { all_failures D.failures self.old ≤ all_failures D.failures self.new }
         ensures cause { IsErr result
             → HasFailed (all_failures D.failures self.old) (all_failures D.failures self.new) }
@@ -130,6 +133,7 @@ impl<D: Disk> Disk for FailDisk<D> {
         ensures crash { Within (D.may_leave self.old.disk) (D.may_leave self.new.disk) }
         ensures time { Elapses (D.moment self.old.disk) (D.moment self.new.disk)
             (D.left_since self.old.disk) (D.left_since self.new.disk) (D.may_leave self.new.disk) }
+        ensures unsynced { D.syncs self.new.disk ≡ D.syncs self.old.disk }
         ensures counted { all_failures D.failures self.old ≤ all_failures D.failures self.new }
         ensures cause { IsErr result
             → HasFailed (all_failures D.failures self.old) (all_failures D.failures self.new) }
@@ -156,6 +160,7 @@ impl<D: Disk> Disk for FailDisk<D> {
             (D.may_leave self.new.disk) }
         ensures time { Elapses (D.moment self.old.disk) (D.moment self.new.disk)
             (D.left_since self.old.disk) (D.left_since self.new.disk) (D.may_leave self.new.disk) }
+        ensures unsynced { D.syncs self.new.disk ≡ D.syncs self.old.disk }
         ensures counted { all_failures D.failures self.old ≤ all_failures D.failures self.new }
         ensures cause { IsErr result
             → HasFailed (all_failures D.failures self.old) (all_failures D.failures self.new) }
@@ -183,6 +188,7 @@ impl<D: Disk> Disk for FailDisk<D> {
         ensures crash { Follows (Cut len) (D.may_leave self.old.disk) (D.may_leave self.new.disk) }
         ensures time { Elapses (D.moment self.old.disk) (D.moment self.new.disk)
             (D.left_since self.old.disk) (D.left_since self.new.disk) (D.may_leave self.new.disk) }
+        ensures unsynced { D.syncs self.new.disk ≡ D.syncs self.old.disk }
         ensures counted { all_failures D.failures self.old ≤ all_failures D.failures self.new }
         ensures cause { IsErr result
             → HasFailed (all_failures D.failures self.old) (all_failures D.failures self.new) }
@@ -209,6 +215,9 @@ impl<D: Disk> Disk for FailDisk<D> {
         ensures crash { Within (D.may_leave self.old.disk) (D.may_leave self.new.disk) }
         ensures time { Elapses (D.moment self.old.disk) (D.moment self.new.disk)
             (D.left_since self.old.disk) (D.left_since self.new.disk) (D.may_leave self.new.disk) }
+        ensures synced { OnOk result (D.syncs self.new.disk ≡ D.syncs self.old.disk + 1) }
+        ensures effect { MaySync (D.syncs self.old.disk) (D.syncs self.new.disk)
+            (Only (D.seen self.old.disk) (D.may_leave self.new.disk)) }
         ensures counted { all_failures D.failures self.old ≤ all_failures D.failures self.new }
         ensures cause { IsErr result
             → HasFailed (all_failures D.failures self.old) (all_failures D.failures self.new) }

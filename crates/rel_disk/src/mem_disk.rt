@@ -1,7 +1,7 @@
 // A disk in memory, which may tear as any disk may. Its log keeps each call, so that it knows what a crash
 // might have left at each past moment.
 ghost use Rattle.std.specs.Prelude.{◌≡◌, ◌+◌, ◌-◌, ◌≤◌, ◌↔◌, [], length, slice_range, vec_len, vec_capacity, IfOk, IsOk, IsErr, OnOk, OnErr};
-ghost use Rattle.rel_disk.specs.Calls.{wrote, cut_to, synced, content};
+ghost use Rattle.rel_disk.specs.Calls.{wrote, cut_to, synced, content, sync_count};
 ghost use Rattle.rel_disk.specs.Damage.{overwritten, Torn, Cut, Follows, Within};
 ghost use Rattle.rel_disk.specs.ImageLaws.{content_is_image, counts_now, only_now};
 ghost use Rattle.rel_disk.specs.Images.{Image, ImageSince};
@@ -110,6 +110,8 @@ impl Disk for MemDisk {
     ghost moment = { λ d. length d.calls };
 
     ghost left_since = { λ d. ImageSince d.first d.calls };
+
+    ghost syncs = { λ d. sync_count d.calls };
 
     ghost failures = { λ d. d.failures };
 

@@ -82,9 +82,10 @@ module _ {D : Type 0} (v : Ghosts D) (disk : D) (h : NodeStore D) (opened : IsOp
         joined v.moment v.left_since disk (disk_in h) new _ (weakened v.moment v.left_since disk (disk_in h) (v.may_leave disk) _ (λ c now. inl now) opened.only_read.any_moment)
         (weakened v.moment v.left_since (disk_in h) new _ (λ c. v.may_leave disk c ⊎ IsLeftByBoot (v.seen disk) c) (λ c old. inr (left_by_boot c old)) leaves.any_moment)
 
-    pub boot_settles : (at : D) → SettlesAt v.seen v.may_leave v.moment v.left_since disk (disk_in h) at → SettlesAt v.seen v.may_leave v.moment v.left_since disk new at
+    pub boot_settles : (at : D) → SettlesAt v disk (disk_in h) at → SettlesAt v disk new at
     boot_settles at s = record {
       until = s.until;
+      first_sync = s.first_sync;
       from =
           joined v.moment v.left_since at (disk_in h) new _ s.from
           (weakened v.moment v.left_since (disk_in h) new _ (λ c. (c ≡ v.seen disk) ⊎ IsLeftByBoot (v.seen disk) c) (λ c old. inr (left_by_boot c old)) leaves.any_moment);
@@ -221,7 +222,7 @@ module _ (s : Stored) (bytes : List ℕ) (of : IsStoredAs s bytes) where
 
 -- So a boot that has settled a store's events keeps them, with its own or without.
 pub settles_store : {D : Type 0} (v : Ghosts D) → ((disk : D) → v.may_leave disk (v.seen disk)) → ((disk : D) (t : ℕ) (c : List ℕ) → t ≤ v.moment disk → v.may_leave disk c → v.left_since disk t c)
-    → (disk new at : D) → SettlesAt v.seen v.may_leave v.moment v.left_since disk new at → (s : Stored) → ((c : List ℕ) → v.may_leave disk c → IsStoredAs s c) → SettlesStore v s disk new
+    → (disk new at : D) → SettlesAt v disk new at → (s : Stored) → ((c : List ℕ) → v.may_leave disk c → IsStoredAs s c) → SettlesStore v s disk new
 settles_store {D} v reads counts_now disk new at settles s here = record {
   events = of.events;
   extent = extent_of (v.seen disk);
@@ -242,6 +243,6 @@ settles_store {D} v reads counts_now disk new at settles s here = record {
 -- So it is of a boot from its reading on.
 pub keeps_store : {D : Type 0} (v : Ghosts D) → ((disk : D) → v.may_leave disk (v.seen disk)) → (counts_now : (disk : D) (t : ℕ) (c : List ℕ) → t ≤ v.moment disk → v.may_leave disk c → v.left_since disk t c)
     → (disk : D) (h : NodeStore D) (opened : IsOpened v disk h) (room : HasBootSpace (extent_in h) (list_in h)) (new : D) (leaves : Leaves v (IsOldOrBooted v.seen h) (disk_in h) new)
-    → (at : D) → SettlesAt v.seen v.may_leave v.moment v.left_since disk (disk_in h) at → (s : Stored) → ((c : List ℕ) → v.may_leave disk c → IsStoredAs s c) → KeepsStore v s disk new
+    → (at : D) → SettlesAt v disk (disk_in h) at → (s : Stored) → ((c : List ℕ) → v.may_leave disk c → IsStoredAs s c) → KeepsStore v s disk new
 keeps_store v reads counts_now disk h opened room new leaves at settles s here =
     inr (settles_store v reads counts_now disk new at (boot_settles v disk h opened room counts_now new leaves at settles) s here)

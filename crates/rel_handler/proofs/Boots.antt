@@ -3,6 +3,7 @@ use Rattle.std.proofs.Common.{◌≡◌, inl, inr, ◌⊎◌, ℕ, ◌≤◌, fa
 use Rattle.std.specs.Option.{is_some, option_map, option_copied}
 use Rattle.std.proofs.lemmas.Bool.Decides.{nat_tests}
 use Rattle.rel_disk.specs.Moments.{LeavesOnly}
+use Rattle.rel_disk.specs.declared.disk.Disk.{Ghosts}
 use Rattle.rel_disk.proofs.Moments.{started, weakened}
 use Rattle.rel_files.specs.File.{HasVersions}
 use Rattle.rel_files.specs.Name.{IsVersion}
@@ -68,10 +69,12 @@ module _ {D : Type 0} (seen : D → List ℕ) (may_leave : D → List ℕ → Ty
   only_reads old new same leaves = record { same = same; crash = λ c now. leaves.each c (counts_now new (moment old) c leaves.later now); any_moment = leaves }
 
 -- the disk was synced, and read alone
-pub settles_so : {D : Type 0} (seen : D → List ℕ) (may_leave : D → List ℕ → Type 0) (moment : D → ℕ) (left_since : D → ℕ → List ℕ → Type 0) (old new : D)
-    → ((c : List ℕ) → left_since new (moment new) c → may_leave new c) → HasSynced seen may_leave old new → LeavesOnly moment left_since old new (may_leave old) → SettlesAt seen may_leave moment left_since old new new
-settles_so seen may_leave moment left_since old new only_now s leaves =
-    record { until = leaves; from = weakened moment left_since new new (may_leave new) _ (λ c now. inl (s.durable c now)) (started moment left_since new (may_leave new) only_now) }
+pub settles_so : {D : Type 0} (v : Ghosts D) (old new : D) → ((c : List ℕ) → v.left_since new (v.moment new) c → v.may_leave new c) → HasSynced v old new → LeavesOnly v.moment v.left_since old new (v.may_leave old) → SettlesAt v old new new
+settles_so v old new only_now s leaves = record {
+  until = leaves;
+  first_sync = s.first_sync;
+  from = weakened v.moment v.left_since new new (v.may_leave new) _ (λ c now. inl (s.durable c now)) (started v.moment v.left_since new (v.may_leave new) only_now);
+}
 
 -- the device failed, or memory was refused
 abbrev pub IsLack : BootError → Type 0
@@ -125,19 +128,20 @@ module _ {D : Type 0} (seen : D → List ℕ) (may_leave : D → List ℕ → Ty
   pub unwritten : IsUnwritten seen may_leave moment left_since disk disk
   unwritten = record { same = refl; any_moment = started moment left_since disk (may_leave disk) only_now }
 
-  pub nothing_begun : (k : Known) → Begins seen may_leave moment left_since k disk disk
-  nothing_begun k = inl (started moment left_since disk (IsTornFrom (may_leave disk) 0 1) (λ c left. inl (only_now c left)))
+pub nothing_begun : {D : Type 0} (v : Ghosts D) (disk : D) → ((c : List ℕ) → v.left_since disk (v.moment disk) c → v.may_leave disk c) → (k : Known) → Begins v k disk disk
+nothing_begun v disk only_now k = inl (record { until = started v.moment v.left_since disk (IsTornFrom (v.may_leave disk) 0 1) (λ c left. inl (only_now c left)); unsynced = refl })
 
 -- at each moment of a creation
-module _ {D : Type 0} (seen : D → List ℕ) (may_leave : D → List ℕ → Type 0) (moment : D → ℕ) (left_since : D → ℕ → List ℕ → Type 0) (p : Bundle) (body start : List ℕ) (fits : IsWithinLimits (made p) []) (versions : HasVersions p.release) (is : start ≡ start_text p.release) (spelled : Spells body (record_of (made p) [])) (old new : D) where
-  pub begins_at : (at : D) → IsBegunAt seen may_leave moment left_since body start old new at → BeginsAt seen may_leave moment left_since (doubted [] (made p)) old new at
+module _ {D : Type 0} (v : Ghosts D) (p : Bundle) (body start : List ℕ) (fits : IsWithinLimits (made p) []) (versions : HasVersions p.release) (is : start ≡ start_text p.release) (spelled : Spells body (record_of (made p) [])) (old new : D) where
+  pub begins_at : (at : D) → IsBegunAt v body start old new at → BeginsAt v (doubted [] (made p)) old new at
   begins_at at begun = record {
     until = begun.until;
+    first_sync = begun.first_sync;
     synced = begun.synced;
-    from = weakened moment left_since at new (IsNoneOrNew body start) (IsNoneOrOfPrefix (doubted [] (made p))) (while_creating p body start fits versions is spelled) begun.from;
+    from = weakened v.moment v.left_since at new (IsNoneOrNew body start) (IsNoneOrOfPrefix (doubted [] (made p))) (while_creating p body start fits versions is spelled) begun.from;
   }
 
-  pub begins : Creates seen may_leave moment left_since body start old new → Begins seen may_leave moment left_since (doubted [] (made p)) old new
+  pub begins : Creates v body start old new → Begins v (doubted [] (made p)) old new
   begins (inl before) = inl before
   begins (inr (at, begun)) = inr (at, begins_at at begun)
 

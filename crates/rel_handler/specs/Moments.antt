@@ -1,5 +1,5 @@
 -- What the calls of a handler leave at each moment.
-use Rattle.std.specs.Prelude.{◌≡◌, ◌⊎◌, ℕ, ◌≤◌, List, [], ◌∷◌, ◌++◌, Some, Result, Ok, Err}
+use Rattle.std.specs.Prelude.{◌≡◌, ◌⊎◌, ◌+◌, ℕ, ◌≤◌, List, [], ◌∷◌, ◌++◌, Some, Result, Ok, Err}
 use Rattle.rel_disk.specs.Damage.{Only}
 use Rattle.rel_disk.specs.declared.disk.Disk.{Ghosts}
 use Rattle.rel_disk.specs.Moments.{LeavesOnly}
@@ -7,7 +7,7 @@ use Rattle.rel_list.specs.Releases.{Releases}
 use Rattle.rel_list.specs.Event.{Event, list_after}
 use Rattle.rel_list.specs.Event.Event.{boot}
 use Rattle.rel_store.specs.Contents.{HasOnlyRead}
-use Rattle.rel_store.specs.Creation.{IsUnwritten}
+use Rattle.rel_store.specs.Creation.{IsBeforeFirstSync, IsUnwritten}
 use Rattle.rel_store.specs.Moments.{IsTornFrom}
 use Rattle.node_store.specs.Events.{Events, Known, IsPrefix, IsNoneOrOfPrefix, Stored, MayHave, uncertain_boot, IsStoredAs}
 use Rattle.node_store.specs.Image.{Extent, IsLeftByBoot}
@@ -23,17 +23,18 @@ pub record HasRead {D : Type 0} (v : Ghosts D) (old new : NodeStore D) : Type 0 
   pub only_read : HasOnlyRead v.seen v.may_leave v.moment v.left_since (disk_in old) (disk_in new)
   pub counted : v.failures (disk_in old) ≤ v.failures (disk_in new)
 
--- Up to this moment of a creation a crash leaves what it left before the call, but for a torn gate, and the disk is synced then.
--- From it on a crash leaves no store, or one that stands for the list of such a prefix.
-pub record BeginsAt {D : Type 0} (seen : D → List ℕ) (may_leave : D → List ℕ → Type 0) (moment : D → ℕ) (left_since : D → ℕ → List ℕ → Type 0) (k : Known) (old new at : D) : Type 0 where
-  pub until : LeavesOnly moment left_since old at (IsTornFrom (may_leave old) 0 1)
-  pub synced : Only (seen at) (may_leave at)
-  pub from : LeavesOnly moment left_since at new (IsNoneOrOfPrefix k)
+-- Up to this moment of a creation a crash leaves what it left before the call, but for a torn gate, and its first sync has taken
+-- effect then. From it on a crash leaves no store, or one that stands for the list of such a prefix.
+pub record BeginsAt {D : Type 0} (v : Ghosts D) (k : Known) (old new at : D) : Type 0 where
+  pub until : LeavesOnly v.moment v.left_since old at (IsTornFrom (v.may_leave old) 0 1)
+  pub first_sync : v.syncs at ≡ v.syncs old + 1
+  pub synced : Only (v.seen at) (v.may_leave at)
+  pub from : LeavesOnly v.moment v.left_since at new (IsNoneOrOfPrefix k)
 
--- At each moment of a creation: nothing but the gate of a store is torn; or so it is up to such a moment.
-abbrev pub Begins : {D : Type 0} → (D → List ℕ) → (D → List ℕ → Type 0) → (D → ℕ) → (D → ℕ → List ℕ → Type 0) → Known → D → D → Type 0
-Begins {D = D} seen may_leave moment left_since k old new =
-    LeavesOnly moment left_since old new (IsTornFrom (may_leave old) 0 1) ⊎ ((at : D) × BeginsAt seen may_leave moment left_since k old new at)
+-- At each moment of a creation: nothing but the gate of a store is torn, and no sync has taken effect; or that is so up to the
+-- first sync that does.
+abbrev pub Begins : {D : Type 0} → Ghosts D → Known → D → D → Type 0
+Begins {D} v k old new = IsBeforeFirstSync v old new ⊎ ((at : D) × BeginsAt v k old new at)
 
 -- A creation wrote nothing: a read gives what it gave, and a crash in it leaves nothing new.
 abbrev pub WritesNothing : {D : Type 0} → (D → List ℕ) → (D → List ℕ → Type 0) → (D → ℕ) → (D → ℕ → List ℕ → Type 0) → D → D → Type 0
@@ -45,20 +46,24 @@ pub record BootsTo (k : Known) (es : Releases) : Type 0 where
   pub prefix : IsPrefix k events
   pub after : list_after (events ++ boot ∷ []) ≡ Some es
 
--- Up to this moment of a boot a crash leaves nothing that none before would have left; from then on it leaves what a read gave,
--- and what the boot has written.
-pub record SettlesAt {D : Type 0} (seen : D → List ℕ) (may_leave : D → List ℕ → Type 0) (moment : D → ℕ) (left_since : D → ℕ → List ℕ → Type 0) (old new at : D) : Type 0 where
-  pub until : LeavesOnly moment left_since old at (may_leave old)
-  pub from : LeavesOnly moment left_since at new (λ c. (c ≡ seen old) ⊎ IsLeftByBoot (seen old) c)
+-- No sync of a boot has taken effect, and a crash leaves nothing that none before would have left.
+pub record IsUnsettled {D : Type 0} (v : Ghosts D) (old new : D) : Type 0 where
+  pub until : LeavesOnly v.moment v.left_since old new (v.may_leave old)
+  pub unsynced : v.syncs new ≡ v.syncs old
 
--- A boot syncs the disk, whatever it answers. So an event in doubt is settled there. Where the device failed, it may have
--- failed in the sync or before it, and then a crash leaves nothing new.
-abbrev pub IsSynced : {D : Type 0} → (D → List ℕ) → (D → List ℕ → Type 0) → (D → ℕ) → (D → ℕ → List ℕ → Type 0) → D → Result (NodeStore D) (BootError × D) → Type 0
-IsSynced {D} seen may_leave moment left_since old (Ok handler) =
-    (at : D) × SettlesAt seen may_leave moment left_since old (disk_in handler) at
-IsSynced {D} seen may_leave moment left_since old (Err refusal) =
-    ((refusal.0 ≡ Device) × LeavesOnly moment left_since old refusal.1 (may_leave old))
-    ⊎ ((at : D) × SettlesAt seen may_leave moment left_since old refusal.1 at)
+-- Up to this moment of a boot a crash leaves nothing that none before would have left, and its first sync has taken effect then.
+-- From then on it leaves what a read gave, and what the boot has written.
+pub record SettlesAt {D : Type 0} (v : Ghosts D) (old new at : D) : Type 0 where
+  pub until : LeavesOnly v.moment v.left_since old at (v.may_leave old)
+  pub first_sync : v.syncs at ≡ v.syncs old + 1
+  pub from : LeavesOnly v.moment v.left_since at new (λ c. (c ≡ v.seen old) ⊎ IsLeftByBoot (v.seen old) c)
+
+-- A boot syncs the disk, whatever it answers, and an event in doubt is settled by the first sync that takes effect. Where none
+-- has, the device failed.
+abbrev pub IsSynced : {D : Type 0} → Ghosts D → D → Result (NodeStore D) (BootError × D) → Type 0
+IsSynced {D} v old (Ok handler) = (at : D) × SettlesAt v old (disk_in handler) at
+IsSynced {D} v old (Err refusal) =
+    ((refusal.0 ≡ Device) × IsUnsettled v old refusal.1) ⊎ ((at : D) × SettlesAt v old refusal.1 at)
 
 -- A boot of a store whose events are known has settled which it has. From then on its own event is in doubt.
 pub record SettlesStore {D : Type 0} (v : Ghosts D) (s : Stored) (old new : D) : Type 0 where

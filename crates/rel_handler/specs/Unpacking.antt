@@ -69,7 +69,7 @@ pub record IsMade {D : Type 0} (v : Ghosts D) (source : Source) (path : List ℕ
   pub fits : HasSpace first_extent (made_size brought)
   pub extent : extent_in handler ≡ extent_behind first_extent (made_size brought)
   pub synced : D
-  pub begun : BeginsAt v.seen v.may_leave v.moment v.left_since (doubted [] (made (bundle_brought brought))) disk (disk_in handler) synced
+  pub begun : BeginsAt v (doubted [] (made (bundle_brought brought))) disk (disk_in handler) synced
 
 -- The disk holds no store, and its other files are why no node was made with what the path brings. Nothing was written.
 pub record IsNotBegun {D : Type 0} (v : Ghosts D) (source : Source) (path : List ℕ) (disk now : D) (e : HandlerError) : Type 0 where
@@ -87,7 +87,7 @@ pub record IsNotMade {D : Type 0} (v : Ghosts D) (source : Source) (path : List 
   pub read : Brings source path (Ok brought)
   pub clear : e ≢ Exists → e ≢ Device → own_refusal brought ≡ None
   pub idle : own_refusal brought ≢ None → WritesNothing v.seen v.may_leave v.moment v.left_since disk now
-  pub any_moment : Begins v.seen v.may_leave v.moment v.left_since (doubted [] (made (bundle_brought brought))) disk now
+  pub any_moment : Begins v (doubted [] (made (bundle_brought brought))) disk now
   pub refused : MakingRefused (v.seen disk) (made_size brought) (v.failures disk) (v.failures now) (WritesNothing v.seen v.may_leave v.moment v.left_since disk now) e
 
 -- Why no node was made: the release's file or its other files, and then nothing was written; or the disk, the store or memory.

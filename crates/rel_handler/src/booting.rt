@@ -65,10 +65,10 @@ pub fn boot<D: Disk>(alloc: Global, disk: D) -> Result<Handler<D>, (BootError, D
         (λ e. (e.0 ≡ BootError.Device) ⊎ (e.0 ≡ BootError.NoMemory)) }
 
     // A crash in the call leaves what one before it would have left, or what a read gave with so much of what the boot writes.
-    // From the sync on it leaves nothing but the latter, unless the device failed before.
+    // From the first sync that takes effect on it leaves nothing but the latter.
     ensures any_moment { LeavesOnly D.moment D.left_since disk (disk_of result)
         (λ c. D.may_leave disk c ⊎ IsLeftByBoot (D.seen disk) c) }
-    ensures synced { IsSynced D.seen D.may_leave D.moment D.left_since disk result }
+    ensures synced { IsSynced D.Disk disk result }
 
     // So a store whose events are known keeps them, with the boot's own after them or without.
     ensures stored { (s : Stored) → ((c : List ℕ) → D.may_leave disk c → IsStoredAs s c)
@@ -107,7 +107,7 @@ fn open<D: Disk>(alloc: Global, disk: D) -> Result<NodeStore<D>, (BootError, D)>
         (λ node. list_in node ≡ recorded es)
         (λ e. (e.0 ≡ BootError.Device) ⊎ (e.0 ≡ BootError.NoMemory)) }
     ensures any_moment { LeavesOnly D.moment D.left_since disk (disk_of result) (D.may_leave disk) }
-    ensures synced { IsSynced D.seen D.may_leave D.moment D.left_since disk result }
+    ensures synced { IsSynced D.Disk disk result }
     ensures quiet { IfErr result (λ e. (e.0 ≡ BootError.Device)
         ⊎ HasOnlyRead D.seen D.may_leave D.moment D.left_since disk e.1) }
     ensures counted { D.failures disk ≤ D.failures (disk_of result) }

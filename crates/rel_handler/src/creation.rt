@@ -39,8 +39,8 @@ impl<D: Disk> Handler<D> {
     /// All files are read first. Refusals, in this order: `MissingFile`, `BadFile`, `TooMany` for the release's file or its
     /// number of applications; `Exists`; `MissingFile`, `BadFile`, `VsnMismatch`, `NoTable`, `TooMany` for the files of the
     /// applications; `BadFile`, `TooMany`, `VsnMismatch` for the relup; `Full`. `NoMemory` may come in place of each. Nothing
-    /// has been written then. After `Device` the disk has no store or the new one, once the first sync has succeeded; before
-    /// that nothing but its first byte was written. The disk comes back with each refusal.
+    /// has been written then. After `Device` the disk has no store or the new one, once the first sync has taken effect, whatever
+    /// it answered; before that nothing but its first byte was written. The disk comes back with each refusal.
     pub fn create<F: Files>(
         alloc: Global,
         disk: D,
@@ -89,10 +89,10 @@ impl<D: Disk> Handler<D> {
         ensures fits { OnOk result (HasSpace first_extent (made_size (brought_of brought))) }
         ensures extent { IfOk result (λ handler. extent_in handler
             ≡ extent_behind first_extent (made_size (brought_of brought))) }
-        ensures any_moment { Begins D.seen D.may_leave D.moment D.left_since
+        ensures any_moment { Begins D.Disk
             (doubted [] (made (bundle_brought (brought_of brought)))) disk (disk_of result) }
         ensures begun { OnOk result ((at : D)
-            × BeginsAt D.seen D.may_leave D.moment D.left_since
+            × BeginsAt D.Disk
             (doubted [] (made (bundle_brought (brought_of brought)))) disk (disk_of result) at) }
         ensures format { IfOk result (λ handler. format_in handler ≡ 2) }
         ensures taken { holds_a_store (D.seen disk) ≡ true → IfErr result
@@ -123,6 +123,7 @@ impl<D: Disk> Handler<D> {
 // reported before it.
 fn existing_or<D: Disk>(disk: &mut D, why: HandlerError) -> HandlerError
     ensures read { HasOnlyRead D.seen D.may_leave D.moment D.left_since disk.old disk.new }
+    ensures unsynced { D.syncs disk.new ≡ D.syncs disk.old }
     ensures counted { D.failures disk.old ≤ D.failures disk.new }
     ensures reported { IsExistingOr why (D.seen disk.old) (D.failures disk.old)
         (D.failures disk.new) result }

@@ -1,6 +1,6 @@
 // A disk over a file of the host.
 ghost use Rattle.std.specs.Prelude.{◌≡◌, ◌+◌, ◌-◌, ◌≤◌, length, slice_range, false, IfOk, IsOk, IsErr, OnOk, OnErr};
-ghost use Rattle.rel_disk.specs.Calls.{wrote, cut_to, synced, content};
+ghost use Rattle.rel_disk.specs.Calls.{wrote, cut_to, synced, content, sync_count};
 ghost use Rattle.rel_disk.specs.Damage.{Torn, Cut, Follows, Within};
 ghost use Rattle.rel_disk.specs.ImageLaws.{content_is_image, counts_now, only_now};
 ghost use Rattle.rel_disk.specs.Images.{Image, ImageSince};
@@ -59,8 +59,8 @@ impl Display for OpenError {
 ///
 /// A write and a cut are noted in memory first, so that the damage that a fault of the file leaves is among the images, and
 /// then done on the file: one for which the memory has no room fails and doesn't touch it. A sync is done on the file first, and
-/// fails too where the memory has no room to note it. A fault of the file is a `DeviceFault`, and from then on every write, cut
-/// and sync fails. Reads still answer: they give what the memory has, which is one of the images.
+/// fails too where the memory has no room to note it; it isn't counted then (`syncs`). A fault of the file is a `DeviceFault`,
+/// and from then on every write, cut and sync fails. Reads still answer: they give what the memory has, which is one of the images.
 ///
 /// No clause can name the bytes of the file itself. That it has what the memory has, and that a crash leaves of it one of
 /// the images, is trusted. So it is a premise that bytes that were not written since the last sync stay over a crash, also
@@ -145,6 +145,8 @@ impl<F: DiskFile + Drop> Disk for FileDisk<F> {
     ghost moment = { λ d. length d.memory.calls };
 
     ghost left_since = { λ d. ImageSince d.memory.first d.memory.calls };
+
+    ghost syncs = { λ d. sync_count d.memory.calls };
 
     ghost failures = { all_failures };
 

@@ -57,9 +57,9 @@ pub record IsReached (k : Known) (command : Events) (image : List ℕ) : Type 0 
 -- all.
 abbrev pub MomentsOf : {D : Type 0} → Device D → Events → Option Event → D → D → Type 0
 MomentsOf {D} v (made p ∷ more) doubt old new =
-    (at : D) × BeginsAt v.seen v.may_leave v.moment v.left_since (doubted [] (made p)) old new at
+    (at : D) × BeginsAt v (doubted [] (made p)) old new at
 MomentsOf v [] (Some (made p)) old new =
-    Begins v.seen v.may_leave v.moment v.left_since (doubted [] (made p)) old new
+    Begins v (doubted [] (made p)) old new
     × (holds_a_store (v.seen old) ≡ true → LeavesOnly v old new (v.may_leave old))
 MomentsOf v [] None old new = LeavesOnly v old new (v.may_leave old)
 MomentsOf v acknowledged doubt old new = LeavesOnly v old new (λ c. v.may_leave old c ⊎ IsLeftByBoot (v.seen old) c)

@@ -7,7 +7,8 @@ use Rattle.std.proofs.lemmas.Bool.Decides.{nat_tests}
 use Rattle.std.proofs.lemmas.List.{take_at, drop_at, drop-drop, length-replicate}
 use Rattle.rel_disk.specs.Damage.{overwritten, Torn, Only, Within}
 use Rattle.rel_disk.specs.Moments.{LeavesOnly}
-use Rattle.rel_disk.proofs.Moments.{weakened}
+use Rattle.rel_disk.specs.declared.disk.Disk.{Ghosts}
+use Rattle.rel_disk.proofs.Moments.{started, weakened}
 use Rattle.rel_store.specs.Creation.{IsNoneOrNew, IsBegunAt, Creates, new_store}
 use Rattle.rel_store.specs.Layout.{magic, has_magic, base_slot, base_of, text_of, format_of, slot_with, new_choices, new_layout}
 use Rattle.rel_store.specs.Moments.{IsTornFrom, IsTornInSteps}
@@ -154,8 +155,8 @@ module _ (start : List ℕ) (few : length start ≤ 127) where
         subst (IsNoneOrNew first start) (sym whole) (any_gate byte.0 ((bytes ++ is.0) ++ from.tail) (is.0 ++ from.tail) (append_assoc bytes is.0 from.tail ∙ behind bytes (is.0 ++ from.tail) spelled))
 
     -- A creation whose first write is done: where it stands while the rest is written, and the gate opened.
-    module _ {D : Type 0} (moment : D → ℕ) (left_since : D → ℕ → List ℕ → Type 0) (seen : D → List ℕ) (may_leave : D → List ℕ → Type 0) (old at : D)
-        (until : LeavesOnly moment left_since old at (IsTornFrom (may_leave old) 0 1)) (closed : seen at ≡ overwritten 0 (0 ∷ []) (seen old)) (synced : Only (seen at) (may_leave at)) where
+    module _ {D : Type 0} (v : Ghosts D) (old at : D) (until : LeavesOnly v.moment v.left_since old at (IsTornFrom (v.may_leave old) 0 1)) (first_sync : v.syncs at ≡ v.syncs old + 1)
+        (closed : v.seen at ≡ overwritten 0 (0 ∷ []) (v.seen old)) (synced : Only (v.seen at) (v.may_leave at)) where
       own_bytes : (bytes : List ℕ) → bytes ≡ new_layout start ++ (1 ∷ (record_bytes first ++ 0 ∷ [])) → Owns (IsInNewStore (length first)) 1 (length bytes)
       own_bytes bytes spelled = λ i from within. omega (
         arith,
@@ -167,21 +168,26 @@ module _ (start : List ℕ) (few : length start ≤ 127) where
         length-append (record_bytes first) (0 ∷ []),
       )
 
-      pub begun : (new : D) (bytes : List ℕ) → bytes ≡ new_layout start ++ (1 ∷ (record_bytes first ++ 0 ∷ [])) → LeavesOnly moment left_since at new (IsTornInSteps (may_leave at) 1 bytes 0 (seen at)) → IsBegunAt seen may_leave moment left_since first start old new at
+      pub begun : (new : D) (bytes : List ℕ) → bytes ≡ new_layout start ++ (1 ∷ (record_bytes first ++ 0 ∷ [])) → LeavesOnly v.moment v.left_since at new (IsTornInSteps (v.may_leave at) 1 bytes 0 (v.seen at)) → IsBegunAt v first start old new at
       begun new bytes spelled leaves = record {
         until = until;
+        first_sync = first_sync;
         closed = closed;
         synced = synced;
-        from = weakened moment left_since at new _ _ each leaves;
-        others = steps_leave moment left_since seen may_leave (IsInNewStore (length first)) at synced 1 bytes 0 (own_bytes bytes spelled) (λ i from within. omega (arith, within)) new leaves;
+        from = weakened v.moment v.left_since at new _ _ each leaves;
+        others = steps_leave v.moment v.left_since v.seen v.may_leave (IsInNewStore (length first)) at synced 1 bytes 0 (own_bytes bytes spelled) (λ i from within. omega (arith, within)) new leaves;
       }
         where
           laid : List ℕ
-          laid = overwritten 1 bytes (seen at)
+          laid = overwritten 1 bytes (v.seen at)
 
-          each : (c : List ℕ) → IsTornInSteps (may_leave at) 1 bytes 0 (seen at) c → IsNoneOrNew first start c
-          each c (inl second) = behind_leaves (seen at) (seen old) (length bytes) (may_leave at) closed synced c second
-          each c (inr third) = gate_leaves laid bytes (λ d. d ≡ laid) spelled (laid_out (seen at) (seen old) laid bytes closed refl) (λ d is. is) c third
+          each : (c : List ℕ) → IsTornInSteps (v.may_leave at) 1 bytes 0 (v.seen at) c → IsNoneOrNew first start c
+          each c (inl second) = behind_leaves (v.seen at) (v.seen old) (length bytes) (v.may_leave at) closed synced c second
+          each c (inr third) = gate_leaves laid bytes (λ d. d ≡ laid) spelled (laid_out (v.seen at) (v.seen old) laid bytes closed refl) (λ d is. is) c third
+
+      -- where it ends with that sync
+      pub begun_there : ((c : List ℕ) → v.left_since at (v.moment at) c → v.may_leave at c) → (bytes : List ℕ) → bytes ≡ new_layout start ++ (1 ∷ (record_bytes first ++ 0 ∷ [])) → IsBegunAt v first start old at at
+      begun_there only_now bytes spelled = begun at bytes spelled (started v.moment v.left_since at _ (λ c left. inl (inl (only_now c left))))
 
 -- Once the gate is opened, the store stands over what there was.
 pub opened_over : (old closed bytes opened : List ℕ) → closed ≡ overwritten 0 (0 ∷ []) old → opened ≡ overwritten 0 (1 ∷ []) (overwritten 1 bytes closed) → opened ≡ overwritten 0 (1 ∷ bytes) old
@@ -195,17 +201,18 @@ opened_over old closed bytes opened is opens =
         ap (λ n. drop n (0 ∷ drop 1 old)) first ∙ drop-drop (length bytes) 1 old ∙ ap (λ n. drop n old) whole
 
 -- A creation that has read the disk before it writes.
-module _ {D : Type 0} (moment : D → ℕ) (left_since : D → ℕ → List ℕ → Type 0) (seen : D → List ℕ) (may_leave : D → List ℕ → Type 0) (first start : List ℕ) (old mid new : D)
-    (reads : LeavesOnly moment left_since old mid (may_leave old)) (within : Within (may_leave old) (may_leave mid)) (same : seen mid ≡ seen old) where
-  pub begun_after_reading : (at : D) → IsBegunAt seen may_leave moment left_since first start mid new at → IsBegunAt seen may_leave moment left_since first start old new at
+module _ {D : Type 0} (v : Ghosts D) (first start : List ℕ) (old mid new : D) (reads : LeavesOnly v.moment v.left_since old mid (v.may_leave old)) (within : Within (v.may_leave old) (v.may_leave mid)) (same : v.seen mid ≡ v.seen old)
+    (unsynced : v.syncs mid ≡ v.syncs old) where
+  pub begun_after_reading : (at : D) → IsBegunAt v first start mid new at → IsBegunAt v first start old new at
   begun_after_reading at begun = record {
-    until = touched moment left_since may_leave old mid at reads within begun.until;
+    until = touched v.moment v.left_since v.may_leave old mid at reads within begun.until;
+    first_sync = begun.first_sync ∙ ap (λ n. n + 1) unsynced;
     closed = begun.closed ∙ ap (overwritten 0 (0 ∷ [])) same;
     synced = begun.synced;
     from = begun.from;
     others = begun.others;
   }
 
-  pub creates_after_reading : Creates seen may_leave moment left_since first start mid new → Creates seen may_leave moment left_since first start old new
-  creates_after_reading (inl until) = inl (touched moment left_since may_leave old mid new reads within until)
+  pub creates_after_reading : Creates v first start mid new → Creates v first start old new
+  creates_after_reading (inl so_far) = inl (record { until = touched v.moment v.left_since v.may_leave old mid new reads within so_far.until; unsynced = so_far.unsynced ∙ unsynced })
   creates_after_reading (inr (at, begun)) = inr (at, begun_after_reading at begun)

@@ -2,6 +2,7 @@
 use Rattle.std.specs.Prelude.{◌≡◌, ℕ, ◌+◌, ◌==◌, false, List, drop, map, Result, Ok, Err, slice_index}
 use Rattle.rel_disk.specs.Damage.{Only, Within}
 use Rattle.rel_disk.specs.Moments.{LeavesOnly, HasFailed}
+use Rattle.rel_disk.specs.declared.disk.Disk.{Ghosts}
 use Rattle.rel_store.specs.Layout.{base_of, format_of}
 use Rattle.rel_store.specs.Records.{is_whole, records_of, space}
 use Rattle.rel_store.specs.declared.contents.Contents.{Contents}
@@ -25,10 +26,12 @@ OpenRefused bytes before now Device = HasFailed before now
 OpenRefused bytes before now NoMemory = Unit {0}
 OpenRefused bytes before now _ = ⊥
 
--- The disk was synced, and read alone: a crash leaves what a read gives, which is what it gave before.
-pub record HasSynced {D : Type 0} (seen : D → List ℕ) (may_leave : D → List ℕ → Type 0) (old new : D) : Type 0 where
-  pub durable : Only (seen old) (may_leave new)
-  pub same : seen new ≡ seen old
+-- One sync of the disk has taken effect, and else it was read alone: a crash leaves what a read gives, which is what it gave
+-- before.
+pub record HasSynced {D : Type 0} (v : Ghosts D) (old new : D) : Type 0 where
+  pub first_sync : v.syncs new ≡ v.syncs old + 1
+  pub durable : Only (v.seen old) (v.may_leave new)
+  pub same : v.seen new ≡ v.seen old
 
 -- the refusal of an opening whose sync may have failed
 abbrev pub RefusedByDevice : {A D : Type 0} → Result A (StoreError × D) → Type 0

@@ -1,7 +1,8 @@
 -- What a creation of a store leaves.
-use Rattle.std.specs.Prelude.{◌≡◌, ◌⊎◌, ◌≤◌, ℕ, true, false, List, [], ◌∷◌, ◌++◌, length, Err}
+use Rattle.std.specs.Prelude.{◌≡◌, ◌⊎◌, ◌+◌, ◌≤◌, ℕ, true, false, List, [], ◌∷◌, ◌++◌, length, Err}
 use Rattle.rel_disk.specs.Damage.{overwritten, Only}
 use Rattle.rel_disk.specs.Moments.{LeavesOnly, HasFailed}
+use Rattle.rel_disk.specs.declared.disk.Disk.{Ghosts}
 use Rattle.rel_store.specs.Changed.{LeavesOthers, IsInNewStore}
 use Rattle.rel_store.specs.Layout.{has_magic, slot_with, new_layout}
 use Rattle.rel_store.specs.Moments.{IsTornFrom}
@@ -29,20 +30,25 @@ pub record IsUnwritten {D : Type 0} (seen : D → List ℕ) (may_leave : D → L
   pub same : seen new ≡ seen old
   pub any_moment : LeavesOnly moment left_since old new (may_leave old)
 
--- Up to this moment nothing but the gate of a store has been written, and it is closed and synced then; from then on each
--- image is no store or the new one, and all bytes are as they were but those of the new store.
-pub record IsBegunAt {D : Type 0} (seen : D → List ℕ) (may_leave : D → List ℕ → Type 0) (moment : D → ℕ) (left_since : D → ℕ → List ℕ → Type 0) (first start : List ℕ) (old new at : D) : Type 0 where
-  pub until : LeavesOnly moment left_since old at (IsTornFrom (may_leave old) 0 1)
-  pub closed : seen at ≡ overwritten 0 (0 ∷ []) (seen old)
-  pub synced : Only (seen at) (may_leave at)
-  pub from : LeavesOnly moment left_since at new (IsNoneOrNew first start)
-  pub others : LeavesOnly moment left_since at new (LeavesOthers (IsInNewStore (length first)) (seen at))
+-- Nothing but the gate of a store has been written, and no sync has taken effect.
+pub record IsBeforeFirstSync {D : Type 0} (v : Ghosts D) (old new : D) : Type 0 where
+  pub until : LeavesOnly v.moment v.left_since old new (IsTornFrom (v.may_leave old) 0 1)
+  pub unsynced : v.syncs new ≡ v.syncs old
 
--- At each moment of a creation: the images are those from before it, but for a gate that is torn; or so they are up to a moment at
--- which the gate is closed and synced, and from then on each is no store or the new one.
-abbrev pub Creates : {D : Type 0} → (D → List ℕ) → (D → List ℕ → Type 0) → (D → ℕ) → (D → ℕ → List ℕ → Type 0) → List ℕ → List ℕ → D → D → Type 0
-Creates {D = D} seen may_leave moment left_since first start old new =
-    LeavesOnly moment left_since old new (IsTornFrom (may_leave old) 0 1) ⊎ ((at : D) × IsBegunAt seen may_leave moment left_since first start old new at)
+-- Up to this moment nothing but the gate of a store has been written, and the first sync has taken effect then: the gate is closed.
+-- From then on each image is no store or the new one, and all bytes are as they were but those of the new store.
+pub record IsBegunAt {D : Type 0} (v : Ghosts D) (first start : List ℕ) (old new at : D) : Type 0 where
+  pub until : LeavesOnly v.moment v.left_since old at (IsTornFrom (v.may_leave old) 0 1)
+  pub first_sync : v.syncs at ≡ v.syncs old + 1
+  pub closed : v.seen at ≡ overwritten 0 (0 ∷ []) (v.seen old)
+  pub synced : Only (v.seen at) (v.may_leave at)
+  pub from : LeavesOnly v.moment v.left_since at new (IsNoneOrNew first start)
+  pub others : LeavesOnly v.moment v.left_since at new (LeavesOthers (IsInNewStore (length first)) (v.seen at))
+
+-- At each moment of a creation: the images are those from before it, but for a gate that is torn, and no sync has taken effect; or
+-- that is so up to the first sync that does, and from then on each is no store or the new one.
+abbrev pub Creates : {D : Type 0} → Ghosts D → List ℕ → List ℕ → D → D → Type 0
+Creates {D} v first start old new = IsBeforeFirstSync v old new ⊎ ((at : D) × IsBegunAt v first start old new at)
 
 -- Why a creation refuses, in the order in which it is reported. Nothing has been written then, unless the device failed.
 abbrev pub CreationRefused : List ℕ → List ℕ → ℕ → ℕ → Type 0 → StoreError → Type 0

@@ -36,6 +36,7 @@ impl Contents {
     pub(crate) fn read<D: Disk>(alloc: Global, disk: &mut D) -> Result<Contents, StoreError>
         ensures ok { IfOk result (AreContentsOf (D.seen disk.old)) }
         ensures reads { HasOnlyRead D.seen D.may_leave D.moment D.left_since disk.old disk.new }
+        ensures unsynced { D.syncs disk.new ≡ D.syncs disk.old }
         ensures counted { D.failures disk.old ≤ D.failures disk.new }
         ensures refused { IfErr result
             (OpenRefused (D.seen disk.old) (D.failures disk.old) (D.failures disk.new)) }
@@ -81,6 +82,7 @@ fn read_records<D: Disk>(
     ensures gate { IfOk result
         (λ found. found.gate ≡ base + space (map (λ v. v.items) found.records.items)) }
     ensures reads { HasOnlyRead D.seen D.may_leave D.moment D.left_since disk.old disk.new }
+    ensures unsynced { D.syncs disk.new ≡ D.syncs disk.old }
     ensures counted { D.failures disk.old ≤ D.failures disk.new }
     ensures refused { IfErr result
         (RecordsRefused (records_from base 0 (drop base (D.seen disk.old))) (D.failures disk.old)
@@ -106,6 +108,7 @@ fn record_at<D: Disk>(disk: &mut D, gate: u64, len: u64) -> Result<Option<usize>
         × (is_whole (drop (gate + 1) (D.seen disk.old)) ≡ true)
         × (size ≡ spelled_length (drop (gate + 1) (D.seen disk.old))))) }
     ensures reads { HasOnlyRead D.seen D.may_leave D.moment D.left_since disk.old disk.new }
+    ensures unsynced { D.syncs disk.new ≡ D.syncs disk.old }
     ensures counted { D.failures disk.old ≤ D.failures disk.new }
     ensures refused { IfErr result
         (RecordRefused (D.seen disk.old) gate (D.failures disk.old) (D.failures disk.new)) }
@@ -140,6 +143,7 @@ fn read_body<D: Disk>(
     requires { at + size ≤ length (D.seen disk.old) }
     ensures ok { IfOk result (λ body. body.items ≡ take size (drop at (D.seen disk.old))) }
     ensures reads { HasOnlyRead D.seen D.may_leave D.moment D.left_since disk.old disk.new }
+    ensures unsynced { D.syncs disk.new ≡ D.syncs disk.old }
     ensures counted { D.failures disk.old ≤ D.failures disk.new }
     ensures refused { IfErr result (DeviceRefused (D.failures disk.old) (D.failures disk.new)) }
 {

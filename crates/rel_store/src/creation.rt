@@ -1,5 +1,5 @@
 // A store is made.
-ghost use Rattle.std.specs.Prelude.{◌≡◌, ℕ, List, ◌+◌, ◌≤◌, [], ◌∷◌, map, true, length, IfOk, IfErr, OnOk, IsErr};
+ghost use Rattle.std.specs.Prelude.{◌≡◌, ℕ, List, ◌+◌, ◌≤◌, [], ◌∷◌, map, true, false, length, IfOk, IfErr, OnOk, IsErr};
 ghost use Rattle.rel_disk.specs.Damage.{overwritten, Only, Within};
 ghost use Rattle.rel_disk.specs.Moments.{LeavesOnly, HasFailed};
 ghost use Rattle.rel_store.specs.Creation.{new_store, IsBehindGate, IsBegunAt, Creates, IsUnwritten, CreationRefused};
@@ -19,7 +19,8 @@ impl<D: Disk> Store<D> {
     ///
     /// Reported in this order: `Exists` where the disk begins with an open gate and the magic, `Full` where the record is
     /// longer than a record may be, `NoMemory`. Nothing has been written then. `Device` may come instead of each: once
-    /// the first sync has succeeded a crash leaves no store, or this one, and before it at most the first byte was written.
+    /// the first sync has taken effect, whatever it answered, a crash leaves no store, or this one, and before it at most the
+    /// first byte was written.
     pub fn create(
         alloc: Global,
         disk: D,
@@ -39,13 +40,10 @@ impl<D: Disk> Store<D> {
         ensures format { IfOk result (λ store. format_in store ≡ 2) }
         ensures end { IfOk result (λ store. end_in store ≡ 289 + (5 + length first.now)) }
 
-        // At each moment from the first sync on a crash leaves no store, or one with the first record.
-        ensures any_moment { Creates D.seen D.may_leave D.moment D.left_since first.now start.now
-            disk (disk_of result) }
+        // At each moment from the first sync on that took effect, a crash leaves no store, or one with the first record.
+        ensures any_moment { Creates D.Disk first.now start.now disk (disk_of result) }
         ensures begun { OnOk result
-            ((at : D)
-            × IsBegunAt D.seen D.may_leave D.moment D.left_since first.now start.now disk
-            (disk_of result) at) }
+            ((at : D) × IsBegunAt D.Disk first.now start.now disk (disk_of result) at) }
 
         ensures taken { has_magic (D.seen disk) ≡ true
             → IfErr result (λ e. IsUnwritten D.seen D.may_leave D.moment D.left_since disk e.1)
@@ -56,10 +54,14 @@ impl<D: Disk> Store<D> {
             (IsUnwritten D.seen D.may_leave D.moment D.left_since disk e.1) e.0) }
     {
         let mut disk = disk;
-        match lay_out(alloc, &mut disk, first, start) {
-            Ok(records) => Ok(Store {
+        let new = match lay_out(alloc, &mut disk, first, start) {
+            Ok(new) => new,
+            Err(error) => return Err((error, disk)),
+        };
+        match write_store(&mut disk, &new.bytes) {
+            Ok(()) => Ok(Store {
                 disk,
-                records,
+                records: new.records,
                 gate: FIRST_RECORD + (RECORD_HEAD + first.len()) as u64,
                 second_start: false,
                 base: FIRST_RECORD,
@@ -68,32 +70,34 @@ impl<D: Disk> Store<D> {
                 must_reopen: false,
                 spare: Vec::new(alloc),
             }),
-            Err(error) => Err((error, disk)),
+            Err(DeviceFault) => Err((StoreError::Device, disk)),
         }
     }
 }
 
-// Writes a new store, and answers its records.
+// A new store before it is written: its bytes after its gate, and its records.
+#[derive(Drop)]
+struct NewStore {
+    bytes: Vec<u8>,
+    records: Vec<Vec<u8>>,
+}
+
+// Lays a new store out in memory, where the disk has none. Writes nothing.
 fn lay_out<D: Disk>(
     alloc: Global,
     disk: &mut D,
     first: &[u8],
     start: &[u8],
-) -> Result<Vec<Vec<u8>>, StoreError>
+) -> Result<NewStore, StoreError>
     requires { length start.now ≤ 127 }
-    ensures records { IfOk result (λ records. map (λ v. v.items) records.items ≡ first.now ∷ []) }
-    ensures short { OnOk result (length first.now ≤ 16777216) }
-    ensures written { OnOk result
-        (D.seen disk.new ≡ overwritten 0 (new_store first.now start.now) (D.seen disk.old)) }
-    ensures durable { OnOk result (Only (D.seen disk.new) (D.may_leave disk.new)) }
-    ensures any_moment { Creates D.seen D.may_leave D.moment D.left_since first.now start.now
-        disk.old disk.new }
-    ensures begun { OnOk result
-        ((at : D)
-        × IsBegunAt D.seen D.may_leave D.moment D.left_since first.now start.now disk.old disk.new
-        at) }
-    ensures taken { has_magic (D.seen disk.old) ≡ true
-        → IsUnwritten D.seen D.may_leave D.moment D.left_since disk.old disk.new × IsErr result }
+    ensures spelled { IfOk result (λ new. IsBehindGate first.now start.now new.bytes.items) }
+    ensures records { IfOk result
+        (λ new. map (λ v. v.items) new.records.items ≡ first.now ∷ []) }
+    ensures free { OnOk result (has_magic (D.seen disk.old) ≡ false) }
+    ensures same { D.seen disk.new ≡ D.seen disk.old }
+    ensures unsynced { D.syncs disk.new ≡ D.syncs disk.old }
+    ensures crash { Within (D.may_leave disk.old) (D.may_leave disk.new) }
+    ensures any_moment { LeavesOnly D.moment D.left_since disk.old disk.new (D.may_leave disk.old) }
     ensures counted { D.failures disk.old ≤ D.failures disk.new }
     ensures refused { IfErr result
         (CreationRefused (D.seen disk.old) first.now (D.failures disk.old) (D.failures disk.new)
@@ -107,8 +111,7 @@ fn lay_out<D: Disk>(
     }
     let bytes = spell_store(alloc, first, start)?;
     let records = only_record(alloc, first)?;
-    write_store(disk, &bytes)?;
-    Ok(records)
+    Ok(NewStore { bytes, records })
 }
 
 // Writes a store whose bytes after its gate are these: closes the gate, writes them, and opens it.
@@ -117,11 +120,11 @@ fn write_store<D: Disk>(disk: &mut D, bytes: &[u8]) -> Result<(), DeviceFault>
         (D.seen disk.new ≡ overwritten 0 (1 ∷ bytes.now) (D.seen disk.old)) }
     ensures durable { OnOk result (Only (D.seen disk.new) (D.may_leave disk.new)) }
     ensures any_moment { (first : List ℕ) → (start : List ℕ) → IsBehindGate first start bytes.now
-        → Creates D.seen D.may_leave D.moment D.left_since first start disk.old disk.new }
+        → Creates D.Disk first start disk.old disk.new }
     ensures begun { OnOk result
         ((first : List ℕ) → (start : List ℕ) → IsBehindGate first start bytes.now
         → (at : D)
-        × IsBegunAt D.seen D.may_leave D.moment D.left_since first start disk.old disk.new at) }
+        × IsBegunAt D.Disk first start disk.old disk.new at) }
     ensures counted { D.failures disk.old ≤ D.failures disk.new }
     ensures cause { IsErr result → HasFailed (D.failures disk.old) (D.failures disk.new) }
 {
@@ -134,6 +137,7 @@ fn write_store<D: Disk>(disk: &mut D, bytes: &[u8]) -> Result<(), DeviceFault>
 pub fn holds_a_store<D: Disk>(disk: &mut D) -> Result<bool, DeviceFault>
     ensures value { IfOk result (λ taken. taken ≡ has_magic (D.seen disk.old)) }
     ensures same { D.seen disk.new ≡ D.seen disk.old }
+    ensures unsynced { D.syncs disk.new ≡ D.syncs disk.old }
     ensures crash { Within (D.may_leave disk.old) (D.may_leave disk.new) }
     ensures any_moment { LeavesOnly D.moment D.left_since disk.old disk.new (D.may_leave disk.old) }
     ensures counted { D.failures disk.old ≤ D.failures disk.new }

@@ -1,7 +1,7 @@
 // What each call that changes a store does to its disk.
-ghost use Rattle.std.specs.Prelude.{◌≤◌, ◌≡◌, [], ◌∷◌, length, OnOk, IsErr};
+ghost use Rattle.std.specs.Prelude.{◌≤◌, ◌≡◌, ◌+◌, [], ◌∷◌, length, OnOk, IsErr};
 ghost use Rattle.rel_disk.specs.Damage.{overwritten, Only};
-ghost use Rattle.rel_disk.specs.Moments.{LeavesOnly, HasFailed};
+ghost use Rattle.rel_disk.specs.Moments.{LeavesOnly, MaySync, HasFailed};
 ghost use Rattle.rel_store.specs.Moments.{IsTornFrom, IsTornInSteps};
 
 use rel_disk::{DeviceFault, Disk};
@@ -13,6 +13,9 @@ pub(crate) fn write_through<D: Disk>(disk: &mut D, at: u64, bytes: &[u8]) -> Res
     ensures durable { OnOk result (Only (D.seen disk.new) (D.may_leave disk.new)) }
     ensures any_moment { LeavesOnly D.moment D.left_since disk.old disk.new
         (IsTornFrom (D.may_leave disk.old) at (length bytes.now)) }
+    ensures synced { OnOk result (D.syncs disk.new ≡ D.syncs disk.old + 1) }
+    ensures effect { MaySync (D.syncs disk.old) (D.syncs disk.new)
+        (Only (overwritten at bytes.now (D.seen disk.old)) (D.may_leave disk.new)) }
     ensures counted { D.failures disk.old ≤ D.failures disk.new }
     ensures cause { IsErr result → HasFailed (D.failures disk.old) (D.failures disk.new) }
 {

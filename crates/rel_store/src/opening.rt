@@ -25,11 +25,11 @@ impl<D: Disk> Store<D> {
         ensures format { IfOk result (λ store. format_in store ≡ format_of (D.seen disk)) }
 
         // No crash in the call leaves anything that none before it would have left; after it a crash leaves what a read gives,
-        // whatever the opening answers. One that answers `Device` may have failed in the sync, and `synced` says nothing then.
+        // whatever the opening answers, unless its sync took no effect: it answers `Device` then.
         ensures any_moment { LeavesOnly D.moment D.left_since disk (disk_of result)
             (D.may_leave disk) }
-        ensures synced { RefusedByDevice result
-            ⊎ HasSynced D.seen D.may_leave disk (disk_of result) }
+        ensures synced { (RefusedByDevice result × (D.syncs (disk_of result) ≡ D.syncs disk))
+            ⊎ HasSynced D.Disk disk (disk_of result) }
 
         ensures counted { D.failures disk ≤ D.failures (disk_of result) }
         ensures refused { IfErr result
@@ -57,8 +57,8 @@ impl<D: Disk> Store<D> {
 fn read_contents<D: Disk>(alloc: Global, disk: &mut D) -> Result<Contents, StoreError>
     ensures ok { IfOk result (AreContentsOf (D.seen disk.old)) }
     ensures any_moment { LeavesOnly D.moment D.left_since disk.old disk.new (D.may_leave disk.old) }
-    ensures synced { IsErrOf result StoreError.Device
-        ⊎ HasSynced D.seen D.may_leave disk.old disk.new }
+    ensures synced { (IsErrOf result StoreError.Device × (D.syncs disk.new ≡ D.syncs disk.old))
+        ⊎ HasSynced D.Disk disk.old disk.new }
     ensures counted { D.failures disk.old ≤ D.failures disk.new }
     ensures refused { IfErr result
         (OpenRefused (D.seen disk.old) (D.failures disk.old) (D.failures disk.new)) }

@@ -1,6 +1,6 @@
 //! A disk in memory that can report what a crash leaves of it.
 ghost use Rattle.std.specs.Prelude.{◌≡◌, ◌+◌, ◌≤◌, ◌↔◌, [], length, slice_range, IfOk, IsOk, IsErr, OnOk, OnErr};
-ghost use Rattle.rel_disk.specs.Calls.{wrote, cut_to, synced, content};
+ghost use Rattle.rel_disk.specs.Calls.{wrote, cut_to, synced, content, sync_count};
 ghost use Rattle.rel_disk.specs.Damage.{Torn, Cut, Follows, Within};
 ghost use Rattle.rel_disk.specs.ImageLaws.{content_is_image, counts_now, only_now};
 ghost use Rattle.rel_disk.specs.Images.{Image, ImageSince};
@@ -88,6 +88,8 @@ impl Disk for MarkedDisk {
     ghost moment = { λ d. length d.calls };
 
     ghost left_since = { λ d. ImageSince d.first d.calls };
+
+    ghost syncs = { λ d. sync_count d.calls };
 
     ghost failures = { λ d. d.failures };
 

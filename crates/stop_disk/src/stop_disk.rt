@@ -1,7 +1,7 @@
 //! A disk that stops after so many calls.
 ghost use Rattle.std.specs.Prelude.{◌≡◌, ◌⊎◌, ◌+◌, ◌≤◌, ◌/◌, false, length, take, slice_range, IsErr, IfOk, OnOk};
 ghost use Rattle.rel_disk.specs.Damage.{overwritten, Torn, Cut, Follows, Within, Only};
-ghost use Rattle.rel_disk.specs.Moments.{Elapses, HasFailed};
+ghost use Rattle.rel_disk.specs.Moments.{Elapses, MaySync, HasFailed};
 ghost use Rattle.stop_disk.specs.Stops.{all_failures, stop_behind, fate_of, StopsOrPasses};
 
 use rel_disk::{DeviceFault, Disk};
@@ -80,6 +80,8 @@ impl<D: Disk> Disk for StopDisk<D> {
 
     ghost left_since = { λ f. D.left_since f.disk };
 
+    ghost syncs = { λ f. D.syncs f.disk };
+
     ghost failures = { all_failures D.failures };
 
     ghost reads_an_image = { λ f. D.reads_an_image f.disk };
@@ -98,6 +100,7 @@ impl<D: Disk> Disk for StopDisk<D> {
         ensures crash { Within (D.may_leave self.old.disk) (D.may_leave self.new.disk) }
         ensures time { Elapses (D.moment self.old.disk) (D.moment self.new.disk)
             (D.left_since self.old.disk) (D.left_since self.new.disk) (D.may_leave self.new.disk) }
+        ensures unsynced { D.syncs self.new.disk ≡ D.syncs self.old.disk }
         ensures counted { all_failures D.failures self.old ≤ all_failures D.failures self.new }
         ensures cause { IsErr result
             → HasFailed (all_failures D.failures self.old) (all_failures D.failures self.new) }
@@ -120,6 +123,7 @@ impl<D: Disk> Disk for StopDisk<D> {
         ensures crash { Within (D.may_leave self.old.disk) (D.may_leave self.new.disk) }
         ensures time { Elapses (D.moment self.old.disk) (D.moment self.new.disk)
             (D.left_since self.old.disk) (D.left_since self.new.disk) (D.may_leave self.new.disk) }
+        ensures unsynced { D.syncs self.new.disk ≡ D.syncs self.old.disk }
         ensures counted { all_failures D.failures self.old ≤ all_failures D.failures self.new }
         ensures cause { IsErr result
             → HasFailed (all_failures D.failures self.old) (all_failures D.failures self.new) }
@@ -146,6 +150,7 @@ impl<D: Disk> Disk for StopDisk<D> {
             (D.may_leave self.new.disk) }
         ensures time { Elapses (D.moment self.old.disk) (D.moment self.new.disk)
             (D.left_since self.old.disk) (D.left_since self.new.disk) (D.may_leave self.new.disk) }
+        ensures unsynced { D.syncs self.new.disk ≡ D.syncs self.old.disk }
         ensures counted { all_failures D.failures self.old ≤ all_failures D.failures self.new }
         ensures cause { IsErr result
             → HasFailed (all_failures D.failures self.old) (all_failures D.failures self.new) }
@@ -171,6 +176,7 @@ impl<D: Disk> Disk for StopDisk<D> {
         ensures crash { Follows (Cut len) (D.may_leave self.old.disk) (D.may_leave self.new.disk) }
         ensures time { Elapses (D.moment self.old.disk) (D.moment self.new.disk)
             (D.left_since self.old.disk) (D.left_since self.new.disk) (D.may_leave self.new.disk) }
+        ensures unsynced { D.syncs self.new.disk ≡ D.syncs self.old.disk }
         ensures counted { all_failures D.failures self.old ≤ all_failures D.failures self.new }
         ensures cause { IsErr result
             → HasFailed (all_failures D.failures self.old) (all_failures D.failures self.new) }
@@ -191,6 +197,9 @@ impl<D: Disk> Disk for StopDisk<D> {
         ensures crash { Within (D.may_leave self.old.disk) (D.may_leave self.new.disk) }
         ensures time { Elapses (D.moment self.old.disk) (D.moment self.new.disk)
             (D.left_since self.old.disk) (D.left_since self.new.disk) (D.may_leave self.new.disk) }
+        ensures synced { OnOk result (D.syncs self.new.disk ≡ D.syncs self.old.disk + 1) }
+        ensures effect { MaySync (D.syncs self.old.disk) (D.syncs self.new.disk)
+            (Only (D.seen self.old.disk) (D.may_leave self.new.disk)) }
         ensures counted { all_failures D.failures self.old ≤ all_failures D.failures self.new }
         ensures cause { IsErr result
             → HasFailed (all_failures D.failures self.old) (all_failures D.failures self.new) }

@@ -40,7 +40,7 @@ returns-in-Err-boot_record-clause-recovers g c = λ k all.
 pub returns-in-Err-boot_record-clause-synced : goal.returns-in-Err-boot_record-clause-synced
 returns-in-Err-boot_record-clause-synced g c =
     let (at, settles) = c.in-Ok.ensures.synced in
-    inr (at, subst (λ d. SettlesAt g.D.Disk.seen g.D.Disk.may_leave g.D.Disk.moment g.D.Disk.left_since c.args.disk d at) (sym c.into_disk.ensures) settles)
+    inr (at, subst (λ d. SettlesAt g.D.Disk c.args.disk d at) (sym c.into_disk.ensures) settles)
 
 pub returns-in-Err-boot_record-clause-refused : goal.returns-in-Err-boot_record-clause-refused
 returns-in-Err-boot_record-clause-refused g c =
@@ -112,7 +112,7 @@ returns-in-Err-finish-clause-synced g c =
     let (at, settles) = c.in-Ok.ensures.synced in
     inr (
       at,
-      subst (λ d. SettlesAt g.D.Disk.seen g.D.Disk.may_leave g.D.Disk.moment g.D.Disk.left_since c.args.disk d at) (sym c.into_disk-in-Err-finish.ensures)
+      subst (λ d. SettlesAt g.D.Disk c.args.disk d at) (sym c.into_disk-in-Err-finish.ensures)
           (boot_settles g.D.Disk c.args.disk c.in-Ok.node c.in-Ok.ensures.opened c.in-Ok-boot_record.ensures.room g.met.D.Disk.counts_now (disk_in c.finish.new.node) c.in-Err-finish.ensures.leaves at settles),
     )
 

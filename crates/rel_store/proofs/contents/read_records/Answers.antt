@@ -19,14 +19,14 @@ ends_within bytes gate size there =
 
 pub returns-in_err-size-clause-refused : goal.returns-in_err-size-clause-refused
 returns-in_err-size-clause-refused g c =
-    let (read, reads, counted) = c.loop-records.invariant in
+    let (read, reads, counted, unsynced) = c.loop-records.invariant in
     passed_on _ c.from_residual.result c.in_err-size.field-0.0 c.from_residual.ensures.1
     (refused_there (g.D.Disk.seen c.args.disk.now) (g.D.Disk.seen c.loop-records.disk) c.args.base c.loop-records.gate (bodies_of c.loop-records.records.items) (g.D.Disk.failures c.args.disk.now) (g.D.Disk.failures c.loop-records.disk) (g.D.Disk.failures c.record_at.new.disk)
     c.in_err-size.field-0.0 read reads.same counted c.record_at.ensures.counted c.in_err-size.ensures.refused)
 
 pub loop-records-preserved : goal.loop-records-preserved
 loop-records-preserved g c =
-    let (read, reads, counted) = c.loop-records.invariant in
+    let (read, reads, counted, unsynced) = c.loop-records.invariant in
     let added : bodies_of c.push.new.self.items ≡ bodies_of c.loop-records.records.items ++ c.in_ok-body.body.items ∷ [] = grind (arith, common_steps) in
     let next = read_body_more (g.D.Disk.seen c.args.disk.now) (g.D.Disk.seen c.loop-records.disk) (g.D.Disk.seen c.record_at.new.disk) c.args.base c.loop-records.gate c.in-Some.size (bodies_of c.loop-records.records.items) c.in_ok-body.body.items
     read reads.same c.record_at.ensures.reads.same (some_so _ c.in_ok-size.field-0 c.in-Some.size c.in-Some.is c.in_ok-size.ensures.open) c.in_ok-body.ensures.ok in
@@ -34,11 +34,12 @@ loop-records-preserved g c =
       subst (IsReadTo (g.D.Disk.seen c.args.disk.now) c.args.base (c.loop-records.gate + (5 + c.in-Some.size))) (sym added) next,
       read_on g.D.Disk.seen g.D.Disk.may_leave g.D.Disk.moment g.D.Disk.left_since c.args.disk.now c.record_at.new.disk c.read_body.new.disk read_so_far c.read_body.ensures.reads,
       omega (arith, counted, c.record_at.ensures.counted, c.read_body.ensures.counted),
+      c.read_body.ensures.unsynced ∙ c.record_at.ensures.unsynced ∙ unsynced,
     )
 
 pub returns-clause-records : goal.returns-clause-records
 returns-clause-records g c =
-    let (read, reads, counted) = c.loop-records.invariant in
+    let (read, reads, counted, unsynced) = c.loop-records.invariant in
     read_all (g.D.Disk.seen c.args.disk.now) c.args.base c.loop-records.gate (bodies_of c.loop-records.records.items) read (λ is_open. c.in_ok-size.ensures.closed (ap (λ o. Ok o) c.in_default.is) (subst (λ l. get_or l c.loop-records.gate 0 ≡ 1) (sym reads.same) is_open))
 
 pub returns-in_err-size-clause-reads : goal.returns-in_err-size-clause-reads
@@ -104,7 +105,7 @@ loop-records-smaller g c = omega (arith, c.loop-records.invariant.0.within, c.re
 -- the device fails, or memory is refused
 pub returns-in_err-body-clause-refused : goal.returns-in_err-body-clause-refused
 returns-in_err-body-clause-refused g c =
-    let (read, reads, counted) = c.loop-records.invariant in
+    let (read, reads, counted, unsynced) = c.loop-records.invariant in
     passed_on _ c.from_residual-in_err-body.result c.in_err-body.field-0.0 c.from_residual-in_err-body.ensures.1
     (refused_in_read _ (g.D.Disk.failures c.args.disk.now) (g.D.Disk.failures c.record_at.new.disk) (g.D.Disk.failures c.read_body.new.disk) c.in_err-body.field-0.0 (omega (arith, counted, c.record_at.ensures.counted)) c.read_body.ensures.counted c.in_err-body.ensures.refused)
 

@@ -1,4 +1,4 @@
-use Rattle.std.proofs.Common.{◌≡◌, ◌∙◌, inr, subst, rules, IfOk}
+use Rattle.std.proofs.Common.{◌≡◌, ◌+◌, ◌∙◌, inr, subst, rules, IfOk}
 use Rattle.rel_disk.specs.Damage.{Only}
 use Rattle.rel_disk.proofs.Moments.{started, goes_on, joined, weakened}
 use Rattle.rel_store.specs.Contents.{AreContentsOf}
@@ -14,7 +14,8 @@ pub returns-clause-synced : goal.returns-clause-synced
 returns-clause-synced g c =
     let same : g.D.Disk.seen c.sync.new.self ≡ g.D.Disk.seen c.args.disk.now = search rules in
     let durable : Only (g.D.Disk.seen c.args.disk.now) (g.D.Disk.may_leave c.sync.new.self) = search rules in
-    inr (record { durable = λ d now. durable d (c.read.ensures.reads.crash d now); same = c.read.ensures.reads.same ∙ same })
+    let counted : g.D.Disk.syncs c.sync.new.self ≡ g.D.Disk.syncs c.args.disk.now + 1 = search rules in
+    inr (record { first_sync = c.read.ensures.unsynced ∙ counted; durable = λ d now. durable d (c.read.ensures.reads.crash d now); same = c.read.ensures.reads.same ∙ same })
 
 pub returns-clause-ok : goal.returns-clause-ok
 returns-clause-ok g c =

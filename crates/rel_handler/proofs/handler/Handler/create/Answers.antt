@@ -49,7 +49,7 @@ returns-in-Ok-unless_refused-clause-refused g c =
 
 pub returns-in-Err-unless_refused-clause-refused : goal.returns-in-Err-unless_refused-clause-refused
 returns-in-Err-unless_refused-clause-refused g c =
-    not_made_of g.D.Disk c.args.disk c.existing_or-error.new.disk c.existing_or-error.ensures.read (g.F.Files.gives c.args.files.now) c.args.path.now (brought_of c.in-Ok.brought) c.in-Ok.ensures.brought
+    not_made_of g.D.Disk c.args.disk c.existing_or-error.new.disk c.existing_or-error.ensures.read c.existing_or-error.ensures.unsynced (g.F.Files.gives c.args.files.now) c.args.path.now (brought_of c.in-Ok.brought) c.in-Ok.ensures.brought
     c.in-Err-unless_refused.why c.existing_or-error.result c.in-Err-unless_refused.ensures.refused c.existing_or-error.ensures.reported
 
 -- nothing is written over what was only read

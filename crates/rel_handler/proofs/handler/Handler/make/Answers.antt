@@ -39,13 +39,13 @@ returns-in-Ok-create-clause-acknowledged g c = λ d now.
 pub returns-in-Ok-create-clause-any_moment : goal.returns-in-Ok-create-clause-any_moment
 returns-in-Ok-create-clause-any_moment g c =
     let spelled = rw (sym c.as_bytes.ensures.value) at c.in-Ok.ensures.spells in
-    begins g.D.Disk.seen g.D.Disk.may_leave g.D.Disk.moment g.D.Disk.left_since (bundle_brought (brought_of c.args.brought)) c.as_bytes.result.now c.as_bytes-2.result.now (c.requires.small, c.requires.whole.complete) c.requires.terms.says.release.versions (c.as_bytes-2.ensures.value ∙ c.in-Ok.ensures.start) spelled c.args.disk _ c.in-Ok-create.ensures.any_moment
+    begins g.D.Disk (bundle_brought (brought_of c.args.brought)) c.as_bytes.result.now c.as_bytes-2.result.now (c.requires.small, c.requires.whole.complete) c.requires.terms.says.release.versions (c.as_bytes-2.ensures.value ∙ c.in-Ok.ensures.start) spelled c.args.disk _ c.in-Ok-create.ensures.any_moment
 
 pub returns-in-Ok-create-clause-begun : goal.returns-in-Ok-create-clause-begun
 returns-in-Ok-create-clause-begun g c =
     let spelled = rw (sym c.as_bytes.ensures.value) at c.in-Ok.ensures.spells in
     let (at, begun) = c.in-Ok-create.ensures.begun in
-    (at, begins_at g.D.Disk.seen g.D.Disk.may_leave g.D.Disk.moment g.D.Disk.left_since (bundle_brought (brought_of c.args.brought)) c.as_bytes.result.now c.as_bytes-2.result.now (c.requires.small, c.requires.whole.complete) c.requires.terms.says.release.versions (c.as_bytes-2.ensures.value ∙ c.in-Ok.ensures.start) spelled c.args.disk _ at begun)
+    (at, begins_at g.D.Disk (bundle_brought (brought_of c.args.brought)) c.as_bytes.result.now c.as_bytes-2.result.now (c.requires.small, c.requires.whole.complete) c.requires.terms.says.release.versions (c.as_bytes-2.ensures.value ∙ c.in-Ok.ensures.start) spelled c.args.disk _ at begun)
 
 pub returns-in-Ok-create-clause-start : goal.returns-in-Ok-create-clause-start
 returns-in-Ok-create-clause-start g c = c.in-Ok-create.ensures.start ∙ ap slot_with (c.as_bytes-2.ensures.value ∙ c.in-Ok.ensures.start)
@@ -80,10 +80,10 @@ returns-clause-refused g c =
 pub returns-clause-any_moment : goal.returns-clause-any_moment
 returns-clause-any_moment g c =
     let spelled = rw (sym c.as_bytes.ensures.value) at c.in-Ok.ensures.spells in
-    begins g.D.Disk.seen g.D.Disk.may_leave g.D.Disk.moment g.D.Disk.left_since (bundle_brought (brought_of c.args.brought)) c.as_bytes.result.now c.as_bytes-2.result.now (c.requires.small, c.requires.whole.complete) c.requires.terms.says.release.versions (c.as_bytes-2.ensures.value ∙ c.in-Ok.ensures.start) spelled c.args.disk _ c.in-Err.ensures.any_moment
+    begins g.D.Disk (bundle_brought (brought_of c.args.brought)) c.as_bytes.result.now c.as_bytes-2.result.now (c.requires.small, c.requires.whole.complete) c.requires.terms.says.release.versions (c.as_bytes-2.ensures.value ∙ c.in-Ok.ensures.start) spelled c.args.disk _ c.in-Err.ensures.any_moment
 
 pub returns-in_default-clause-any_moment : goal.returns-in_default-clause-any_moment
-returns-in_default-clause-any_moment g c = nothing_begun g.D.Disk.seen g.D.Disk.may_leave g.D.Disk.moment g.D.Disk.left_since c.args.disk (g.met.D.Disk.only_now c.args.disk) _
+returns-in_default-clause-any_moment g c = nothing_begun g.D.Disk c.args.disk (g.met.D.Disk.only_now c.args.disk) _
 
 pub returns-in_default-clause-taken : goal.returns-in_default-clause-taken
 returns-in_default-clause-taken g c = λ magic. (unwritten g.D.Disk.seen g.D.Disk.may_leave g.D.Disk.moment g.D.Disk.left_since c.args.disk (g.met.D.Disk.only_now c.args.disk), refl)

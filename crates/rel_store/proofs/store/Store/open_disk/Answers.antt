@@ -11,7 +11,7 @@ use Rattle.rel_store.proofs.store.Store.open_disk.Goals as goal
 pub returns-in-Ok-clause-settled : goal.returns-in-Ok-clause-settled
 returns-in-Ok-clause-settled g c =
     let read = value_of (AreContentsOf (g.D.Disk.seen c.args.disk)) c.in-Ok.is c.read_contents.ensures.ok in
-    let synced = other_one c.read_contents.ensures.synced (no_error c.in-Ok.is) in
+    let synced = other_one c.read_contents.ensures.synced (λ failed. no_error c.in-Ok.is failed.0) in
     record {
       works = refl;
       records = ap (λ l. records_of l) synced.same ∙ read.records;
@@ -36,7 +36,7 @@ pub returns-in-Ok-clause-any_moment : goal.returns-in-Ok-clause-any_moment
 returns-in-Ok-clause-any_moment g c = c.read_contents.ensures.any_moment
 
 pub returns-in-Ok-clause-synced : goal.returns-in-Ok-clause-synced
-returns-in-Ok-clause-synced g c = inr (other_one c.read_contents.ensures.synced (no_error c.in-Ok.is))
+returns-in-Ok-clause-synced g c = inr (other_one c.read_contents.ensures.synced (λ failed. no_error c.in-Ok.is failed.0))
 
 pub returns-in-Ok-clause-counted : goal.returns-in-Ok-clause-counted
 returns-in-Ok-clause-counted g c = c.read_contents.ensures.counted
@@ -45,7 +45,7 @@ pub returns-in-Err-clause-any_moment : goal.returns-in-Err-clause-any_moment
 returns-in-Err-clause-any_moment g c = c.read_contents.ensures.any_moment
 
 pub returns-in-Err-clause-synced : goal.returns-in-Err-clause-synced
-returns-in-Err-clause-synced g c = first_so (same_error c.in-Err.is) c.read_contents.ensures.synced
+returns-in-Err-clause-synced g c = first_so (λ failed. (same_error c.in-Err.is failed.0, failed.1)) c.read_contents.ensures.synced
 
 pub returns-in-Err-clause-counted : goal.returns-in-Err-clause-counted
 returns-in-Err-clause-counted g c = c.read_contents.ensures.counted
