@@ -32,6 +32,7 @@ fn push_record(buffer: &mut Vec<u8>, body: &[u8]) -> Result<(), AllocError>
         (buffer.new.items ≡ buffer.old.items ++ (1 ∷ (record_bytes body.now ++ 0 ∷ []))) }
     ensures full { OnErr result
         (vec_capacity buffer.old < vec_len buffer.old + (length body.now + 6)) }
+    ensures keeps { vec_capacity buffer.old ≤ vec_capacity buffer.new }
 {
     buffer.push(OPEN)?;
     buffer.extend_from_slice(&(body.len() as u32).to_be_bytes())?;
@@ -49,6 +50,7 @@ pub(crate) fn spell_record(
     requires { length body.now ≤ 16777216 }
     ensures ok { OnOk result (buffer.new.items ≡ 1 ∷ (record_bytes body.now ++ 0 ∷ [])) }
     ensures full { OnErr result (vec_capacity buffer.old < length body.now + 6) }
+    ensures keeps { vec_capacity buffer.old ≤ vec_capacity buffer.new }
 {
     make_room(alloc, buffer, RECORD_HEAD + body.len() + 1)?;
     push_record(buffer, body)

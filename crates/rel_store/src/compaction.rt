@@ -1,5 +1,5 @@
 // The records of a store are replaced by one.
-ghost use Rattle.std.specs.Prelude.{◌≡◌, ◌≤◌, ◌↔◌, [], ◌∷◌, length, take, true, false, IfSome, IsSome, IfErr, IsErr, IsErrOf, OnOk};
+ghost use Rattle.std.specs.Prelude.{◌≡◌, ℕ, ◌≤◌, ◌↔◌, [], ◌∷◌, length, take, true, false, IfSome, IsSome, IfErr, IsErr, IsErrOf, OnOk};
 ghost use Rattle.rel_disk.specs.Damage.{overwritten, Only};
 ghost use Rattle.rel_disk.specs.Moments.{LeavesOnly, HasFailed};
 ghost use Rattle.rel_store.specs.Changed.{IsInCompaction, KeepsOthers};
@@ -23,7 +23,7 @@ impl<D: Disk> Store<D> {
     ///
     /// Reported in this order: `MustReopen`, `Full` where the body is longer than a record's may be, or where the store would
     /// end past its bound, `NoMemory`; nothing has changed then. After `Device` the store has to be opened again, and has
-    /// its records or the image alone. What was reserved is used for the image.
+    /// its records or the image alone. What was reserved is used for the image, and stays where that is refused.
     pub fn compact(&mut self, alloc: Global, image: &[u8]) -> Result<(), StoreError>
         requires { IsSoundStore D.seen D.may_leave self.old }
         ensures sound { IsSoundStore D.seen D.may_leave self.new }
@@ -62,6 +62,7 @@ impl<D: Disk> Store<D> {
         ensures full { IsErrOf result StoreError.Full
             ↔ ((has_failed self.old ≡ false)
             × (FitsImage (base_in self.old) (end_in self.old) (length image.now) → ⊥)) }
+        ensures room { IsErr result → (n : ℕ) → HasRoom n self.old → HasRoom n self.new }
         ensures reopened { IsErrOf result StoreError.MustReopen ↔ (has_failed self.old ≡ true) }
         ensures refused { IfErr result
             (Refused D.failures

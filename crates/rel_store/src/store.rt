@@ -1,5 +1,5 @@
 // A record store on a disk, and the calls on an open one.
-ghost use Rattle.std.specs.Prelude.{◌≡◌, ℕ, ◌↔◌, ◌≤◌, ◌+◌, [], ◌∷◌, ◌++◌, map, length, true, false, IsTrue, IsErrOf, IfErr, OnOk};
+ghost use Rattle.std.specs.Prelude.{◌≡◌, ℕ, ◌↔◌, ◌≤◌, ◌+◌, [], ◌∷◌, ◌++◌, map, length, true, false, IsTrue, IsErr, IsErrOf, IfErr, OnOk};
 ghost use Rattle.rel_disk.specs.Moments.{LeavesOnly};
 ghost use Rattle.rel_store.specs.Changed.{LeavesOthers, IsFormat, IsInRecord, IsInOtherSlot, with_format_2, with_record, with_start};
 ghost use Rattle.rel_store.specs.Contents.{HasOnlyRead};
@@ -102,7 +102,8 @@ impl<D: Disk> Store<D> {
     /// Adds a record. At `Ok` it is acknowledged: from then on each crash leaves a store that has it.
     ///
     /// Reported in this order: `MustReopen`, `Full` where `fits` says so, `NoMemory`; nothing has changed then. After
-    /// `Device` the store has to be opened again, and has its records, with the new one or without.
+    /// `Device` the store has to be opened again, and has its records, with the new one or without. What was reserved is used
+    /// for the record, and stays where that is refused.
     pub fn append(&mut self, alloc: Global, body: &[u8]) -> Result<(), StoreError>
         requires { IsSoundStore D.seen D.may_leave self.old }
         ensures sound { IsSoundStore D.seen D.may_leave self.new }
@@ -129,6 +130,7 @@ impl<D: Disk> Store<D> {
         ensures counted { D.failures (disk_in self.old) ≤ D.failures (disk_in self.new) }
         ensures full { IsErrOf result StoreError.Full
             ↔ ((has_failed self.old ≡ false) × (Fits (end_in self.old) (length body.now) → ⊥)) }
+        ensures room { IsErr result → (n : ℕ) → HasRoom n self.old → HasRoom n self.new }
         ensures reopened { IsErrOf result StoreError.MustReopen ↔ (has_failed self.old ≡ true) }
         ensures refused { IfErr result
             (Refused D.failures (Fits (end_in self.old) (length body.now) → ⊥)

@@ -251,3 +251,13 @@ returns-clause-full g c = none_answered _ Full _ (λ p. p.1 (c.if-not-fits.ensur
 
 pub returns-clause-reopened : goal.returns-clause-reopened
 returns-clause-reopened g c = none_answered _ MustReopen _ (λ failed. not_both failed c.if-self.false)
+
+-- what was reserved stays where the record is refused
+pub returns-in_err-reserve-clause-room : goal.returns-in_err-reserve-clause-room
+returns-in_err-reserve-clause-room g c = λ failed n room. (room.0, omega (arith, room.1, c.reserve.ensures.len, c.reserve.ensures.capacity))
+
+pub returns-in_err-spell_record-clause-room : goal.returns-in_err-spell_record-clause-room
+returns-in_err-spell_record-clause-room g c = λ failed n room. (omega (arith, room.0, c.spell_record.ensures.keeps), omega (arith, room.1, c.reserve.ensures.len, c.reserve.ensures.capacity))
+
+pub returns-in_err-write_and_commit-clause-room : goal.returns-in_err-write_and_commit-clause-room
+returns-in_err-write_and_commit-clause-room g c = λ failed n room. (omega (arith, room.0, c.spell_record.ensures.keeps), omega (arith, room.1, c.reserve.ensures.len, c.reserve.ensures.capacity))

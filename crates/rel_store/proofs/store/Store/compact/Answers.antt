@@ -109,3 +109,13 @@ returns-in_err-reserve-clause-full g c = memory_not_full _ _ (λ p. p.1 (fits_so
 
 pub returns-in_err-put_image-clause-refused : goal.returns-in_err-put_image-clause-refused
 returns-in_err-put_image-clause-refused g c = passed_on _ _ Device c.from_residual-in_err-put_image.ensures.1 (c.in_err-put_image.ensures.cause refl, c.if-self.false, refl, ap (map (λ v. v.items)) c.reserve.ensures.items)
+
+-- what was reserved stays where the image is refused
+pub returns-in_err-reserve-clause-room : goal.returns-in_err-reserve-clause-room
+returns-in_err-reserve-clause-room g c = λ failed n room. (room.0, omega (arith, room.1, c.reserve.ensures.len, c.reserve.ensures.capacity))
+
+pub returns-in_err-spell_record-clause-room : goal.returns-in_err-spell_record-clause-room
+returns-in_err-spell_record-clause-room g c = λ failed n room. (omega (arith, room.0, c.spell_record.ensures.keeps), omega (arith, room.1, c.reserve.ensures.len, c.reserve.ensures.capacity))
+
+pub returns-in_err-put_image-clause-room : goal.returns-in_err-put_image-clause-room
+returns-in_err-put_image-clause-room g c = λ failed n room. (omega (arith, room.0, c.spell_record.ensures.keeps), omega (arith, room.1, c.reserve.ensures.len, c.reserve.ensures.capacity))
