@@ -10,10 +10,12 @@ use Rattle.rel_list.specs.Event.Event.{boot}
 use Rattle.rel_list.proofs.OneShotLaws.{none_recorded}
 use Rattle.rel_list.proofs.PermanentLaws.{permanent-of_booted, permanent-of_recorded}
 use Rattle.rel_records.specs.Lists.{Makes}
+use Rattle.rel_store.specs.Changed.{LeavesOthers}
 use Rattle.rel_store.specs.Layout.{format_of}
 use Rattle.rel_store.specs.State as store
 use Rattle.rel_store.specs.Records.{records_of}
-use Rattle.rel_handler.specs.Booting.{IsOpened, IsBootOf, IsBooted, IsOldOrBooted, Leaves, BootRecordRefused}
+use Rattle.rel_store.proofs.OnlyReads.{read_on}
+use Rattle.rel_handler.specs.Booting.{IsOpened, IsBootOf, IsBooted, IsInBootRecord, IsOldOrBooted, Leaves, WritesNoStart, BootRecordRefused}
 use Rattle.node_store.specs.Events.{Events, StartsBehind, BeginWith, HasStart, Stored, booted_or_same, uncertain_boot, IsStoredAs}
 use Rattle.node_store.specs.Image.{AreRecordsOf, Extent, booted_extent, extent_of, HasBootSpace, IsImageAt, IsImageOf, IsLeftByBoot, IsStarted, start_bytes}
 use Rattle.rel_handler.specs.Laws.{BootAlike}
@@ -109,12 +111,29 @@ module _ {D : Type 0} (v : Ghosts D) (disk : D) (h : NodeStore D) (opened : IsOp
   record_lack (boot_error.Damaged at) refused = absurd refused
   record_lack boot_error.Device refused = absurd refused
 
-  -- where nothing is to be written, nothing was
-  pub right_there : has_one_shot es ≡ false → IsStarted es (v.seen disk) → (has_one_shot (list_in h) ≡ false) × IsStarted (list_in h) (v.seen (disk_in h))
-  right_there none right = (
-    ap has_one_shot only ∙ none_recorded es none,
-    started_by es (list_in h) (v.seen disk) (v.seen (disk_in h)) (ap permanent only ∙ permanent-of_recorded es) (ap (λ l. start_bytes l) opened.only_read.same) right,
-  )
+  -- a start record that is right was read as one
+  pub right_there : IsStarted es (v.seen disk) → IsStarted (list_in h) (v.seen (disk_in h))
+  right_there right = started_by es (list_in h) (v.seen disk) (v.seen (disk_in h)) (ap permanent only ∙ permanent-of_recorded es) (ap (λ l. start_bytes l) opened.only_read.same) right
+
+  -- and it is not written
+  pub writes_no_start : (new : D) → WritesNoStart v (list_in h) (disk_in h) new → WritesNoStart v es disk new
+  writes_no_start new then = record {
+    free = λ none. read_on v.seen v.may_leave v.moment v.left_since disk (disk_in h) new opened.only_read (then.free (ap has_one_shot only ∙ none_recorded es none));
+    any_moment = λ one.
+        joined v.moment v.left_since disk (disk_in h) new _
+        (weakened v.moment v.left_since disk (disk_in h) (v.may_leave disk) _ (λ c now. inl now) opened.only_read.any_moment)
+        (weakened v.moment v.left_since (disk_in h) new _ (λ c. v.may_leave disk c ⊎ LeavesOthers (IsInBootRecord (v.seen disk) es) (v.seen disk) c)
+        (λ c left. ⊎_elim (λ now. inl (opened.only_read.crash c now)) (λ kept. inr (there one c kept)) left) (then.any_moment (one_there one)));
+    now = λ one. there one (v.seen new) (then.now (one_there one));
+  }
+    where
+      one_there : has_one_shot es ≡ true → has_one_shot (list_in h) ≡ true
+      one_there one = ap has_one_shot (only ∙ image.list.alone one) ∙ one
+
+      there : has_one_shot es ≡ true → (c : List ℕ) → LeavesOthers (IsInBootRecord (v.seen (disk_in h)) (list_in h)) (v.seen (disk_in h)) c → LeavesOthers (IsInBootRecord (v.seen disk) es) (v.seen disk) c
+      there one c kept =
+          subst (λ bytes. LeavesOthers (IsInBootRecord bytes es) bytes c) opened.only_read.same
+          (subst (λ list. LeavesOthers (IsInBootRecord (v.seen (disk_in h)) list) (v.seen (disk_in h)) c) (only ∙ image.list.alone one) kept)
 
 -- Why there is no record of a boot is why the boot is refused.
 pub record_refused : {D : Type 0} (v : Ghosts D) (disk now : D) (h : NodeStore D) → IsOpened v disk h → (e : BootError) → BootRecordRefused (extent_in h) (list_in h) e

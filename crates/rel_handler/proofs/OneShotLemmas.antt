@@ -1,5 +1,5 @@
 -- A one-shot that a boot takes away.
-use Rattle.std.proofs.Common.{◌≡◌, inl, inr, ⊎_elim, ℕ, ◌+◌, ◌≤◌, Bool, true, false, List, [], ◌∷◌, ◌++◌, length, length-append, refl, sym, ap, ◌∙◌, subst, arith}
+use Rattle.std.proofs.Common.{◌≡◌, inl, inr, ⊎_elim, ℕ, ◌+◌, ◌-◌, ◌≤◌, Bool, true, false, List, [], ◌∷◌, ◌++◌, length, length-append, refl, sym, ap, ◌∙◌, subst, arith}
 use Rattle.rel_disk.specs.declared.disk.Disk.{Ghosts}
 use Rattle.rel_disk.specs.Moments.{LeavesOnly}
 use Rattle.rel_disk.proofs.Moments.{started, weakened, both}
@@ -9,17 +9,18 @@ use Rattle.rel_list.specs.Event.Event.{boot}
 use Rattle.rel_list.proofs.BootLaws.{boot_leaves_no_one_shot}
 use Rattle.rel_store.specs.Changed.{LeavesOthers, IsInRecord}
 use Rattle.rel_store.specs.Layout.{base_of, format_of}
-use Rattle.rel_store.specs.Records.{StandsEither}
+use Rattle.rel_store.specs.Records.{StandsEither, end_of}
 use Rattle.rel_store.specs.State as store
 use Rattle.rel_store.specs.declared.store.Store.{Store}
-use Rattle.rel_handler.specs.Booting.{IsBooted, IsOldOrTaken, Leaves}
+use Rattle.rel_store.proofs.Ownership.{at_rest}
+use Rattle.rel_handler.specs.Booting.{IsBooted, IsInBootRecord, IsOldOrTaken, Leaves}
 use Rattle.node_store.specs.Commits.{IsRecordFor}
-use Rattle.node_store.specs.Image.{AreRecordsOf, boot_size, booted_extent, extent_behind, HasSpace, IsImageAt, start_bytes}
+use Rattle.node_store.specs.Image.{AreRecordsOf, Extent, boot_size, booted_extent, extent_behind, HasSpace, IsImageAt, start_bytes}
 use Rattle.node_store.specs.State.{disk_in, extent_in, list_in, start_in, store_extent, IsReady}
 use Rattle.node_store.specs.declared.node_store.NodeStore.{NodeStore}
 use Rattle.rel_handler.proofs.BootLists.{booted_still, extent_of_none, extent_of_one}
 use Rattle.node_store.proofs.Commits.{image_now}
-use Rattle.node_store.proofs.Images.{either_behind, either_image, no_boot_space, same_extent, same_records, settled_so, with_record}
+use Rattle.node_store.proofs.Images.{either_behind, either_image, no_boot_space, same_extent, same_records, settled_extent, settled_so, with_record}
 
 module _ {D : Type 0} (v : Ghosts D) (h : NodeStore D) (ready : IsReady v.seen v.may_leave h) where
   -- each image of its disk stands for its list
@@ -33,6 +34,11 @@ module _ {D : Type 0} (v : Ghosts D) (h : NodeStore D) (ready : IsReady v.seen v
       any_moment = started v.moment v.left_since (disk_in h) (IsOldOrTaken v.seen h) (λ c left. old_taken c (only_now c left));
       counted = omega arith;
     })
+
+    pub leaves_others : (new : D) → new ≡ disk_in h → LeavesOnly v.moment v.left_since (disk_in h) new (LeavesOthers (IsInBootRecord (v.seen (disk_in h)) (list_in h)) (v.seen (disk_in h)))
+    leaves_others new same =
+        subst (λ d. LeavesOnly v.moment v.left_since (disk_in h) d (LeavesOthers (IsInBootRecord (v.seen (disk_in h)) (list_in h)) (v.seen (disk_in h)))) (sym same)
+        (at_rest v.moment v.left_since v.seen v.may_leave (IsInBootRecord (v.seen (disk_in h)) (list_in h)) (disk_in h) ready.store.durable only_now)
 
   -- there was nothing to write
   pub booted_so : recorded (list_in h) ≡ list_in h → has_one_shot (list_in h) ≡ false → IsBooted v h h
@@ -72,6 +78,22 @@ module _ {D : Type 0} (v : Ghosts D) (h : NodeStore D) (ready : IsReady v.seen v
           (both v.moment v.left_since (store.disk_in reserved) (store.disk_in new) _ _ leaves kept));
       counted = subst (λ d. v.failures d ≤ v.failures (store.disk_in new)) same.disk counted;
     }
+
+    -- All other bytes are as they were.
+    pub takes_alone : (new : Store D) → LeavesOnly v.moment v.left_since (store.disk_in reserved) (store.disk_in new) (LeavesOthers (IsInRecord (store.gate_in reserved) (length body)) (v.seen (store.disk_in reserved)))
+        → LeavesOnly v.moment v.left_since (disk_in h) (store.disk_in new) (LeavesOthers (IsInBootRecord (v.seen (disk_in h)) (list_in h)) (v.seen (disk_in h)))
+    takes_alone new kept =
+        subst (λ d. LeavesOnly v.moment v.left_since d (store.disk_in new) (LeavesOthers (IsInBootRecord (v.seen (disk_in h)) (list_in h)) (v.seen (disk_in h)))) same.disk
+        (weakened v.moment v.left_since (store.disk_in reserved) (store.disk_in new) _ _ own kept)
+      where
+        gate : store.gate_in reserved ≡ end_of (v.seen (disk_in h)) - 1
+        gate = omega (arith, same.end, ap (λ (x : Extent). x.end) (settled_extent v.seen v.may_leave h.store ready.store))
+
+        own : (c : List ℕ) → LeavesOthers (IsInRecord (store.gate_in reserved) (length body)) (v.seen (store.disk_in reserved)) c → LeavesOthers (IsInBootRecord (v.seen (disk_in h)) (list_in h)) (v.seen (disk_in h)) c
+        own c others =
+            subst (λ d. LeavesOthers (IsInBootRecord (v.seen (disk_in h)) (list_in h)) (v.seen d) c) same.disk
+            (subst (λ n. LeavesOthers (IsInRecord (end_of (v.seen (disk_in h)) - 1) n) (v.seen (store.disk_in reserved)) c) long
+            (subst (λ at. LeavesOthers (IsInRecord at (length body)) (v.seen (store.disk_in reserved)) c) gate others))
 
     -- It is there.
     pub taken : (new : Store D) (dead : Bool) → store.IsSettled v.seen v.may_leave new → store.records_in new ≡ store.records_in reserved ++ body ∷ [] → store.base_in new ≡ store.base_in reserved → store.end_in new ≡ store.end_in reserved + (5 + length body) → store.format_in new ≡ store.format_in reserved

@@ -3,21 +3,22 @@ use Rattle.std.proofs.Common.{◌≡◌, ◌⊎◌, inl, inr, ⊎_elim, ℕ, ◌
 use Rattle.std.specs.Option.{option_map}
 use Rattle.std.specs.Prelude.{◌==◌, ◌↔◌, IsTrue}
 use Rattle.rel_disk.specs.declared.disk.Disk.{Ghosts}
-use Rattle.rel_disk.specs.Moments.{HasFailed}
+use Rattle.rel_disk.specs.Moments.{LeavesOnly, HasFailed}
 use Rattle.rel_disk.proofs.Moments.{joined, weakened}
 use Rattle.rel_files.specs.File.{HasVersions}
 use Rattle.rel_files.specs.Release.{Release}
-use Rattle.rel_list.specs.Releases.{Releases, Entry, of_status, permanent}
+use Rattle.rel_list.specs.Releases.{Releases, Entry, has_one_shot, of_status, permanent}
 use Rattle.rel_list.specs.Event.{booted}
 use Rattle.rel_list.specs.Status.{is_permanent}
 use Rattle.rel_list.proofs.PermanentLaws.{permanent-of_booted}
 use Rattle.rel_records.specs.Limits.{has_one_permanent}
 use Rattle.rel_records.specs.Lists.{HaveVersions}
+use Rattle.rel_store.specs.Changed.{LeavesOthers}
 use Rattle.rel_store.specs.Layout.{slot_with}
 use Rattle.start_record.specs.Text.{Versions, AreVersions, SpellsStart, start_text as text_of_start}
 use Rattle.rel_store.specs.Contents.{HasOnlyRead}
 use Rattle.rel_store.proofs.OnlyReads.{read_on}
-use Rattle.rel_handler.specs.Booting.{IsBooted, IsImageBehindBoot, IsOldOrTaken, IsOldOrBooted, Leaves, FinishRefused}
+use Rattle.rel_handler.specs.Booting.{IsBooted, IsImageBehindBoot, IsInBootRecord, IsOldOrTaken, IsOldOrBooted, Leaves, WritesNoStart, FinishRefused}
 use Rattle.rel_handler.specs.Refusals.{BootRefused}
 use Rattle.rel_handler.specs.declared.error.BootError.{BootError}
 use Rattle.rel_handler.specs.declared.error.BootError.TheVariants as boot
@@ -101,6 +102,25 @@ module _ {D : Type 0} (v : Ghosts D) (h mid : NodeStore D) (ready : IsReady v.se
           (weakened v.moment v.left_since (disk_in mid) (disk_in then) _ (IsOldOrBooted v.seen h) (λ c old. inl (old_or_taken c old)) leaves.any_moment);
       counted = omega (arith, read.counted, leaves.counted);
     }
+
+    -- Without a write of the start record, the record that takes the one-shot away was written alone.
+    pub alone_then : ((disk : D) (t : ℕ) (c : List ℕ) → t ≤ v.moment disk → v.may_leave disk c → v.left_since disk t c) → v.may_leave (disk_in then) (v.seen (disk_in then))
+        → (has_one_shot (list_in mid) ≡ false → disk_in then ≡ disk_in mid)
+        → LeavesOnly v.moment v.left_since (disk_in mid) (disk_in then) (LeavesOthers (IsInBootRecord (v.seen (disk_in mid)) (list_in mid)) (v.seen (disk_in mid)))
+        → WritesNoStart v (list_in h) (disk_in h) (disk_in then)
+    alone_then counts_now image free others = record {
+      free = λ none. subst (λ d. HasOnlyRead v.seen v.may_leave v.moment v.left_since (disk_in h) d) (sym (free (ap has_one_shot read.list ∙ none))) read.only_read;
+      any_moment = λ one.
+          joined v.moment v.left_since (disk_in h) (disk_in mid) (disk_in then) _
+          (weakened v.moment v.left_since (disk_in h) (disk_in mid) (v.may_leave (disk_in h)) _ (λ c now. inl now) read.only_read.any_moment)
+          (weakened v.moment v.left_since (disk_in mid) (disk_in then) _ (λ c. v.may_leave (disk_in h) c ⊎ LeavesOthers (IsInBootRecord (v.seen (disk_in h)) (list_in h)) (v.seen (disk_in h)) c) (λ c kept. inr (there c kept)) others);
+      now = λ one. there (v.seen (disk_in then)) (others.each (v.seen (disk_in then)) (counts_now (disk_in then) (v.moment (disk_in mid)) (v.seen (disk_in then)) others.later image));
+    }
+      where
+        there : (c : List ℕ) → LeavesOthers (IsInBootRecord (v.seen (disk_in mid)) (list_in mid)) (v.seen (disk_in mid)) c → LeavesOthers (IsInBootRecord (v.seen (disk_in h)) (list_in h)) (v.seen (disk_in h)) c
+        there c kept =
+            subst (λ bytes. LeavesOthers (IsInBootRecord bytes (list_in h)) bytes c) read.only_read.same
+            (subst (λ es. LeavesOthers (IsInBootRecord (v.seen (disk_in mid)) es) (v.seen (disk_in mid)) c) read.list kept)
 
     -- or why it isn't
     pub refused_then : (e : BootError) → FinishRefused v mid then e → FinishRefused v h then e

@@ -1,5 +1,5 @@
 -- The two parts of a boot: a node is read from its disk; then a one-shot is taken away, and the start record repaired.
-use Rattle.std.specs.Prelude.{◌≡◌, ◌⊎◌, ℕ, ◌≤◌, true, false, List, length, Option, None, Some, String, string_bytes}
+use Rattle.std.specs.Prelude.{◌≡◌, ◌⊎◌, ℕ, ◌-◌, ◌≤◌, true, false, List, length, Option, None, Some, String, string_bytes}
 use Rattle.std.specs.declared.alloc.Global.{Global}
 use Rattle.rel_disk.specs.declared.disk.Disk.{Ghosts}
 use Rattle.rel_disk.specs.Moments.{LeavesOnly, HasFailed}
@@ -7,7 +7,9 @@ use Rattle.rel_list.specs.Releases.{Releases, has_one_shot}
 use Rattle.rel_list.specs.Event.{booted, recorded}
 use Rattle.rel_list.specs.Event.Event.{boot}
 use Rattle.rel_records.specs.Lists.{Makes}
+use Rattle.rel_store.specs.Changed.{LeavesOthers, IsInRecord}
 use Rattle.rel_store.specs.Contents.{HasOnlyRead}
+use Rattle.rel_store.specs.Records.{end_of}
 use Rattle.rel_store.specs.State as of_store
 use Rattle.node_store.specs.Commits.{IsRecordFor}
 use Rattle.node_store.specs.Image.{Extent, boot_size, booted_extent, extent_of, HasBootSpace, IsImageAt, IsStarted, start_bytes}
@@ -32,6 +34,10 @@ abbrev pub IsBootRecord : Releases → Option (String Global) → Type 0
 IsBootRecord es None = has_one_shot es ≡ false
 IsBootRecord es (Some body) =
     (has_one_shot es ≡ true) × IsRecordFor (string_bytes body) boot es × (length (string_bytes body) ≡ boot_size es)
+
+-- the bytes of that record, after the last one of a store with these bytes, with its gate and the one after it
+abbrev pub IsInBootRecord : List ℕ → Releases → ℕ → Type 0
+IsInBootRecord bytes es i = IsInRecord (end_of bytes - 1) (boot_size es) i
 
 -- Why there is no such record: it would not fit after the last one, or memory was refused.
 abbrev pub BootRecordRefused : Extent → Releases → BootError → Type 0
@@ -60,6 +66,13 @@ IsOldOrBooted seen h c = IsOldOrTaken seen h c ⊎ (IsImageBehindBoot h c × IsS
 pub record Leaves {D : Type 0} (v : Ghosts D) (P : List ℕ → Type 0) (old new : D) : Type 0 where
   pub any_moment : LeavesOnly v.moment v.left_since old new P
   pub counted : v.failures old ≤ v.failures new
+
+-- A boot of this list writes no start record. Without a one-shot it writes nothing; else all bytes are as they were, at each
+-- moment, but those of the record that takes the one-shot away.
+pub record WritesNoStart {D : Type 0} (v : Ghosts D) (es : Releases) (old new : D) : Type 0 where
+  pub free : has_one_shot es ≡ false → HasOnlyRead v.seen v.may_leave v.moment v.left_since old new
+  pub any_moment : has_one_shot es ≡ true → LeavesOnly v.moment v.left_since old new (λ c. v.may_leave old c ⊎ LeavesOthers (IsInBootRecord (v.seen old) es) (v.seen old) c)
+  pub now : has_one_shot es ≡ true → LeavesOthers (IsInBootRecord (v.seen old) es) (v.seen old) (v.seen new)
 
 -- The handler has the list after a boot, and its store the records of it.
 pub record IsBooted {D : Type 0} (v : Ghosts D) (old new : NodeStore D) : Type 0 where

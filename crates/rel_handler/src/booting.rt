@@ -12,9 +12,10 @@ ghost use Rattle.std.specs.Prelude.{◌≡◌, ◌⊎◌, ◌↔◌, ℕ, ◌≤
 ghost use Rattle.rel_disk.specs.Moments.{LeavesOnly};
 ghost use Rattle.rel_list.specs.Releases.{Releases, has_one_shot};
 ghost use Rattle.rel_list.specs.Event.{recorded};
+ghost use Rattle.rel_store.specs.Changed.{LeavesOthers};
 ghost use Rattle.rel_store.specs.Contents.{HasOnlyRead};
 ghost use Rattle.rel_store.specs.Layout.{format_of};
-ghost use Rattle.rel_handler.specs.Booting.{IsRead, IsOpened, IsBootOf, IsBootRecord, BootRecordRefused, IsBooted, IsOldOrTaken, IsOldOrBooted, Leaves, FinishRefused};
+ghost use Rattle.rel_handler.specs.Booting.{IsRead, IsOpened, IsBootOf, IsBootRecord, IsInBootRecord, BootRecordRefused, IsBooted, IsOldOrTaken, IsOldOrBooted, Leaves, WritesNoStart, FinishRefused};
 ghost use Rattle.node_store.specs.Events.{Known, IsOfPrefix, Stored, IsStoredAs};
 ghost use Rattle.node_store.specs.Image.{HasBootSpace, IsImageOf, IsImageAt, IsStarted, IsLeftByBoot};
 ghost use Rattle.rel_handler.specs.Moments.{BootsTo, HasRead, IsSynced, KeepsStore};
@@ -53,10 +54,10 @@ pub fn boot<D: Disk>(alloc: Global, disk: D) -> Result<Handler<D>, (BootError, D
         → MatchResult result (IsBootOf (D.seen disk) es)
         (λ e. (e.0 ≡ BootError.Device) ⊎ (e.0 ≡ BootError.NoMemory)) }
 
-    // Where there is no one-shot, and the start record is right, nothing is written; after the boot it is right (`sound`).
-    ensures right { (es : Releases) → IsImageOf (D.seen disk) es → has_one_shot es ≡ false
-        → IsStarted es (D.seen disk) → IfOk result (λ handler.
-        HasOnlyRead D.seen D.may_leave D.moment D.left_since disk (disk_in handler)) }
+    // A start record that is right is not written: nothing is, or the record alone that takes a one-shot away. After the boot
+    // it is right (`sound`).
+    ensures right { (es : Releases) → IsImageOf (D.seen disk) es → IsStarted es (D.seen disk)
+        → IfOk result (λ handler. WritesNoStart D.Disk es disk (disk_in handler)) }
 
     // So whatever a crash left of a node is booted to the list of a prefix of its accepted events that holds every
     // acknowledged one.
@@ -159,10 +160,8 @@ fn finish<D: Disk>(
         (disk_in node.old) (disk_in node.new) }
     ensures booted { OnOk result (IsBooted D.Disk node.old node.new) }
     ensures started { OnOk result (HasStarted D.may_leave node.new) }
-    ensures right { OnOk result (has_one_shot (list_in node.old) ≡ false
-        → IsStarted (list_in node.old) (D.seen (disk_in node.old))
-        → HasOnlyRead D.seen D.may_leave D.moment D.left_since
-        (disk_in node.old) (disk_in node.new)) }
+    ensures right { OnOk result (IsStarted (list_in node.old) (D.seen (disk_in node.old))
+        → WritesNoStart D.Disk (list_in node.old) (disk_in node.old) (disk_in node.new)) }
     ensures format { format_in node.new ≡ format_in node.old }
     ensures refused { IfErr result (FinishRefused D.Disk node.old node.new) }
 {
@@ -191,6 +190,9 @@ fn take_one_shot<D: Disk>(
     requires body { IsBootRecord (list_in node.old) body }
     ensures leaves { Leaves D.Disk (IsOldOrTaken D.seen node.old)
         (disk_in node.old) (disk_in node.new) }
+    ensures others { LeavesOnly D.moment D.left_since (disk_in node.old) (disk_in node.new)
+        (LeavesOthers (IsInBootRecord (D.seen (disk_in node.old)) (list_in node.old))
+        (D.seen (disk_in node.old))) }
     ensures booted { OnOk result (IsBooted D.Disk node.old node.new) }
     ensures start { OnOk result (start_in D.seen node.new ≡ start_in D.seen node.old) }
     ensures free { has_one_shot (list_in node.old) ≡ false

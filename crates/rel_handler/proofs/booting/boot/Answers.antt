@@ -3,7 +3,6 @@ use Rattle.rel_disk.specs.Moments.{LeavesOnly}
 use Rattle.rel_disk.proofs.Moments.{weakened}
 use Rattle.rel_list.specs.Releases.{has_one_shot}
 use Rattle.rel_list.proofs.BootLaws.{boot_leaves_no_one_shot}
-use Rattle.rel_store.proofs.OnlyReads.{read_on}
 use Rattle.rel_store.specs.Contents.{HasOnlyRead}
 use Rattle.node_store.specs.Events.{IsStoredAs}
 use Rattle.node_store.specs.Image.{IsLeftByBoot}
@@ -11,7 +10,7 @@ use Rattle.rel_handler.specs.Moments.{KeepsStore, SettlesAt}
 use Rattle.rel_handler.specs.Refusals.{BootRefused}
 use Rattle.node_store.specs.State.{disk_in, list_in}
 use Rattle.rel_handler.specs.declared.error.BootError.TheVariants.{Device}
-use Rattle.rel_handler.proofs.BootMoments.{boot_moments, boot_of, boot_settles, image_there, keeps_store, ready_now, record_lack, record_refused, right_there}
+use Rattle.rel_handler.proofs.BootMoments.{boot_moments, boot_of, boot_settles, image_there, keeps_store, ready_now, record_lack, record_refused, right_there, writes_no_start}
 use Rattle.node_store.proofs.Commits.{revived_is_sound}
 use Rattle.rel_handler.proofs.Boots.{boots_to}
 use Rattle.rel_handler.proofs.RepairLemmas.{boot_quiet, boot_refused, is_lack}
@@ -76,10 +75,11 @@ returns-in-Ok-finish-clause-only g c = λ es image.
     boot_of g.D.Disk c.args.disk c.in-Ok.node c.in-Ok.ensures.opened es image (c.in-Ok.ensures.only es image) c.finish.new.node false c.in-Ok-finish.ensures.booted
 
 pub returns-in-Ok-finish-clause-right : goal.returns-in-Ok-finish-clause-right
-returns-in-Ok-finish-clause-right g c = λ es image none started.
+returns-in-Ok-finish-clause-right g c = λ es image right.
     let opened = c.in-Ok.ensures.opened in
-    let (free, right) = right_there g.D.Disk c.args.disk c.in-Ok.node opened es image (c.in-Ok.ensures.only es image) none started in
-    read_on g.D.Disk.seen g.D.Disk.may_leave g.D.Disk.moment g.D.Disk.left_since c.args.disk (disk_in c.in-Ok.node) (disk_in c.finish.new.node) opened.only_read (c.in-Ok-finish.ensures.right free right)
+    let only = c.in-Ok.ensures.only es image in
+    let disk = c.args.disk in
+    writes_no_start g.D.Disk disk c.in-Ok.node opened es image only (disk_in c.finish.new.node) (c.in-Ok-finish.ensures.right (right_there g.D.Disk disk c.in-Ok.node opened es image only right))
 
 pub returns-in-Ok-finish-clause-recovers : goal.returns-in-Ok-finish-clause-recovers
 returns-in-Ok-finish-clause-recovers g c = λ k all.

@@ -1,8 +1,7 @@
 use Rattle.std.proofs.Common.{◌≡◌, Some, sym, ap, ◌∙◌, subst}
 use Rattle.rel_files.specs.Release.{release_of}
-use Rattle.rel_list.specs.Releases.{has_one_shot, permanent}
+use Rattle.rel_list.specs.Releases.{permanent}
 use Rattle.rel_records.proofs.EventRecords.{one-recorded}
-use Rattle.rel_store.specs.Contents.{HasOnlyRead}
 use Rattle.rel_store.specs.State.{records_in}
 use Rattle.start_record.specs.Text.{AreVersions, versions_of}
 use Rattle.rel_handler.specs.Booting.{FinishRefused}
@@ -10,7 +9,7 @@ use Rattle.node_store.specs.State.{disk_in, list_in}
 use Rattle.rel_handler.specs.declared.error.BootError.TheVariants.{Device, NoMemory}
 use Rattle.node_store.proofs.Commits.{have_versions, read_nothing}
 use Rattle.node_command.proofs.Refusals.{refuses_with}
-use Rattle.rel_handler.proofs.RepairLemmas.{another_start, booted_now, booted_then, failed_over, one_is_permanent, permanent_versions, reads_alone, refused_then, rests_so, right_already, started_now, takes_then, written_over}
+use Rattle.rel_handler.proofs.RepairLemmas.{alone_then, another_start, booted_now, booted_then, failed_over, one_is_permanent, permanent_versions, reads_alone, refused_then, rests_so, right_already, started_now, takes_then, written_over}
 use Rattle.rel_handler.proofs.booting.finish.Goals as goal
 
 -- a list that records make has a permanent release
@@ -70,10 +69,9 @@ returns-then-right-clause-started g c =
     (versions_of c.in_ok-start.start) r are c.in_ok-start.ensures listed (c.in_ok-right.ensures.value.0 c.if-right.true)
 
 pub returns-then-right-clause-right : goal.returns-then-right-clause-right
-returns-then-right-clause-right g c = λ none started.
-    let h = c.args.node.now in
-    let read = c.in_ok-right.ensures.read in
-    subst (λ d. HasOnlyRead g.D.Disk.seen g.D.Disk.may_leave g.D.Disk.moment g.D.Disk.left_since (disk_in h) d) (sym (c.in_ok-take_one_shot.ensures.free (ap has_one_shot read.list ∙ none))) read.only_read
+returns-then-right-clause-right g c = λ started.
+    let t = c.in_ok-take_one_shot.ensures in
+    alone_then g.D.Disk c.args.node.now c.starts.new.node c.requires.ready c.in_ok-right.ensures.read c.take_one_shot.new.node t.leaves g.met.D.Disk.counts_now (g.met.D.Disk.reads_an_image _) t.free t.others
 
 -- it is another one, and is written
 pub commit_start-requires-clause-versions : goal.commit_start-requires-clause-versions
@@ -141,6 +139,6 @@ returns-clause-started g c =
     (versions_of c.in_ok-start.start) r are c.in_ok-start.ensures listed c.commit_start.new.self c.commit_start.ensures.keeps c.in_ok-commit_start.ensures.acknowledged
 
 pub returns-clause-right : goal.returns-clause-right
-returns-clause-right g c = λ none right.
+returns-clause-right g c = λ right.
     let r = release_of c.in-Some.release.now in
     absurd (another_start g.D.Disk c.args.node.now (versions_of c.in_ok-start.start) r c.in_ok-start.ensures (sym c.in-Some.ensures) _ c.in_ok-right.ensures.value c.if-right.false right)

@@ -7,7 +7,7 @@ use Rattle.rel_handler.specs.Booting.{IsBooted}
 use Rattle.node_store.specs.Image.{start_bytes}
 use Rattle.node_store.specs.State.{disk_in, list_in}
 use Rattle.node_store.proofs.Commits.{failed_so, opened, read_nothing}
-use Rattle.rel_handler.proofs.OneShotLemmas.{booted_so, fits_reserved, taken, takes, takes_nothing}
+use Rattle.rel_handler.proofs.OneShotLemmas.{booted_so, fits_reserved, leaves_others, taken, takes, takes_alone, takes_nothing}
 use Rattle.rel_handler.proofs.booting.take_one_shot.Goals as goal
 
 -- there is none
@@ -16,12 +16,20 @@ returns-in_default-clause-leaves g c =
     let h = c.args.node.now in
     takes_nothing g.D.Disk h c.requires.ready (g.met.D.Disk.only_now _) (disk_in h) (λ i. disk_in h)
 
+pub returns-in_default-clause-others : goal.returns-in_default-clause-others
+returns-in_default-clause-others g c =
+    let h = c.args.node.now in
+    leaves_others g.D.Disk h c.requires.ready (g.met.D.Disk.only_now _) (disk_in h) (λ i. disk_in h)
+
 pub returns-in_default-clause-booted : goal.returns-in_default-clause-booted
 returns-in_default-clause-booted g c = booted_so g.D.Disk c.args.node.now c.requires.ready c.requires.recorded (rw c.in_default.is at c.requires.body)
 
 -- there is no memory for its record
 pub returns-then-is_err-clause-leaves : goal.returns-then-is_err-clause-leaves
 returns-then-is_err-clause-leaves g c = takes_nothing g.D.Disk c.args.node.now c.requires.ready (g.met.D.Disk.only_now _) (store.disk_in c.reserve.new.self) c.reserve.ensures.kept.disk
+
+pub returns-then-is_err-clause-others : goal.returns-then-is_err-clause-others
+returns-then-is_err-clause-others g c = leaves_others g.D.Disk c.args.node.now c.requires.ready (g.met.D.Disk.only_now _) (store.disk_in c.reserve.new.self) c.reserve.ensures.kept.disk
 
 pub returns-then-is_err-clause-refused : goal.returns-then-is_err-clause-refused
 returns-then-is_err-clause-refused g c =
@@ -37,6 +45,14 @@ returns-then-is_err-3-clause-leaves g c =
     let works = same.failed ∙ c.requires.ready.store.works in
     takes g.D.Disk h c.requires.ready one c.reserve.new.self same (string_bytes c.in-Some.body) reported long c.append.new.self _
     (rw c.as_bytes.ensures.value at c.append.ensures.any_moment works) (rw c.as_bytes.ensures.value at c.append.ensures.others works) (ap (λ d. start_bytes (g.D.Disk.seen d)) same.disk) c.append.ensures.counted
+
+pub returns-then-is_err-3-clause-others : goal.returns-then-is_err-3-clause-others
+returns-then-is_err-3-clause-others g c =
+    let h = c.args.node.now in
+    let (one, reported, long) = rw c.in-Some.is at c.requires.body in
+    let same = c.reserve.ensures.kept in
+    let works = same.failed ∙ c.requires.ready.store.works in
+    takes_alone g.D.Disk h c.requires.ready one c.reserve.new.self same (string_bytes c.in-Some.body) reported long c.append.new.self (rw c.as_bytes.ensures.value at c.append.ensures.others works)
 
 pub returns-then-is_err-3-clause-refused : goal.returns-then-is_err-3-clause-refused
 returns-then-is_err-3-clause-refused g c =
@@ -58,6 +74,14 @@ returns-clause-leaves g c =
     let works = same.failed ∙ c.requires.ready.store.works in
     takes g.D.Disk h c.requires.ready one c.reserve.new.self same (string_bytes c.in-Some.body) reported long c.append.new.self _
     (rw c.as_bytes.ensures.value at c.append.ensures.any_moment works) (rw c.as_bytes.ensures.value at c.append.ensures.others works) (ap (λ d. start_bytes (g.D.Disk.seen d)) same.disk) c.append.ensures.counted
+
+pub returns-clause-others : goal.returns-clause-others
+returns-clause-others g c =
+    let h = c.args.node.now in
+    let (one, reported, long) = rw c.in-Some.is at c.requires.body in
+    let same = c.reserve.ensures.kept in
+    let works = same.failed ∙ c.requires.ready.store.works in
+    takes_alone g.D.Disk h c.requires.ready one c.reserve.new.self same (string_bytes c.in-Some.body) reported long c.append.new.self (rw c.as_bytes.ensures.value at c.append.ensures.others works)
 
 pub returns-clause-booted : goal.returns-clause-booted
 returns-clause-booted g c =
