@@ -43,10 +43,10 @@ pow_up : (i j : ℕ) → i ≤ j → 2 ^ i ≤ 2 ^ j
 pow_up i j le = ⊎_elim (λ same. omega (arith, ap (λ n. 2 ^ n) same)) (λ less. omega (arith, pow_below i j less)) (cases_behind i j le)
 
 -- the entry at a place, as code reads it
-abbrev pub entry_at : List Entry → ℕ → Entry
-entry_at entries at = get_or entries at (record { key = record { state = 0; input = 0 }; number = 0 })
+abbrev pub entry_at : {B : Type 0} → List (Entry B) → ℕ → Entry B
+entry_at entries at = get_or entries at (record { key = record { state = 0; input = 0; of = record {} }; number = 0 })
 
-pub row_at : (entries : List Entry) (at : ℕ) → at < length entries → slice_get (map row_of entries) at ≡ Some (row_of (entry_at entries at))
+pub row_at : {B : Type 0} (entries : List (Entry B)) (at : ℕ) → at < length entries → slice_get (map row_of entries) at ≡ Some (row_of (entry_at entries at))
 row_at entries at within = slice_get-map row_of entries at ∙ ap (option_map row_of) (slice_get-get_or entries at _ within)
 
 -- ---- what a search costs

@@ -4,8 +4,8 @@ use Rattle.row_index.specs.declared.index.Entry.{Entry}
 use Rattle.row_index.specs.declared.key.Key.{Key}
 use Rattle.row_index.specs.Keys.{Pair}
 
-abbrev pub pair_of : Key → Pair
+abbrev pub pair_of : {B : Type 0} → Key B → Pair
 pair_of k = (k.state, k.input)
 
-abbrev pub row_of : Entry → Pair × ℕ
+abbrev pub row_of : {B : Type 0} → Entry B → Pair × ℕ
 row_of e = (pair_of e.key, e.number)

@@ -2,8 +2,7 @@
 ghost use Rattle.std.specs.Prelude.{◌≡◌, ◌<◌, ◌≤◌, ◌+◌, ◌-◌, ◌*◌, ◌/◌, ◌^◌, IfOk, length};
 ghost use Rattle.row_index.specs.Keys.{Pair, number_at};
 
-use crate::Ticks;
-use crate::key::Key;
+use crate::{Counted, Key, Ticks};
 use std::alloc::{AllocError, Global};
 use std::cmp::Ordering;
 use std::collections::BTreeMap;
@@ -11,11 +10,11 @@ use std::marker::Model;
 
 /// Rows by their keys: each key once, in order, with the number of the first row that has it.
 #[derive(Drop)]
-pub struct Index {
-    entries: Vec<Entry>,
+pub struct Index<B = Counted> {
+    entries: Vec<Entry<B>>,
 }
 
-impl Model for Index {
+impl<B> Model for Index<B> {
     ghost use Rattle.std.specs.Prelude.{ℕ, List, map};
     ghost use Rattle.row_index.specs.Keys.{Pair, IsRising};
     ghost use Rattle.row_index.specs.Stored.{row_of};
@@ -27,15 +26,15 @@ impl Model for Index {
     ghost invariant = { λ i. IsRising (map row_of i.entries.items) };
 }
 
-#[derive(Clone, Copy)]
-pub(crate) struct Entry {
-    key: Key,
+#[derive_where(Clone, Copy)]
+pub(crate) struct Entry<B> {
+    key: Key<B>,
     number: usize,
 }
 
-impl Index {
+impl<B> Index<B> {
     /// The index of these rows, each of which is its key, a state and an input, and its number.
-    pub fn of(alloc: Global, rows: &[((u32, u32), usize)]) -> Result<Index, AllocError>
+    pub fn of(alloc: Global, rows: &[((u32, u32), usize)]) -> Result<Index<B>, AllocError>
         ensures finds { IfOk result (λ index. (wanted : Pair) →
             number_at wanted index ≡ number_at wanted rows.now) }
         ensures size { IfOk result (λ index. length index ≤ length rows.now) }
@@ -52,11 +51,12 @@ impl Index {
     }
 
     /// The number under this key, with one tick for each comparison.
-    pub fn find(&self, wanted: (u32, u32), ticks: &mut Ticks) -> Option<usize>
+    pub fn find(&self, wanted: (u32, u32), ticks: &mut Ticks<B>) -> Option<usize>
         requires { ticks.old + 64 < 2 ^ 64 }
         ensures found { result ≡ number_at wanted self.now }
         ensures cost { 2 ^ (ticks.new - ticks.old) ≤ 2 * length self.now + 1 }
         ensures bound { (ticks.old ≤ ticks.new) × (ticks.new ≤ ticks.old + 64) }
+        ensures least { 0 < length self.now → ticks.old < ticks.new }
     {
         let entries = self.entries.as_slice();
         let mut low = 0;
@@ -74,7 +74,7 @@ impl Index {
     }
 
     /// An equal index.
-    pub fn copy(&self, alloc: Global) -> Result<Index, AllocError>
+    pub fn copy(&self, alloc: Global) -> Result<Index<B>, AllocError>
         ensures { IfOk result (λ index. index ≡ self.now) }
     {
         Ok(Index {

@@ -1,30 +1,34 @@
-//! The keys of an index.
+//! The keys of rows.
 ghost use Rattle.std.specs.Prelude.{◌≡◌, ◌+◌, ◌<◌, ◌^◌};
 ghost use Rattle.row_index.specs.Keys.{compare_pairs};
 ghost use Rattle.row_index.specs.Stored.{pair_of};
 
 use crate::Ticks;
 use std::cmp::Ordering;
+use std::marker::PhantomData;
 
-// The state and the input of a row. No other module reads them.
-#[derive(Clone, Copy)]
-pub(crate) struct Key {
+/// The state and the input of a row. No other module reads them.
+#[derive_where(Clone, Copy)]
+pub struct Key<B> {
     state: u32,
     input: u32,
+    of: PhantomData<B>,
 }
 
-impl Key {
-    pub(crate) fn new(pair: (u32, u32)) -> Key
+impl<B> Key<B> {
+    /// The key of these.
+    pub fn new(pair: (u32, u32)) -> Key<B>
         ensures { pair_of result ≡ pair }
     {
         Key {
             state: pair.0,
             input: pair.1,
+            of: PhantomData,
         }
     }
 
-    // How the wanted pair stands to this key. Nothing else compares keys, and it ticks once.
-    pub(crate) fn order_of(&self, wanted: (u32, u32), ticks: &mut Ticks) -> Ordering
+    /// How the wanted pair stands to this key. Nothing else compares keys, and it ticks once.
+    pub fn order_of(&self, wanted: (u32, u32), ticks: &mut Ticks<B>) -> Ordering
         requires { ticks.old + 1 < 2 ^ 64 }
         ensures order { result ≡ compare_pairs wanted (pair_of self.now) }
         ensures ticks { ticks.new ≡ ticks.old + 1 }

@@ -4,7 +4,11 @@
 //! these (specs/Keys). [`Index::of`] finds under each key what the rows have first (`finds`). [`Index::find`] is that look-up
 //! (`found`), and makes one comparison for each binary digit of the number of keys at most (`cost`): 13 where they are 4,096,
 //! and never more than 64 (`bound`). It takes no memory.
-//! A comparison with a stored key counts once, in [`Ticks`]: the keys are in a module of their own, which has no other.
+//! A search of an index that has a key makes one comparison at least (`least`).
+//!
+//! A comparison with a stored key counts once, in [`Ticks`]: a [`Key`] shows its numbers to no other module, and nothing else
+//! compares them. Counters and keys have a brand, and only counters of the brand [`Counted`] can be made. So code over any brand,
+//! as that of [`Index`], can't compare keys but where the counter that it was given counts it.
 //!
 //! Only tested: that an index is made, and copied, where memory is there. Trusted: the toolchain alone.
 #![tactic(auto)]
@@ -14,4 +18,5 @@ mod key;
 mod ticks;
 
 pub use index::Index;
-pub use ticks::Ticks;
+pub use key::Key;
+pub use ticks::{Counted, Ticks};

@@ -4,10 +4,8 @@ use Rattle.std.specs.List.{find}
 use Rattle.std.specs.Option.{option_map}
 use Rattle.std.proofs.Math.Seq.{drop-cons}
 use Rattle.erl_term.specs.Value.{Value}
-use Rattle.worker_table.specs.declared.row.Row.{Row}
 use Rattle.worker_table.specs.Table as table
 use Rattle.worker_table.specs.Decide.{fits_change, moved_by, change_of}
-use Rattle.worker_table.specs.InMemory.{row_of}
 
 found_first : (b : Bool) (f : table.Row → ℕ) (row : table.Row) (rest : Option table.Row) (n : ℕ)
     → Some n ≡ (if b then Some (f row) else None) → Some n ≡ option_map f (cond b (Some row) rest)
@@ -20,11 +18,11 @@ passed_over true f row rest e = absurd cc
 passed_over false f row rest e = refl
 
 -- from here on of a row at a place, before which none fits
-module _ (rows : List Row) (i : ℕ) (row : Row) (within : i < length rows) (is : row ≡ get_or rows i row) (old : table.OldVersion) (extra : Value) (state : ℕ)
+module _ {R : Type 0} (row_of : R → table.Row) (rows : List R) (i : ℕ) (row : R) (within : i < length rows) (is : row ≡ get_or rows i row) (old : table.OldVersion) (extra : Value) (state : ℕ)
     (before : change_of (map row_of (drop i rows)) old extra state ≡ change_of (map row_of rows) old extra state) where
   split : map row_of (drop i rows) ≡ row_of row ∷ map row_of (drop (i + 1) rows)
   split =
-      ap (map row_of) (drop-cons rows i row within ∙ ap (λ (r : Row). r ∷ drop (suc i) rows) (sym is))
+      ap (map row_of) (drop-cons rows i row within ∙ ap (λ (r : R). r ∷ drop (suc i) rows) (sym is))
       ∙ ap (λ (j : ℕ). row_of row ∷ map row_of (drop j rows)) (sym (add-one i))
 
   here : change_of (row_of row ∷ map row_of (drop (i + 1) rows)) old extra state ≡ change_of (map row_of rows) old extra state

@@ -1,8 +1,10 @@
 -- Which row of a table comes first at a call, by what its indexes find.
-use Rattle.std.proofs.Common.{◌≡◌, ◌<◌, ◌≤◌, ◌==◌, ◌+◌, ℕ, suc, Bool, true, false, cond, ◌&&◌, List, [], ◌∷◌, ◌++◌, map, drop, length, get_or, add-one, append_assoc, Option, Some, None, Result, Ok, Err, IfOk, option_map, unwrap_or, arith, refl, sym, ap, ◌∙◌}
+use Rattle.std.proofs.Common.{◌≡◌, ◌<◌, ◌≤◌, ◌==◌, ◌+◌, ℕ, suc, Bool, true, false, cond, ◌&&◌, if◌then◌else◌, List, [], ◌∷◌, ◌++◌, map, drop, length, get_or, add-one, append_assoc, Option, Some, None, Result, Ok, Err, IfOk, option_map, unwrap_or, arith, refl, sym, ap, ◌∙◌}
 use Rattle.std.proofs.Math.Seq.{drop-cons}
 use Rattle.std.proofs.lemmas.List.{get_or-map, length-map}
 use Rattle.std.specs.List.{find, position_from}
+use Rattle.std.specs.Option.{is_some}
+use Rattle.std.proofs.lemmas.Bool.Decides.{nat_tests}
 use Rattle.row_index.specs.Keys.{Pair, number_at}
 use Rattle.row_index.proofs.SearchLemmas.{same_pair}
 use Rattle.worker_table.specs.declared.keyed.Keyed.{Keyed}
@@ -13,7 +15,7 @@ use Rattle.worker_table.specs.declared.step.Step.TheVariants.{Crashes}
 use Rattle.worker_table.specs.Table.{Row}
 use Rattle.worker_table.specs.Table.Row.{on, add, stop, change}
 use Rattle.worker_table.specs.Decide.{fits_call, call_of, step_of}
-use Rattle.worker_table.specs.Indexed.{IsIndexOf, first_with, is_key, key_of, lower}
+use Rattle.worker_table.specs.Indexed.{IsIndexOf, first_with, has_keys, is_key, key_of, lower}
 
 -- ---- the rows that an index has
 abbrev with_key : Option Pair → ℕ → List (Pair × ℕ) → List (Pair × ℕ)
@@ -168,26 +170,55 @@ both_are rows state input by_state by_input one other =
     ap (λ o. lower o (number_at (0, input) by_input)) (one.finds (state, input)) ∙ ap (lower (first_with ByState (state, input) rows)) (other.finds (0, input))
 
 -- the first row that fits, or none
-module _ (rows : List row.Row) (state input : ℕ) where
-  step_found : (number : ℕ) (r : row.Row) → Some number ≡ both_find (map row_of rows) state input
-      → (number < length rows) × (r ≡ get_or rows number r → call_of state (row_of r) ≡ step_of (map row_of rows) state input)
-  step_found number r is =
-      let x = first_found (fits_call state input) 0 number (map row_of rows) (row_of r) (first_is (map row_of rows) state input ∙ sym is) in
+module _ {R : Type 0} (row_of : R → Row) (rows : List R) (state input : ℕ) where
+  number_found : (number : ℕ) (r : Row) → Some number ≡ both_find (map row_of rows) state input
+      → (number < length rows) × (find (fits_call state input) (map row_of rows) ≡ Some (get_or (map row_of rows) number r))
+  number_found number r is =
+      let x = first_found (fits_call state input) 0 number (map row_of rows) r (first_is (map row_of rows) state input ∙ sym is) in
       let same : x.0 ≡ number = (let e = x.1 in omega arith) in
-      let within : number < length rows = (let lt = x.2 in omega (arith, length-map rows row_of)) in (
-        within,
-        λ there.
-            ap (λ (q : row.Row). call_of state (row_of q)) there
-            ∙ (ap (call_of state) (sym (get_or-map row_of rows number r (row_of r) within))
-            ∙ sym (ap (λ (o : Option Row). unwrap_or (option_map (call_of state) o) Crashes) x.3 ∙ ap (λ j. call_of state (get_or (map row_of rows) j (row_of r))) same)),
-      )
+      let within : number < length rows = (let lt = x.2 in omega (arith, length-map rows row_of)) in
+      (within, x.3 ∙ ap (λ j. Some (get_or (map row_of rows) j r)) same)
 
   pub number_within : (number : ℕ) → Some number ≡ both_find (map row_of rows) state input → number < length rows
-  number_within number is = (step_found number (row.TheVariants.On 0 0 0 0) is).0
+  number_within number is = (number_found number (on 0 0 0 0) is).0
 
-  pub made_by : (number : ℕ) (r : row.Row) → Some number ≡ both_find (map row_of rows) state input → r ≡ get_or rows number r → call_of state (row_of r) ≡ step_of (map row_of rows) state input
-  made_by number r is = (step_found number r is).1
+  pub made_by : (number : ℕ) (r : R) → Some number ≡ both_find (map row_of rows) state input → r ≡ get_or rows number r → call_of state (row_of r) ≡ step_of (map row_of rows) state input
+  made_by number r is there =
+      let found = number_found number (row_of r) is in
+      ap (λ (q : R). call_of state (row_of q)) there
+      ∙ (ap (call_of state) (sym (get_or-map row_of rows number r (row_of r) found.0))
+      ∙ sym (ap (λ (o : Option Row). unwrap_or (option_map (call_of state) o) Crashes) found.1))
 
   pub made_by_none : None ≡ both_find (map row_of rows) state input → Crashes ≡ step_of (map row_of rows) state input
   made_by_none is =
       sym (ap (λ (o : Option Row). unwrap_or (option_map (call_of state) o) Crashes) (none_found (fits_call state input) 0 (map row_of rows) (first_is (map row_of rows) state input ∙ sym is)))
+
+-- ---- how few comparisons a call makes
+some_found : (by : Keyed) (n : ℕ) (rows : List Row) → has_keys by rows ≡ true → (wanted : Pair) × (m : ℕ) × (position_from (λ r. is_key wanted (key_of by r)) n rows ≡ Some m)
+some_found by n [] has = absurd cc
+some_found by n (r ∷ rs) has = go (key_of by r) has (some_found by (n + 1) rs)
+  where
+    itself : (k : Pair) → is_key k (Some k) ≡ true
+    itself k = grind (arith, nat_tests)
+
+    go : (o : Option Pair) → or (is_some o) (has_keys by rs) ≡ true
+        → (has_keys by rs ≡ true → (wanted : Pair) × (m : ℕ) × (position_from (λ x. is_key wanted (key_of by x)) (n + 1) rs ≡ Some m))
+        → (wanted : Pair) × (m : ℕ) × (cond (is_key wanted o) (Some n) (position_from (λ x. is_key wanted (key_of by x)) (n + 1) rs) ≡ Some m)
+    go None is later = let x = later is in (x.0, x.1, x.2)
+    go (Some k) is later = (k, n, ap (λ b. cond b (Some n) (position_from (λ x. is_key k (key_of by x)) (n + 1) rs)) (itself k))
+
+has_entries : (wanted : Pair) (n : ℕ) (index : List (Pair × ℕ)) → number_at wanted index ≡ Some n → 0 < length index
+has_entries wanted n [] is = absurd cc
+has_entries wanted n (e ∷ index) is = omega arith
+
+-- one search more
+pub compares_some : (by : Keyed) (rows : List Row) (index : List (Pair × ℕ)) (before now : ℕ) → IsIndexOf by rows index → (0 < length index → before < now) → before ≤ now
+    → before + (if has_keys by rows then 1 else 0) ≤ now
+compares_some by rows index before now is least le = go (has_keys by rows) refl
+  where
+    go : (b : Bool) → has_keys by rows ≡ b → before + (if b then 1 else 0) ≤ now
+    go true has =
+        let x = some_found by 0 rows has in
+        let more = least (has_entries x.0 x.1 index (is.finds x.0 ∙ x.2)) in
+        omega arith
+    go false has = omega arith

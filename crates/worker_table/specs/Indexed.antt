@@ -1,6 +1,7 @@
 -- Which row of a table comes first at a call, and by which keys it is found.
-use Rattle.std.specs.Prelude.{◌≡◌, ◌≤◌, ◌==◌, ℕ, Bool, false, ◌&&◌, List, length, min, Option, Some, None}
-use Rattle.std.specs.List.{position_from}
+use Rattle.std.specs.Prelude.{◌≡◌, ◌≤◌, ◌==◌, ℕ, ◌+◌, Bool, false, ◌&&◌, if◌then◌else◌, List, length, min, Option, Some, None}
+use Rattle.std.specs.List.{list_any, position_from}
+use Rattle.std.specs.Option.{is_some}
 use Rattle.row_index.specs.Keys.{Pair, number_at}
 use Rattle.worker_table.specs.declared.keyed.Keyed.{Keyed}
 use Rattle.worker_table.specs.declared.keyed.Keyed.TheVariants.{ByState, ByInput}
@@ -32,3 +33,11 @@ abbrev pub lower : Option ℕ → Option ℕ → Option ℕ
 lower (Some a) (Some b) = Some (min a b)
 lower (Some a) None = Some a
 lower None o = o
+
+-- whether some row has a key of this kind
+abbrev pub has_keys : Keyed → List Row → Bool
+has_keys by rows = list_any (λ r. is_some (key_of by r)) rows
+
+-- How many comparisons a call makes at least: one in each index that has a key.
+abbrev pub fewest_comparisons : List Row → ℕ
+fewest_comparisons rows = (if has_keys ByState rows then 1 else 0) + (if has_keys ByInput rows then 1 else 0)

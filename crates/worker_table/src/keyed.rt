@@ -16,7 +16,7 @@ pub(crate) enum Keyed {
 
 impl Keyed {
     // Its index of these rows.
-    pub(crate) fn index(self, alloc: Global, rows: &[Row]) -> Result<Index, AllocError>
+    pub(crate) fn index<B>(self, alloc: Global, rows: &[Row]) -> Result<Index<B>, AllocError>
         ensures { IfOk result (λ index. IsIndexOf self (map row_of rows.now) index) }
     {
         let mut keyed = Vec::with_capacity(alloc, rows.len())?;

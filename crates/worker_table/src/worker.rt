@@ -4,6 +4,7 @@ ghost use Rattle.erl_term.specs.Value.{members_of, value_of};
 ghost use Rattle.worker_table.specs.Decide.{step_of, change_of};
 ghost use Rattle.worker_table.specs.Headed.{has_versions, worker_in};
 ghost use Rattle.worker_table.specs.InMemory.{old_of};
+ghost use Rattle.worker_table.specs.Indexed.{fewest_comparisons};
 
 use crate::parts::number_in;
 use crate::row_reader::rows_in;
@@ -12,19 +13,21 @@ use crate::{Old, Step, Ticks};
 use erl_term::Term;
 use rel_files::parts::{four, list_in};
 use rel_files::text::{is_version, name_in, version_or_empty};
+use row_index::Counted;
 use std::alloc::{AllocError, Global};
 use std::marker::Model;
 
-/// The table of a worker. Contracts see it as its name, its version, its first state and its rows.
-pub struct Worker {
+/// The table of a worker. Contracts see it as its name, its version, its first state and its rows. Its keys have the brand of the
+/// counters that anyone can make.
+pub struct Worker<B = Counted> {
     name: String,
     vsn: String,
     first: u32,
-    rows: Rows,
+    rows: Rows<B>,
 }
 
 // Let go by one call: a derived drop would stand field by field at each exit of a caller.
-impl Drop for Worker {
+impl<B> Drop for Worker<B> {
     fn drop(self) {
         let Worker {
             name: _name,
@@ -35,7 +38,7 @@ impl Drop for Worker {
     }
 }
 
-impl Model for Worker {
+impl<B> Model for Worker<B> {
     ghost use Rattle.std.specs.Prelude.{string_bytes};
     ghost use Rattle.worker_table.specs.Table.{WorkerTable};
     ghost use Rattle.worker_table.specs.Codes.{worker_code};
@@ -86,16 +89,6 @@ impl Worker {
         ensures { result ≡ step_of self.now.rows state input }
     {
         self.step_counted(state, input, &mut Ticks::new())
-    }
-
-    /// The same, with a tick for each comparison of keys: 26 at most where there are 4,096 rows or fewer.
-    pub fn step_counted(&self, state: u32, input: u32, ticks: &mut Ticks) -> Step
-        requires { ticks.old + 128 < 2 ^ 64 }
-        ensures step { result ≡ step_of self.now.rows state input }
-        ensures bound { (ticks.old ≤ ticks.new) × (ticks.new ≤ ticks.old + 128) }
-        ensures cost { length self.now.rows ≤ 4096 → ticks.new ≤ ticks.old + 26 }
-    {
-        self.rows.step(state, input, ticks)
     }
 
     /// The state after a change of code from this version, with this extra term. Nothing where the change fails. It takes no
@@ -155,5 +148,20 @@ impl Worker {
         ensures { result ≡ has_versions self.now }
     {
         is_version(self.vsn.as_str()) && self.rows.have_versions()
+    }
+}
+
+// Over any brand, so that no counter can be made here but the one that is given counts the comparisons.
+impl<B> Worker<B> {
+    /// What comes of a call in this state, with this input, with a tick for each comparison of keys: 26 at most where there are
+    /// 4,096 rows or fewer. It takes no memory.
+    pub fn step_counted(&self, state: u32, input: u32, ticks: &mut Ticks<B>) -> Step
+        requires { ticks.old + 128 < 2 ^ 64 }
+        ensures step { result ≡ step_of self.now.rows state input }
+        ensures bound { (ticks.old ≤ ticks.new) × (ticks.new ≤ ticks.old + 128) }
+        ensures cost { length self.now.rows ≤ 4096 → ticks.new ≤ ticks.old + 26 }
+        ensures least { ticks.old + fewest_comparisons self.now.rows ≤ ticks.new }
+    {
+        self.rows.step(state, input, ticks)
     }
 }

@@ -7,7 +7,7 @@ use Rattle.worker_table.proofs.keyed.Keyed.index.Goals as goal
 use Rattle.worker_table.proofs.keyed.Keyed.index.Goals.{in-Some+in_ok-push, in_default}
 
 pub loop-number-preserved : goal.loop-number-preserved
-loop-number-preserved c =
+loop-number-preserved g c =
     let rows = c.args.rows.now in
     let at = c.loop-number.number in
     let row = c.index-rows-number.result in
@@ -22,7 +22,7 @@ loop-number-preserved c =
     ]
 
 pub returns : goal.returns
-returns c =
+returns g c =
     let rows = c.args.rows.now in
     let items = c.loop-number.keyed.items in
     let rest : drop c.loop-number.number rows ≡ [] = drop_all c.loop-number.number rows c.loop-number-test.false in
