@@ -5,6 +5,7 @@ use Rattle.crossbeam_channel.specs.Claims.{view}
 use Rattle.crossbeam_channel.specs.Ends.{sends_on, receives_on, ruled_capacity}
 use Rattle.proc_workers.specs.declared.ends.Sender.{Sender}
 use Rattle.proc_workers.specs.declared.ends.Inbox.{Inbox}
+use Rattle.proc_workers.specs.declared.hand.Hand.{Hand}
 use Rattle.proc_workers.specs.declared.note.Note.{Note}
 
 -- the mailbox to which a sender adds, and that which an inbox reads
@@ -18,9 +19,13 @@ read_by i = (receives_on i.end).stamps.shared.table_id
 abbrev pub capacity_of : Sender → ℕ
 capacity_of s = ruled_capacity (sends_on s.end)
 
--- the notes that the sender added, and those that the inbox took, in order
-abbrev pub sent : Sender → List Note
-sent s = (view s.hand).sent
+-- what a sender and an inbox know of what they did
+abbrev pub sender_hand : Sender → Hand
+sender_hand s = view s.hand
 
+abbrev pub inbox_hand : Inbox → Hand
+inbox_hand i = view i.hand
+
+-- the notes that the inbox took, in order
 abbrev pub taken : Inbox → List Note
-taken i = (view i.hand).taken
+taken i = (inbox_hand i).taken

@@ -1,5 +1,5 @@
 //! The ends of a mailbox.
-ghost use Rattle.std.specs.Prelude.{◌≡◌, true, false};
+ghost use Rattle.std.specs.Prelude.{◌≡◌, ◌≢◌, []};
 ghost use Rattle.crossbeam_channel.specs.Claims.{view, IsSeatAt};
 ghost use Rattle.crossbeam_channel.specs.Ends.{sends_on, receives_on};
 
@@ -12,7 +12,7 @@ pub struct Sender {
     pub(crate) end: RuledSender<Note, Hand, Delivery>,
     pub(crate) hand: Pass<Note, Hand>,
     pub ghost sits: { IsSeatAt (sends_on end) hand },
-    pub ghost adds: { (view hand).reads ≡ false },
+    pub ghost adds: { (view hand).name ≢ [] },
 }
 
 /// Takes notes from a mailbox.
@@ -21,5 +21,5 @@ pub struct Inbox {
     pub(crate) end: RuledReceiver<Note, Hand, Delivery>,
     pub(crate) hand: Pass<Note, Hand>,
     pub ghost sits: { IsSeatAt (receives_on end) hand },
-    pub ghost reads: { (view hand).reads ≡ true },
+    pub ghost reads: { (view hand).name ≡ [] },
 }

@@ -1,9 +1,12 @@
 //! Workers: threads that call a process each, and take the calls from a mailbox.
 //!
-//! [`mailbox`] makes a mailbox that holds at most 64 notes. Its one [`Inbox`] takes the notes, any number of [`Sender`]s add them.
-//! `Sender::send` adds its note at the back, once, or hands it back where the inbox is gone (`added`). What each end has added or
-//! taken is said of it (specs/Hands), and the mailbox keeps [`Delivery`]: the notes stand in one order, in which those of each
-//! sender are what it sent, and of which the inbox took all but those that wait. So none is lost, and none comes twice (`laws`).
+//! [`mailbox`] makes an empty mailbox that holds at most 64 notes (`empty`). Its one [`Inbox`] takes the notes, any number of
+//! [`Sender`]s add them. What an end knows is its [`Hand`] (specs/Hands): its name, how many ends it made, and the notes that it
+//! added or took. `Sender::send` adds its note at the back, once, or hands it back where the inbox is gone. It changes nothing
+//! else of the hand (`added`), so an end that it made adds nothing either. The mailbox keeps [`Delivery`]: the notes stand in one
+//! order, in which those of each end are what it added, and of which the inbox took all but those that wait. Its ends are the
+//! inbox, those that the inbox made, those that these made, and so on. So whoever knows these ends knows all that was added:
+//! none is lost, and none comes twice (`laws`).
 //! [`work`] calls one process for each [`Job`] that it takes, until it is stopped (specs/Notes, specs/Work). Jobs that come while
 //! it is suspended are kept until it goes on. The jobs that it took are those of its answers and then those that are left, in
 //! order, each once (`jobs`). Answers come in turn, each by the history up to its moment: `Down` where the job names another
