@@ -22,9 +22,9 @@ loop-low-preserved-in-Less g c =
     let rising = subst (λ l. IsRising (map row_of l)) (sym c.as_slice-entries.ensures.value) c.self.invariant in
     let within : at < length entries = omega (arith, c.middle-at.ensures.within, narrow.within, length-map entries row_of) in
     let spent : c.order_of.new.ticks - c.args.ticks.now ≡ suc (c.loop-low.ticks - c.args.ticks.now) = omega (arith, c.order_of.ensures.ticks, c.loop-low.invariant.1) in (
-      go_below c.args.wanted rows low c.loop-low.high at (row_of (entry_at entries at)) rising narrow c.middle-at.ensures.within.0 c.middle-at.ensures.within.1 (row_at entries at within) (sym c.order_of.ensures.order ∙ c.in-Less.is),
+      go_below c.args.wanted rows low c.loop-low.high at (row_of (entry_at entries at)) rising narrow c.middle-at.ensures.within.0 (omega (arith, c.middle-at.ensures.within.1, c.loop-low-test.true)) (row_at entries at within) (sym c.order_of.ensures.order ∙ c.in-Less.is),
       omega (arith, c.order_of.ensures.ticks, c.loop-low.invariant.1),
-      subst (λ n. IsHalved (length rows) (at - low) n) (sym spent) (halve (length rows) (c.loop-low.high - low) (at - low) _ (omega (arith, c.loop-low-test.true)) c.middle-at.ensures.halves.0 c.loop-low.invariant.2),
+      subst (λ n. IsHalved (length rows) (at - low) n) (sym spent) (halve (length rows) (c.loop-low.high - low) (at - low) _ (omega (arith, c.loop-low-test.true)) (omega (arith, c.middle-at.ensures.halves.0)) c.loop-low.invariant.2),
       inl (omega (arith, c.order_of.ensures.ticks, c.loop-low.invariant.1)),
     )
 
@@ -63,9 +63,9 @@ loop-low-preserved g c =
     let rising = subst (λ l. IsRising (map row_of l)) (sym c.as_slice-entries.ensures.value) c.self.invariant in
     let within : at < length entries = omega (arith, c.middle-at.ensures.within, narrow.within, length-map entries row_of) in
     let spent : c.order_of.new.ticks - c.args.ticks.now ≡ suc (c.loop-low.ticks - c.args.ticks.now) = omega (arith, c.order_of.ensures.ticks, c.loop-low.invariant.1) in (
-      go_above c.args.wanted rows low c.loop-low.high at (row_of (entry_at entries at)) rising narrow c.middle-at.ensures.within.0 c.middle-at.ensures.within.1 (row_at entries at within) (sym c.order_of.ensures.order ∙ c.in-Greater.is),
+      go_above c.args.wanted rows low c.loop-low.high at (row_of (entry_at entries at)) rising narrow c.middle-at.ensures.within.0 (omega (arith, c.middle-at.ensures.within.1, c.loop-low-test.true)) (row_at entries at within) (sym c.order_of.ensures.order ∙ c.in-Greater.is),
       omega (arith, c.order_of.ensures.ticks, c.loop-low.invariant.1),
-      subst (λ n. IsHalved (length rows) (c.loop-low.high - (at + 1)) n) (sym spent) (halve (length rows) (c.loop-low.high - low) (c.loop-low.high - (at + 1)) _ (omega (arith, c.loop-low-test.true)) c.middle-at.ensures.halves.1 c.loop-low.invariant.2),
+      subst (λ n. IsHalved (length rows) (c.loop-low.high - (at + 1)) n) (sym spent) (halve (length rows) (c.loop-low.high - low) (c.loop-low.high - (at + 1)) _ (omega (arith, c.loop-low-test.true)) (omega (arith, c.middle-at.ensures.halves.1)) c.loop-low.invariant.2),
       inl (omega (arith, c.order_of.ensures.ticks, c.loop-low.invariant.1)),
     )
 
