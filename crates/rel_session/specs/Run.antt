@@ -85,13 +85,14 @@ Executes v p [] old new = LeavesOnly v old new (v.may_leave old) × Holds v p ne
 Executes {D} v p (a ∷ more) old new = (mid : D) × Happens v p a old mid × Executes v a.after more mid new
 
 -- How a session ends: at the end of its input or `quit`, or where its input is cut off; or early, where a read of it failed, an
--- answer was not written, or memory was refused.
+-- answer was not written, or memory was refused. Or it goes on.
 pub data Ending : Type 0 where
   ended : Ending
   cut_off : Ending
   unread : Ending
   unwritten : Ending
   out_of_memory : Ending
+  going_on : Ending
 
 -- It came to the end of what it may take.
 abbrev pub EndsInFull : Ending → Type 0
@@ -108,14 +109,15 @@ abbrev pub IsReply : Source → Place → Command → Ending → List Reply → 
 IsReply source p c out_of_memory [] a = MayLeave source p c a
 IsReply source p c ending more a = Transition source p c a
 
--- These are the replies to the commands, in order, over a source of files: to each up to the end or `quit`, or to the first of
--- them, where the session ended early.
+-- These are the replies to the commands, in order, over a source of files: to each up to the end or `quit`, and so where a read
+-- failed; or to the first of them.
 abbrev pub Replies : Source → Files → Place → Feed Command → Ending → List Reply → Type 0
 Replies base files p (next c commands) ending (a ∷ more) =
     IsReply (source_of base files) p c ending more a × Replies base (files_behind files c) a.after commands ending more
-Replies base files p commands unread [] = Unit {0}
 Replies base files p commands unwritten [] = Unit {0}
 Replies base files p commands out_of_memory [] = Unit {0}
+Replies base files p commands going_on [] = Unit {0}
+Replies base files p cut unread [] = Unit {0}
 Replies base files p over ending [] = ending ≡ ended
 Replies base files p cut ending [] = ending ≡ cut_off
 Replies base files p (next c commands) ending [] = (c ≡ quit) × (ending ≡ ended)
@@ -135,9 +137,13 @@ IsTextOf out_of_memory replies text = (text ≡ answers_of replies)
     ⊎ ((first : List Reply) × (last : Reply) × (replies ≡ first ++ last ∷ []) × (text ≡ answers_of first))
 IsTextOf ending replies text = text ≡ answers_of replies
 
+-- the commands of an input of which so many bytes are read at most
+abbrev pub commands_within : ℕ → List ℕ → Feed Command
+commands_within most input = commands_of (lines_of (bytes_within most input))
+
 -- the commands of an input
 abbrev pub commands_in : List ℕ → Feed Command
-commands_in input = commands_of (lines_of (bytes_within most_bytes input))
+commands_in input = commands_within most_bytes input
 
 -- A session with these commands ended so, on this disk and over these files, and this was written.
 pub record IsRun {D : Type 0} (v : Device D) (base : Source) (files : Files) (p : Place) (commands : Feed Command)

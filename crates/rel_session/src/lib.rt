@@ -11,9 +11,11 @@
 //! one. Session: what is written, and how a session ends.
 //! What follows for whole runs, the laws of `session_laws` say. docs/ARCHITECTURE.md says what a further command takes.
 //!
+//! An answer is written before more of the input is read: where a read fails, the bytes that were taken by then hold no command but
+//! those that are answered.
+//!
 //! A session may wait for slots of its processes, and what is said of it holds where it returns. Only tested: that it does, and that
-//! it goes on where memory is there. That an answer is written before the next line is read is to be read in `session`.
-//! Trusted: the toolchain, with what the crates below trust.
+//! it goes on where memory is there. Trusted: the toolchain, with what the crates below trust.
 #![tactic(auto)]
 
 mod answer;

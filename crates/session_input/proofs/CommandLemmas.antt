@@ -21,10 +21,6 @@ use Rattle.session_input.specs.Commands.Command.{file, bad}
 abbrev pub Says : ParsedLine → Line → Type 0
 Says said line = (l : List ℕ) → IsKept most_line line l → said ≡ parse_line l
 
-pub unread : {A : Type 0} (old : Option (Feed A)) → Stays old old
-unread None = tt
-unread (Some old) = refl
-
 -- a blank line is passed over
 pub passes_blank : (line : Line) (said : ParsedLine) (old : Option (Feed Command)) (now new : Option (Feed (List ℕ)))
     → Stays old (option_map commands_of now) → Gives now new (IsKept most_line line) → Says said line → said ≡ blank
@@ -55,28 +51,13 @@ opened : (line : Line) (said : ParsedLine) (path : List ℕ) (old : Feed Command
 opened line said path old now new s l was k says is =
     sym (sym s ∙ ap commands_of was ∙ ap (λ x. put_parsed x (commands_of new) (λ p. commands_behind p [] new)) (sym (says l k) ∙ is))
 
--- what a known feed is, another is
-same_next : {A V : Type 0} (Shows : V → A → Type 0) (r : Result (Option V) SessionError) (old mid : Feed A) (new : Option (Feed A))
-    → mid ≡ old → IsNext Shows r (Some mid) new → IsNext Shows r (Some old) new
-same_next Shows r old mid new e n = subst (λ f. IsNext Shows r (Some f) new) e n
-
-nothing_known : {A V : Type 0} (Shows : V → A → Type 0) (r : Result (Option V) SessionError) (new : Option (Feed A)) → IsNext Shows r None new
-nothing_known Shows (Ok (Some v)) new = tt
-nothing_known Shows (Ok None) new = tt
-nothing_known Shows (Err Limit) new = tt
-nothing_known Shows (Err Read) new = tt
-nothing_known Shows (Err Write) new = tt
-nothing_known Shows (Err NoMemory) new = tt
-
-pub opens_file : {V : Type 0} (Shows : V → Command → Type 0) (r : Result (Option V) SessionError) (line : Line) (said : ParsedLine) (path : List ℕ)
-    (old : Option (Feed Command)) (now mid : Option (Feed (List ℕ))) (new : Option (Feed Command))
+pub opens_file : (line : Line) (said : ParsedLine) (path : List ℕ) (old : Option (Feed Command)) (now mid : Option (Feed (List ℕ)))
     → Stays old (option_map commands_of now) → Gives now mid (IsKept most_line line) → Says said line → said ≡ file_begins path
-    → IsNext Shows r (option_map (commands_behind path []) mid) new → IsNext Shows r old new
-opens_file Shows r line said path None now mid new s g says is n = nothing_known Shows r new
-opens_file Shows r line said path (Some old) None mid new s g says is n = absurd s
-opens_file Shows r line said path (Some old) (Some now) None new s g says is n = absurd g
-opens_file Shows r line said path (Some old) (Some now) (Some mid) new s (l, was, k) says is n =
-    same_next Shows r old (commands_behind path [] mid) new (opened line said path old now mid s l was k says is) n
+    → Stays old (option_map (commands_behind path []) mid)
+opens_file line said path None now mid s g says is = tt
+opens_file line said path (Some old) None mid s g says is = absurd s
+opens_file line said path (Some old) (Some now) None s g says is = absurd g
+opens_file line said path (Some old) (Some now) (Some mid) s (l, was, k) says is = opened line said path old now mid s l was k says is
 
 -- there is no further command
 pub no_command : (old : Option (Feed Command)) (now new : Option (Feed (List ℕ)))
@@ -95,15 +76,15 @@ cut_before (Some old) (Some now) None s e = absurd e
 cut_before (Some old) (Some now) (Some new) s (was, is) = (sym s ∙ ap commands_of was, ap commands_of is)
 
 -- an error stays what it is
-pub error_before : {V : Type 0} (Shows : V → Command → Type 0) (r : Result (Option V) SessionError) (most : ℕ) (e : SessionError)
-    (old : Option (Feed Command)) (now new : Option (Feed (List ℕ)))
-    → IsErrAnd r (λ f. f ≡ e) → Stays old (option_map commands_of now) → IsNext {V = Line} (IsKept most) (Err e) now new
-    → IsNext Shows r old (option_map commands_of new)
-error_before Shows (Ok v) most e old now new p s n = absurd p
-error_before Shows (Err f) most Limit old now new p s n = subst (λ x. IsNext Shows (Err x) old (option_map commands_of new)) (sym p) (cut_before old now new s n)
-error_before Shows (Err f) most Read old now new p s n = subst (λ x. IsNext Shows (Err x) old (option_map commands_of new)) (sym p) tt
-error_before Shows (Err f) most Write old now new p s n = subst (λ x. IsNext Shows (Err x) old (option_map commands_of new)) (sym p) tt
-error_before Shows (Err f) most NoMemory old now new p s n = subst (λ x. IsNext Shows (Err x) old (option_map commands_of new)) (sym p) tt
+pub error_before : {V : Type 0} (Shows : V → Command → Type 0) (r : Result (Option V) SessionError) (most : ℕ) (e : SessionError) (n : ℕ)
+    (old : ℕ → Option (Feed Command)) (now new : ℕ → Option (Feed (List ℕ)))
+    → IsErrAnd r (λ f. f ≡ e) → Stays (old n) (option_map commands_of (now n)) → IsNext {V = Line} (IsKept most) (Err e) n now new
+    → IsNext Shows r n old (λ m. option_map commands_of (new m))
+error_before Shows (Ok v) most e n old now new p s g = absurd p
+error_before Shows (Err f) most Limit n old now new p s g = subst (λ x. IsNext Shows (Err x) n old (λ m. option_map commands_of (new m))) (sym p) (cut_before (old n) (now n) (new n) s g)
+error_before Shows (Err f) most Read n old now new p s g = subst (λ x. IsNext Shows (Err x) n old (λ m. option_map commands_of (new m))) (sym p) (cut_before (old n) (now n) (new n) s g)
+error_before Shows (Err f) most Write n old now new p s g = subst (λ x. IsNext Shows (Err x) n old (λ m. option_map commands_of (new m))) (sym p) tt
+error_before Shows (Err f) most NoMemory n old now new p s g = subst (λ x. IsNext Shows (Err x) n old (λ m. option_map commands_of (new m))) (sym p) tt
 
 -- A file so far: the bytes of its lines, and what is kept of them.
 pub record Within (path : List ℕ) (given : GivenFile) (old : Feed Command) (now : Feed (List ℕ)) : Type 0 where
@@ -182,11 +163,11 @@ cut_inside path given (Some old) (Some now) None w e = absurd e
 cut_inside path given (Some old) (Some now) (Some new) w (was, is) = (w.is ∙ ap (commands_behind path w.bytes) was, ap commands_of is)
 
 pub error_inside : {V : Type 0} (Shows : V → Command → Type 0) (r : Result (Option V) SessionError) (most : ℕ) (e : SessionError)
-    (path : List ℕ) (given : GivenFile) (old : Option (Feed Command)) (now new : Option (Feed (List ℕ)))
-    → IsErrAnd r (λ f. f ≡ e) → IsWithin path given old now → IsNext {V = Line} (IsKept most) (Err e) now new
-    → IsNext Shows r old (option_map commands_of new)
-error_inside Shows (Ok v) most e path given old now new p w n = absurd p
-error_inside Shows (Err f) most Limit path given old now new p w n = subst (λ x. IsNext Shows (Err x) old (option_map commands_of new)) (sym p) (cut_inside path given old now new w n)
-error_inside Shows (Err f) most Read path given old now new p w n = subst (λ x. IsNext Shows (Err x) old (option_map commands_of new)) (sym p) tt
-error_inside Shows (Err f) most Write path given old now new p w n = subst (λ x. IsNext Shows (Err x) old (option_map commands_of new)) (sym p) tt
-error_inside Shows (Err f) most NoMemory path given old now new p w n = subst (λ x. IsNext Shows (Err x) old (option_map commands_of new)) (sym p) tt
+    (path : List ℕ) (given : GivenFile) (n : ℕ) (old : ℕ → Option (Feed Command)) (now new : ℕ → Option (Feed (List ℕ)))
+    → IsErrAnd r (λ f. f ≡ e) → IsWithin path given (old n) (now n) → IsNext {V = Line} (IsKept most) (Err e) n now new
+    → IsNext Shows r n old (λ m. option_map commands_of (new m))
+error_inside Shows (Ok v) most e path given n old now new p w g = absurd p
+error_inside Shows (Err f) most Limit path given n old now new p w g = subst (λ x. IsNext Shows (Err x) n old (λ m. option_map commands_of (new m))) (sym p) (cut_inside path given (old n) (now n) (new n) w g)
+error_inside Shows (Err f) most Read path given n old now new p w g = subst (λ x. IsNext Shows (Err x) n old (λ m. option_map commands_of (new m))) (sym p) (cut_inside path given (old n) (now n) (new n) w g)
+error_inside Shows (Err f) most Write path given n old now new p w g = subst (λ x. IsNext Shows (Err x) n old (λ m. option_map commands_of (new m))) (sym p) tt
+error_inside Shows (Err f) most NoMemory path given n old now new p w g = subst (λ x. IsNext Shows (Err x) n old (λ m. option_map commands_of (new m))) (sym p) tt

@@ -49,6 +49,11 @@ IsSoFar most is_begun line None now = Unit {0}
 IsSoFar most is_begun line (Some old) None = ⊥
 IsSoFar most is_begun line (Some old) (Some now) = SoFar most is_begun line old now
 
+-- nothing is there yet
+pub no_bytes : (most : ℕ) (line : Line) (now : Option (Feed (List ℕ))) → IsKept most line [] → IsSoFar most false line now now
+no_bytes most line None k = tt
+no_bytes most line (Some now) k = record { bytes = []; begun = refl; is = refl; kept = k }
+
 some_bytes : (xs : List ℕ) (b : ℕ) → is_some_list (xs ++ b ∷ []) ≡ true
 some_bytes [] b = refl
 some_bytes (x ∷ xs) b = refl
@@ -111,17 +116,17 @@ cut_within most is_begun line (Some old) (Some now) (Some new) s (was, is) =
     (s.is ∙ ap (λ f. onto_all s.bytes (lines_of f)) was ∙ onto_all-cut s.bytes, ap lines_of is)
 
 -- an error stays what it is
-same_error : (most : ℕ) (e : SessionError) (is_begun : Bool) (line : Line) (old : Option (Feed (List ℕ))) (now new : Option (Feed ℕ))
-    → IsSoFar most is_begun line old (option_map lines_of now) → IsNext {V = ℕ} (λ b x. b ≡ x) (Err e) now new
-    → IsNext (IsKept most) (Err e) old (option_map lines_of new)
-same_error most Limit is_begun line old now new s n = cut_within most is_begun line old now new s n
-same_error most Read is_begun line old now new s n = tt
-same_error most Write is_begun line old now new s n = tt
-same_error most NoMemory is_begun line old now new s n = tt
+same_error : (most : ℕ) (e : SessionError) (is_begun : Bool) (line : Line) (n : ℕ) (old : ℕ → Option (Feed (List ℕ))) (now new : ℕ → Option (Feed ℕ))
+    → IsSoFar most is_begun line (old n) (option_map lines_of (now n)) → IsNext {V = ℕ} (λ b x. b ≡ x) (Err e) n now new
+    → IsNext (IsKept most) (Err e) n old (λ m. option_map lines_of (new m))
+same_error most Limit is_begun line n old now new s g = cut_within most is_begun line (old n) (now n) (new n) s g
+same_error most Read is_begun line n old now new s g = cut_within most is_begun line (old n) (now n) (new n) s g
+same_error most Write is_begun line n old now new s g = tt
+same_error most NoMemory is_begun line n old now new s g = tt
 
-pub error_passes : (most : ℕ) (r : Result (Option Line) SessionError) (e : SessionError) (is_begun : Bool) (line : Line) (old : Option (Feed (List ℕ))) (now new : Option (Feed ℕ))
-    → IsErrAnd r (λ f. f ≡ e) → IsSoFar most is_begun line old (option_map lines_of now) → IsNext {V = ℕ} (λ b x. b ≡ x) (Err e) now new
-    → IsNext (IsKept most) r old (option_map lines_of new)
-error_passes most (Ok v) e is_begun line old now new p s n = absurd p
-error_passes most (Err f) e is_begun line old now new p s n =
-    subst (λ x. IsNext {V = Line} (IsKept most) (Err x) old (option_map lines_of new)) (sym p) (same_error most e is_begun line old now new s n)
+pub error_passes : (most : ℕ) (r : Result (Option Line) SessionError) (e : SessionError) (is_begun : Bool) (line : Line) (n : ℕ) (old : ℕ → Option (Feed (List ℕ))) (now new : ℕ → Option (Feed ℕ))
+    → IsErrAnd r (λ f. f ≡ e) → IsSoFar most is_begun line (old n) (option_map lines_of (now n)) → IsNext {V = ℕ} (λ b x. b ≡ x) (Err e) n now new
+    → IsNext (IsKept most) r n old (λ m. option_map lines_of (new m))
+error_passes most (Ok v) e is_begun line n old now new p s g = absurd p
+error_passes most (Err f) e is_begun line n old now new p s g =
+    subst (λ x. IsNext {V = Line} (IsKept most) (Err x) n old (λ m. option_map lines_of (new m))) (sym p) (same_error most e is_begun line n old now new s g)

@@ -1,7 +1,7 @@
 -- What comes one after another from an input of which only so many bytes are read.
-use Rattle.std.specs.Prelude.{◌≡◌, ℕ, ◌-◌, List, [], ◌∷◌, Option, Some, None, Ok, Err, Result, if◌then◌else◌, ◌==◌}
+use Rattle.std.specs.Prelude.{◌≡◌, ℕ, ◌-◌, ◌≤◌, List, [], ◌∷◌, Option, Some, None, Ok, Err, Result, if◌then◌else◌, ◌==◌}
 use Rattle.session_input.specs.declared.error.SessionError.{SessionError}
-use Rattle.session_input.specs.declared.error.SessionError.TheVariants.{Limit}
+use Rattle.session_input.specs.declared.error.SessionError.TheVariants.{Read, Limit}
 
 -- one after another, up to the end of the input, or to where more of it is needed than is read
 pub data Feed (A : Type 0) : Type 0 where
@@ -32,10 +32,12 @@ EndsAs end None new = Unit {0}
 EndsAs end (Some old) None = ⊥
 EndsAs end (Some old) (Some new) = (old ≡ end) × (new ≡ end)
 
--- The answer of a call that takes the next one: it, or that there is none, or that more is needed than is read.
-abbrev pub IsNext : {A V : Type 0} → (V → A → Type 0) → Result (Option V) SessionError → Option (Feed A) → Option (Feed A)
-    → Type 0
-IsNext Shows (Ok (Some v)) old new = Gives old new (Shows v)
-IsNext Shows (Ok None) old new = EndsAs over old new
-IsNext Shows (Err Limit) old new = EndsAs cut old new
-IsNext Shows (Err e) old new = Unit {0}
+-- The answer of a call that takes the next one: it, or that there is none, wherever from there on the reading may stop; or that
+-- more is needed. So what was read by then holds no further one, where a read fails too.
+abbrev pub IsNext : {A V : Type 0} → (V → A → Type 0) → Result (Option V) SessionError → ℕ → (ℕ → Option (Feed A))
+    → (ℕ → Option (Feed A)) → Type 0
+IsNext Shows (Ok (Some v)) reached old new = (most : ℕ) → reached ≤ most → Gives (old most) (new most) (Shows v)
+IsNext Shows (Ok None) reached old new = (most : ℕ) → reached ≤ most → EndsAs over (old most) (new most)
+IsNext Shows (Err Limit) reached old new = EndsAs cut (old reached) (new reached)
+IsNext Shows (Err Read) reached old new = EndsAs cut (old reached) (new reached)
+IsNext Shows (Err e) reached old new = Unit {0}

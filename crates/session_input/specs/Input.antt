@@ -1,6 +1,6 @@
 -- What an input has taken from its reader and is still to give.
-use Rattle.std.specs.Prelude.{◌≡◌, ℕ, ◌+◌, ◌-◌, List, [], length, Option, option_map, Result, Ok, Err}
-use Rattle.std.specs.Io.KnownBytes.{prepend_known}
+use Rattle.std.specs.Prelude.{◌≡◌, ℕ, ◌+◌, ◌-◌, true, false, List, [], length, Option, option_map, Result, Ok, Err, if◌then◌else◌}
+use Rattle.std.specs.Io.KnownBytes.{prepend_known, IsAtEnd}
 use Rattle.counted_io.specs.Counted as counted
 use Rattle.counted_io.specs.Failures.{HasRisen}
 use Rattle.session_input.specs.declared.error.SessionError.{SessionError}
@@ -31,32 +31,41 @@ reader_of i = counted.reader_of i.reader
 
 -- nothing was taken yet
 abbrev pub IsFresh : {R : Type 0} → Input R → Type 0
-IsFresh i = (i.ahead.taken ≡ 0) × (i.ahead.bytes ≡ [])
+IsFresh i = (i.ahead.taken ≡ 0) × (i.ahead.bytes ≡ []) × (i.ahead.is_over ≡ false)
+
+-- how far its reader was read: the bytes that were taken, and one more where the end was read
+abbrev pub reached : {R : Type 0} → Input R → ℕ
+reached i = if i.ahead.is_over then taken i + 1 else taken i
+
+-- Where the end was read, nothing is left.
+abbrev pub KnowsEnd : {R : Type 0} → (R → Option (List ℕ)) → Input R → Type 0
+KnowsEnd remaining i = i.ahead.is_over ≡ true → (i.ahead.bytes ≡ []) × IsAtEnd (left_in remaining i)
 
 -- how many bytes may still be used
 abbrev pub left : {R : Type 0} → Input R → ℕ
 left i = length i.ahead.bytes + (most_bytes - i.ahead.taken)
 
--- the bytes still to come, where those that the reader has left are known
-abbrev pub bytes_left : {R : Type 0} → (R → Option (List ℕ)) → Input R → Option (Feed ℕ)
-bytes_left remaining i = option_map (bytes_within (left i)) (prepend_known i.ahead.bytes (left_in remaining i))
+-- the bytes still to come if so many are taken at most, where those that the reader has left are known
+abbrev pub bytes_left : {R : Type 0} → (R → Option (List ℕ)) → Input R → ℕ → Option (Feed ℕ)
+bytes_left remaining i most =
+    option_map (bytes_within (length i.ahead.bytes + (most - taken i))) (prepend_known i.ahead.bytes (left_in remaining i))
 
--- the lines still to come
-abbrev pub lines_left : {R : Type 0} → (R → Option (List ℕ)) → Input R → Option (Feed (List ℕ))
-lines_left remaining i = option_map lines_of (bytes_left remaining i)
+-- the lines still to come then
+abbrev pub lines_left : {R : Type 0} → (R → Option (List ℕ)) → Input R → ℕ → Option (Feed (List ℕ))
+lines_left remaining i most = option_map lines_of (bytes_left remaining i most)
 
--- the commands still to come
-abbrev pub commands_left : {R : Type 0} → (R → Option (List ℕ)) → Input R → Option (Feed Command)
-commands_left remaining i = option_map commands_of (lines_left remaining i)
+-- the commands still to come then
+abbrev pub commands_left : {R : Type 0} → (R → Option (List ℕ)) → Input R → ℕ → Option (Feed Command)
+commands_left remaining i most = option_map commands_of (lines_left remaining i most)
 
--- those still to come where the lines of a file come first
-abbrev pub file_left : {R : Type 0} → (R → Option (List ℕ)) → List ℕ → Input R → Option (Feed Command)
-file_left remaining path i = option_map (commands_behind path []) (lines_left remaining i)
+-- those still to come then where the lines of a file come first
+abbrev pub file_left : {R : Type 0} → (R → Option (List ℕ)) → List ℕ → Input R → ℕ → Option (Feed Command)
+file_left remaining path i most = option_map (commands_behind path []) (lines_left remaining i most)
 
--- Why a call gave up: a read failed in it, or none did, and all bytes were taken that may be, or memory was refused. It writes
--- nothing. Where it didn't give up, no read has failed.
+-- Why a call gave up: a read failed in it, before the end, or none did, and all bytes were taken that may be, or memory was
+-- refused. It writes nothing. Where it didn't give up, no read has failed.
 abbrev pub HasCause : {R V : Type 0} → Result V SessionError → Input R → Input R → Type 0
-HasCause (Err Read) old new = HasRisen (failed_reads old) (failed_reads new)
+HasCause (Err Read) old new = HasRisen (failed_reads old) (failed_reads new) × (reached new ≡ taken new)
 HasCause (Err Limit) old new = (taken new ≡ most_bytes) × (failed_reads new ≡ failed_reads old)
 HasCause (Err Write) old new = ⊥
 HasCause (Err NoMemory) old new = failed_reads new ≡ failed_reads old

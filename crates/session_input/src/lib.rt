@@ -5,10 +5,13 @@
 //! as far as the bytes of the reader can be named. A line has at most 4,096 bytes and a given file 1,048,576; nothing longer
 //! is kept.
 //!
+//! Where a read fails, the bytes that were taken hold no further command (`IsNext`). So nothing is read while a whole command is
+//! there, whatever reader it is. Once the end was read, nothing is read again.
+//!
 //! [`SessionError`] says why a session ends early, with its exit status and text. A failed read and an input that is
 //! too long are reported only where they were.
 //!
-//! Only tested: that no byte is read before it is needed. Trusted: the toolchain and `thiserror`.
+//! Trusted: the toolchain and `thiserror`.
 #![tactic(auto)]
 
 mod ahead;

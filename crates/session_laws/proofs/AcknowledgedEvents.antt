@@ -13,7 +13,7 @@ use Rattle.rel_session.specs.Files.{Files, files_behind, source_of}
 use Rattle.rel_session.specs.Node.{Place, at_rest, Reply}
 use Rattle.rel_session.specs.Node.Place.{raw, closed, running, dead}
 use Rattle.rel_session.specs.Run.{EndsInFull, Starts, Holds, Moments, Executes, MayLeave, IsReply, Replies, Ending, IsReached, events_of}
-use Rattle.rel_session.specs.Run.Ending.{ended, cut_off, unread, unwritten, out_of_memory}
+use Rattle.rel_session.specs.Run.Ending.{ended, cut_off, unread, unwritten, out_of_memory, going_on}
 use Rattle.session_laws.specs.RunLaws.{acknowledged_at, ran_at, IsKnown, MayBe, Finds, KeepsEvents, place_after, HaveAll, StandsForAll, BecomesKnown, LosesNothing, IsOfAccepted, BeginsWhereOneEnded, store_left, BeginsBehindACrash, IsHandedBack, GoesOn, Lasts, LosesNothingEver}
 use Rattle.rel_session.specs.Transition.{Transition}
 use Rattle.rel_session.proofs.Prefixes.{prefix_of, prefix_is}
@@ -25,6 +25,7 @@ left_by source p c ended a more is = inl is
 left_by source p c cut_off a more is = inl is
 left_by source p c unread a more is = inl is
 left_by source p c unwritten a more is = inl is
+left_by source p c going_on a more is = inl is
 left_by source p c out_of_memory a [] is = is
 left_by source p c out_of_memory a (b ∷ more) is = inl is
 
@@ -34,6 +35,7 @@ whole source p c cut_off a more full is = is
 whole source p c unread a more full is = is
 whole source p c unwritten a more full is = absurd full
 whole source p c out_of_memory a more full is = absurd full
+whole source p c going_on a more full is = absurd full
 
 -- the first of some replies is that to the first command, and the others are those to the commands after it
 pub next_answered : (base : Source) (files : Files) (p : Place) (c : Command) (rest : Feed Command) (ending : Ending) (a : Reply) (more : List Reply) → EndsInFull ending → Replies base files p (next c rest) ending (a ∷ more)
@@ -47,11 +49,13 @@ none_left base files p over cut_off a more none right = right
 none_left base files p over unread a more none right = right
 none_left base files p over unwritten a more none right = right
 none_left base files p over out_of_memory a more none right = right
+none_left base files p over going_on a more none right = right
 none_left base files p cut ended a more none right = right
 none_left base files p cut cut_off a more none right = right
 none_left base files p cut unread a more none right = right
 none_left base files p cut unwritten a more none right = right
 none_left base files p cut out_of_memory a more none right = right
+none_left base files p cut going_on a more none right = right
 none_left base files p (next c rest) ending a more (inl none) right = cc none
 none_left base files p (next c rest) ending a more (inr none) right = cc none
 

@@ -1,13 +1,15 @@
-use Rattle.std.proofs.Common.{◌≡◌, ◌≤◌}
+use Rattle.std.proofs.Common.{◌≡◌, ℕ, ◌≤◌}
 use Rattle.session_input.specs.Feed.{Stays}
-use Rattle.session_input.specs.Input.{left, commands_left}
+use Rattle.session_input.specs.Input.{left, commands_left, reached, KnowsEnd}
 use Rattle.session_input.proofs.input.Input.next_command.Given as goal
 
 abbrev pub invariant-loop-line : goal.invariant-loop-line
 invariant-loop-line g l =
-    Stays (commands_left g.R.Read.remaining l.initial.self) (commands_left g.R.Read.remaining l.self)
+    ((most : ℕ) → reached l.self ≤ most → Stays (commands_left g.R.Read.remaining l.initial.self most) (commands_left g.R.Read.remaining l.self most))
     × (left l.self ≤ left l.initial.self)
     × (l.self.reader.failures ≡ l.initial.self.reader.failures)
+    × KnowsEnd g.R.Read.remaining l.self
+    × (reached l.initial.self ≤ reached l.self)
 
 abbrev pub decreases-loop-line : goal.decreases-loop-line
 decreases-loop-line g l = left l.self
