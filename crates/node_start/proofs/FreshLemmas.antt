@@ -1,5 +1,5 @@
 -- Processes that begin one after another in a new table stand in its first slots.
-use Rattle.std.proofs.Common.{◌≡◌, ◌≢◌, ◌⊎◌, inl, inr, ℕ, zero, suc, ◌+◌, ◌<◌, ◌≤◌, List, [], ◌∷◌, ◌++◌, length, map, Option, Some, Ok, refl, ap, sym, subst, ◌∙◌, arith, append-nil, append_assoc, length-append, replicate}
+use Rattle.std.proofs.Common.{◌≡◌, ◌≢◌, ◌⊎◌, inl, inr, ℕ, zero, suc, ◌+◌, ◌<◌, ◌≤◌, List, [], ◌∷◌, ◌++◌, length, map, Option, None, Some, Ok, refl, ap, sym, subst, ◌∙◌, arith, append-nil, append_assoc, length-append, replicate}
 use Rattle.std.specs.Prelude.{slice_get, slice_index_or}
 use Rattle.std.proofs.lemmas.Bool.{cases_lt}
 use Rattle.std.proofs.lemmas.List.{length-map}
@@ -8,15 +8,17 @@ use native.Mathlib.Bridge.{le_prop}
 use native.Mathlib.Decide.{ℕ_discrete}
 use mathlib.Core.Logic.{dite}
 use Rattle.proc_history.specs.declared.beginning.Beginning.{Beginning}
+use Rattle.proc_history.specs.Events.{entry}
+use Rattle.proc_history.specs.Events.Event.{begin}
 use Rattle.proc_history.specs.Histories.{replay}
-use Rattle.proc_history.specs.Values.{begun}
 use Rattle.proc_table.specs.declared.view.View.{View}
 use Rattle.proc_table.specs.declared.pid.Pid.{Pid}
 use Rattle.proc_table.specs.Agrees.{slots}
 use Rattle.proc_table.specs.Free.{BeganLowest}
 use Rattle.proc_table.specs.Parts.{Part as Known, unseen}
 use Rattle.proc_table.specs.Views.{seen, handler_view}
-use Rattle.proc_table.proofs.BeginLemmas.{began_elsewhere, began_there}
+use Rattle.proc_table.proofs.AloneLemmas.{alone_sees_all}
+use Rattle.proc_table.proofs.BeginLemmas.{began_elsewhere}
 use Rattle.library.specs.Library.{Library}
 use Rattle.rel_check.specs.Modules.{Part}
 use Rattle.mod_table.specs.Tables.{Tables}
@@ -30,12 +32,15 @@ use Rattle.started_members.proofs.BeginLemmas.{first_slots}
 use Rattle.held_processes.specs.Applications.{match_pid}
 use Rattle.node_processes.specs.Fresh.{first_value, first_values, first_pid, pid_if, pids_from, app_from, apps_from, beginnings, part_beginnings, part_starts, tables_in}
 use Rattle.node_processes.specs.InMemory.{values_in}
+use Rattle.node_start.specs.Begun.{HaveJustBegun, first_history}
 use Rattle.node_start.specs.Starting.{StartedAll}
+use Rattle.node_start.proofs.StartLemmas.{begin_lends_none}
 
--- Each of these began in the slot of its place, and nothing stands after them.
+-- Each of these began in the slot of its place, and nothing else has happened.
 pub record HaveBegun (bs : List Beginning) (v : View) : Type 0 where
   pub free : FreeFrom (length bs) v
-  pub each : (q : ℕ) → replay (seen v q) ≡ first_value (slice_get bs q)
+  pub alone : v.lent ≡ []
+  pub each : HaveJustBegun bs v
 
 -- what is found after the end of a list, and within it
 get_last : (bs : List Beginning) (b : Beginning) → slice_get (bs ++ b ∷ []) (length bs) ≡ Some b
@@ -48,14 +53,23 @@ get_other [] b (suc q) ne = refl
 get_other (c ∷ bs) b zero ne = refl
 get_other (c ∷ bs) b (suc q) ne = get_other bs b q (λ e. ne (ap suc e))
 
+get_none : (bs : List Beginning) → slice_get bs (length bs) ≡ None
+get_none [] = refl
+get_none (b ∷ bs) = get_none bs
+
+-- its history, where nothing had happened in its slot
+history_there : (bs : List Beginning) (b : Beginning) (v u : View) (pid : Pid) → HaveBegun bs v → BeganLowest b v (Ok pid) u
+    → pid.slot ≡ length bs → pid.round ≡ 1 → seen u pid.slot ≡ entry 0 (begin 1 b) ∷ []
+history_there bs b v u pid so_far (lowest, began) slot round =
+    let untouched : seen v pid.slot ≡ [] = so_far.each pid.slot ∙ ap first_history (ap (slice_get bs) slot ∙ get_none bs) in
+    began.6.seen_is
+    ∙ ((λ i. ((alone_sees_all pid.slot v began.0 began.1 began.2 so_far.alone).0 ∙ untouched) i ++ entry 0 (begin (round i) b) ∷ []))
+
 -- what began last is found after the others, and a slot that is not its own as before
-value_there : (bs : List Beginning) (b : Beginning) (u : View) (pid : Pid) → pid.slot ≡ length bs → pid.round ≡ 1
-    → replay (seen u pid.slot) ≡ record { round = pid.round; now = Some (begun b) }
-    → (q : ℕ) → q ≡ pid.slot → replay (seen u q) ≡ first_value (slice_get (bs ++ b ∷ []) q)
-value_there bs b u pid slot round there q at =
-    ap (λ k. replay (seen u k)) at ∙ there
-    ∙ ((λ i. record { round = round i; now = Some (begun b) })
-    ∙ sym (ap first_value (ap (slice_get (bs ++ b ∷ [])) (at ∙ slot) ∙ get_last bs b)))
+found_there : (bs : List Beginning) (b : Beginning) (u : View) (pid : Pid) → pid.slot ≡ length bs → seen u pid.slot ≡ entry 0 (begin 1 b) ∷ []
+    → (q : ℕ) → q ≡ pid.slot → seen u q ≡ first_history (slice_get (bs ++ b ∷ []) q)
+found_there bs b u pid slot there q at =
+    ap (seen u) at ∙ there ∙ sym (ap first_history (ap (slice_get (bs ++ b ∷ [])) (at ∙ slot) ∙ get_last bs b))
 
 abbrev pid_at : (n : ℕ) → n < slots → Pid
 pid_at n inside = record { slot = n; round = 1; inside = inside }
@@ -85,14 +99,15 @@ one_begun app s bs v u p so_far began is =
     let (at, free) = first_slots.1 app (s ∷ []) (length bs) v u (p ∷ []) so_far.free (u, began, is, refl) in
     let slot = at.0 in
     let round = at.1 in
-    let there = began_there b v u p.pid began in record {
+    let there = history_there bs b v u p.pid so_far began slot round in record {
       first = λ more. ap (λ (o : Option Pid). match_pid o (λ pid. pid ∷ more)) (sym (first_is (length bs) p.pid slot round));
       begun = record {
         free = subst (λ n. FreeFrom n u) (sym (length-append bs (b ∷ []))) free;
+        alone = begin_lends_none app s v u p began ∙ so_far.alone;
         each = λ q. dite (ℕ_discrete q p.pid.slot)
-            (value_there bs b u p.pid slot round there q)
-            (λ ne. ap (λ (x : Known). replay x.seen) (began_elsewhere b v u p.pid began q ne) ∙ so_far.each q
-            ∙ sym (ap first_value (get_other bs b q (λ e. ne (e ∙ sym slot)))));
+            (found_there bs b u p.pid slot there q)
+            (λ ne. ap (λ (x : Known). x.seen) (began_elsewhere b v u p.pid began q ne) ∙ so_far.each q
+            ∙ sym (ap first_history (get_other bs b q (λ e. ne (e ∙ sym slot)))));
       };
     }
 
@@ -139,15 +154,20 @@ unseen_all (suc n) (suc q) = unseen_all n q
 
 -- nothing began in a new table
 pub none_begun : HaveBegun [] (handler_view slots)
-none_begun = record { free = first_slots.0; each = λ q. ap (λ (x : Known). replay x.seen) (unseen_all slots q) }
+none_begun = record { free = first_slots.0; alone = refl; each = λ q. ap (λ (x : Known). x.seen) (unseen_all slots q) }
+
+-- what a process that began leaves in its slot
+leaves_value : (o : Option Beginning) → replay (first_history o) ≡ first_value o
+leaves_value None = refl
+leaves_value (Some b) = refl
 
 -- the values in all slots
-pub begun_values : (bs : List Beginning) (v : View) → HaveBegun bs v → values_in v ≡ first_values bs
-begun_values bs v begun = (λ i. map (λ q. begun.each q i) (range_with_len 0 slots))
+pub begun_values : (bs : List Beginning) (v : View) → HaveJustBegun bs v → values_in v ≡ first_values bs
+begun_values bs v each = (λ i. map (λ q. (ap replay (each q) ∙ leaves_value (slice_get bs q)) i) (range_with_len 0 slots))
 
--- So the processes of a node after a boot are those that begin in a new table.
+-- So the processes of a node after a boot are those that begin in a new table, and nothing else has happened there.
 pub fresh_so : (ls : List Library) (ps : List Part) (apps : List App) (v w : View) → v ≡ handler_view slots → StartedAll (tables_in ls) ps [] v apps w
-    → (values_in w ≡ first_values (beginnings (tables_in ls) ps)) × (apps ≡ apps_from 0 (tables_in ls) ps)
+    → (values_in w ≡ first_values (beginnings (tables_in ls) ps)) × (apps ≡ apps_from 0 (tables_in ls) ps) × HaveJustBegun (beginnings (tables_in ls) ps) w
 fresh_so ls ps apps v w new started =
     let begun = apps_begun (tables_in ls) ps [] [] apps (handler_view slots) w none_begun (subst (λ x. StartedAll (tables_in ls) ps [] x apps w) new started) in
-    (begun_values (beginnings (tables_in ls) ps) w begun.1, begun.0)
+    (begun_values (beginnings (tables_in ls) ps) w begun.1.each, begun.0, begun.1.each)

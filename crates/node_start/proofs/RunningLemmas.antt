@@ -19,6 +19,7 @@ use Rattle.rel_list.specs.Status.{is_current, is_permanent}
 use Rattle.rel_list.specs.declared.listed.ListedRelease.{ListedRelease}
 use Rattle.node_processes.specs.Fresh.{running_entry, fresh_entry, fresh_release, fresh_processes}
 use Rattle.node_processes.proofs.RunningEntry.{running_found}
+use Rattle.node_start.specs.Begun.{entry_beginnings, fresh_beginnings, release_beginnings}
 
 abbrev pub first_running : List ListedRelease → Option ListedRelease
 first_running ls = option_or (find (λ (l : ListedRelease). is_current l.status) ls) (find (λ (l : ListedRelease). is_permanent l.status) ls)
@@ -56,6 +57,11 @@ startable_so as' rcs l es apps libraries all is =
     × (release_fault (map application_of l.release.apps.items) (map shared_of ks) ≡ None)
     × AreDistinct (map (λ (a : Application). a.name) (map application_of l.release.apps.items))) (sym libraries)
     (startable.complete.libraries, startable.complete.faultless, startable.distinct))
+
+-- so much begins with it
+pub begins_behind : (as' : List RelApp) (rcs : List (Rc declared.Library Global)) (l : ListedRelease) (es : Releases) → as' ≡ l.release.apps.items → rcs ≡ l.libraries.items
+    → running_entry es ≡ Some (entry_of l) → release_beginnings (map application_of as') (map shared_of rcs) ≡ fresh_beginnings es
+begins_behind as' rcs l es apps libraries is = (λ i. release_beginnings (map application_of (apps i)) (map shared_of (libraries i))) ∙ sym (ap entry_beginnings is)
 
 pub fresh_behind : (as' : List RelApp) (rcs : List (Rc declared.Library Global)) (l : ListedRelease) (es : Releases) → as' ≡ l.release.apps.items → rcs ≡ l.libraries.items
     → running_entry es ≡ Some (entry_of l) → fresh_release (map application_of as') (map shared_of rcs) ≡ fresh_processes es

@@ -34,7 +34,7 @@ use Rattle.node_start.specs.declared.start.Started.{Started}
 use Rattle.node_start.specs.Starting.{AreReady, IsAlone, StartedAll, IsNew, part_name}
 
 -- a process that begins leaves the handler's passes as they are
-begin_lends_none : (app : List ℕ) (s : Start) (v u : View) (p : StartedProcess) → BeganLowest (beginning_of app s) v (Ok p.pid) u → u.lent ≡ v.lent
+pub begin_lends_none : (app : List ℕ) (s : Start) (v u : View) (p : StartedProcess) → BeganLowest (beginning_of app s) v (Ok p.pid) u → u.lent ≡ v.lent
 begin_lends_none app s v u p (lowest, began) =
     (elsewhere_left p.pid.slot _ began.1 u began.6).lent ∙ (since p.pid.slot v began.0 began.1 began.2).elsewhere.lent
 

@@ -1,3 +1,4 @@
+pub mod Begun
 pub mod Starting
 pub mod Running
 pub mod Laws

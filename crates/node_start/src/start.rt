@@ -6,6 +6,7 @@ ghost use Rattle.app_file.specs.InMemory.{specification_of};
 ghost use Rattle.library.specs.InMemory.{shared_of};
 ghost use Rattle.library.specs.Library.{AreLibrariesOf};
 ghost use Rattle.node_processes.specs.Fresh.{fresh_processes, fresh_release, started_parts};
+ghost use Rattle.node_start.specs.Begun.{HaveJustBegun, fresh_beginnings, release_beginnings};
 ghost use Rattle.node_start.specs.Running.{RunsOnce, started_in};
 ghost use Rattle.node_start.specs.Starting.{AreReady, IsAlone, StartedAll};
 ghost use Rattle.proc_table.specs.Agrees.{slots};
@@ -62,11 +63,17 @@ pub fn start_running<D: Disk, R: Wait>(
     requires once { RunsOnce D.may_leave handler.now }
 
     requires table { seat.old.table ≡ table.now }
+
+    // Nothing has begun in the table: each history is empty.
     requires new { seat.old.view ≡ handler_view slots }
+
     ensures table { seat.new.table ≡ table.now }
     ensures alone { IsAlone seat.new.view }
     ensures fresh { IfOk result (λ s.
         started_in s seat.new.view ≡ fresh_processes (list_in handler.now)) }
+
+    // Each of its processes has begun in the table once, and nothing else has happened there.
+    ensures begun { OnOk result (HaveJustBegun (fresh_beginnings (list_in handler.now)) seat.new.view) }
 {
     let Ok(list) = handler.which_releases() else {
         unreachable!();
@@ -105,6 +112,9 @@ fn start_release<R: Wait>(
     ensures alone { IsAlone seat.new.view }
     ensures fresh { IfOk result (λ s. started_in s seat.new.view
         ≡ fresh_release (map application_of apps.now) (map shared_of libraries.now)) }
+    ensures begun { OnOk result (HaveJustBegun
+        (release_beginnings (map application_of apps.now) (map shared_of libraries.now))
+        seat.new.view) }
 {
     let mut started = Started {
         tree: Tree::new(alloc),

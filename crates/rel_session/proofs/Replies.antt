@@ -205,7 +205,7 @@ module _ {D : Type 0} (v : Device D) (laws : IsDevice v) where
 
     pub starts : ((p : Place) → IsAt v old p → HasBooted p (Reports p) old h) → (line : Result (String Global) AllocError) (place : PlaceInMemory D) → IsNodeStarted h line place → ReportsOrStops v P Q line old place
     starts booted_there (Ok text) (memory.Idle disk) never_so = absurd never_so
-    starts booted_there (Ok text) (memory.Made n) (is, has, reported) = λ p at.
+    starts booted_there (Ok text) (memory.Made n) (is, has, reported, begun) = λ p at.
         let b = booted_there p at in
         record { given = b.given; right = (b.right.0, b.right.1 ∙ sym reported); at = b.at n is has; happens = subst (λ k. Happens v p b.given (disk_at old) (disk_in k)) (sym is) b.happens }
     starts booted_there (Err e) (memory.Made n) never_so = absurd never_so

@@ -14,6 +14,7 @@ use Rattle.loaded_modules.specs.Loaded.{listed_in}
 use Rattle.session_input.specs.declared.error.SessionError.{SessionError}
 use Rattle.node_processes.specs.Fresh.{fresh_processes}
 use Rattle.node_processes.specs.InMemory.{processes_in, AreSound}
+use Rattle.node_start.specs.Begun.{HaveJustBegun, fresh_beginnings}
 use Rattle.rel_session.specs.declared.booted_node.BootedNode.{BootedNode}
 use Rattle.rel_session.specs.declared.node.Node.{Node}
 use Rattle.rel_session.specs.declared.place.Place.{Place as PlaceInMemory}
@@ -136,12 +137,13 @@ abbrev pub AnswersAsked : {D : Type 0} → Device D → (Processes → List ℕ)
     → PlaceInMemory D → PlaceInMemory D → Type 0
 AnswersAsked v says result old new = AnswersReported v (λ list ps. says ps) result old new
 
--- The handler of a node that has just booted is at this place, with its processes, and this line reports the version that runs;
--- or memory was refused, and its disk alone is left.
+-- The handler of a node that has just booted is at this place, with its processes, which have begun in the node's table, where
+-- nothing else has happened, and this line reports the version that runs; or memory was refused, and its disk alone is left.
 abbrev pub IsNodeStarted : {D : Type 0} → NodeStore D → Result (String Global) AllocError → PlaceInMemory D → Type 0
 IsNodeStarted h (Ok text) (memory.Made node) =
     (node.handler ≡ h) × (processes_in node.processes ≡ fresh_processes (list_in h))
     × (string_bytes text ≡ ok_line (version_of (running_release (list_in h))))
+    × HaveJustBegun (fresh_beginnings (list_in h)) node.processes.seat.view
 IsNodeStarted h (Err e) (memory.Idle disk) = disk ≡ disk_in h
 IsNodeStarted h line place = ⊥
 

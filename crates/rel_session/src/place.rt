@@ -7,6 +7,7 @@ ghost use Rattle.rel_unpack.specs.Unpacking.{Brought};
 ghost use Rattle.session_input.specs.Commands.Command.{create};
 ghost use Rattle.node_processes.specs.Fresh.{fresh_processes};
 ghost use Rattle.node_processes.specs.InMemory.{AreSound, processes_in};
+ghost use Rattle.node_start.specs.Begun.{HaveJustBegun, fresh_beginnings};
 ghost use Rattle.rel_session.specs.InMemory.{IsSoundPlace, IsNodeStarted};
 ghost use Rattle.rel_session.specs.Node.{Place as SomePlace};
 ghost use Rattle.node_answer.specs.Lines.{ok_line};
@@ -127,7 +128,8 @@ fn started<D: Disk, R: Wait>(
     }
 }
 
-/// The processes of a node that has just booted, and the line that reports its version.
+/// The processes of a node that has just booted, and the line that reports its version. One table is made for the node, and the
+/// release is started in it once.
 fn begun<D: Disk, R: Wait>(
     rt: &R,
     alloc: Global,
@@ -138,6 +140,8 @@ fn begun<D: Disk, R: Wait>(
     ensures sound { IfOk result (λ begun. AreSound begun.1) }
     ensures fresh { IfOk result (λ begun.
         processes_in begun.1 ≡ fresh_processes (list_in handler.now)) }
+    ensures begun { IfOk result (λ begun.
+        HaveJustBegun (fresh_beginnings (list_in handler.now)) begun.1.seat.view) }
     ensures reported { IfOk result (λ begun. string_bytes begun.0
         ≡ ok_line (version_of (running (list_in handler.now)))) }
 {
