@@ -14,7 +14,7 @@ use Rattle.rel_session.specs.Node.{Place, at_rest, Reply}
 use Rattle.rel_session.specs.Node.Place.{raw, closed, running, dead}
 use Rattle.rel_session.specs.Run.{EndsInFull, Starts, Holds, Moments, Executes, MayLeave, IsReply, Replies, Ending, IsReached, events_of}
 use Rattle.rel_session.specs.Run.Ending.{ended, cut_off, unread, unwritten, out_of_memory, going_on}
-use Rattle.session_laws.specs.RunLaws.{acknowledged_at, ran_at, IsKnown, MayBe, Finds, KeepsEvents, place_after, HaveAll, StandsForAll, BecomesKnown, LosesNothing, IsOfAccepted, BeginsWhereOneEnded, store_left, BeginsBehindACrash, IsHandedBack, GoesOn, Lasts, LosesNothingEver}
+use Rattle.session_laws.specs.RunLaws.{acknowledged_at, ran_at, IsKnown, MayBe, Finds, ReplyKeepsEvents, place_after, HaveAll, StandsForAll, BecomesKnown, LosesNothing, IsOfAccepted, BeginsWhereOneEnded, store_left, BeginsBehindACrash, IsHandedBack, GoesOn, Lasts, LosesNothingEver}
 use Rattle.rel_session.specs.Transition.{Transition}
 use Rattle.rel_session.proofs.Prefixes.{prefix_of, prefix_is}
 use Rattle.rel_session.proofs.DeviceLemmas.{IsDevice, weakened, joined, still}
@@ -84,13 +84,13 @@ finds_more (running events extent ps) found finds = ([], finds ∙ sym (append-n
 finds_more (dead s) found finds = doubt_more s.known.acknowledged s.known.in_doubt found finds
 
 -- so do those after a reply
-keeps_more : (p : Place) (a : Reply) → KeepsEvents p a → (between : Events) × (acknowledged_at a.after ≡ acknowledged_at p ++ (between ++ a.outcome.acknowledged))
+keeps_more : (p : Place) (a : Reply) → ReplyKeepsEvents p a → (between : Events) × (acknowledged_at a.after ≡ acknowledged_at p ++ (between ++ a.outcome.acknowledged))
 keeps_more p a keeps =
     let (more, is) = finds_more p keeps.found keeps.finds in
     (more, keeps.are ∙ ap (λ (l : Events). l ++ a.outcome.acknowledged) is ∙ append_assoc (acknowledged_at p) more a.outcome.acknowledged)
 
 -- what is left after a reply is left by the command or after it
-stands_for_later : (p : Place) (a : Reply) (more : List Reply) (image : List ℕ) → KeepsEvents p a → StandsForAll a.after more image → StandsForAll p (a ∷ more) image
+stands_for_later : (p : Place) (a : Reply) (more : List Reply) (image : List ℕ) → ReplyKeepsEvents p a → StandsForAll a.after more image → StandsForAll p (a ∷ more) image
 stands_for_later p a more image keeps of = record {
   events = of.events;
   within = inr of.within;
@@ -115,7 +115,7 @@ known_first p [] known = known
 known_first p (a ∷ more) known = inl (inl known)
 
 -- a store that is known stays known, and one that becomes known is so
-becomes_known : (base : Source) (files : Files) (p : Place) (commands : Feed Command) (ending : Ending) (first rest : List Reply) → Replies base files p commands ending (first ++ rest)
+pub becomes_known : (base : Source) (files : Files) (p : Place) (commands : Feed Command) (ending : Ending) (first rest : List Reply) → Replies base files p commands ending (first ++ rest)
     → BecomesKnown p first → IsKnown (place_after p first)
 becomes_known base files p commands ending [] rest right known = known
 becomes_known base files p commands ending (a ∷ first) rest right known =
@@ -123,12 +123,12 @@ becomes_known base files p commands ending (a ∷ first) rest right known =
     let keeps = each_left_keeps (source_of base files) p n.command a n.is in
     becomes_known base (files_behind files n.command) a.after n.rest ending first rest n.right (go keeps known)
   where
-    go : KeepsEvents p a → (IsKnown p ⊎ (a.outcome.acknowledged ≢ [])) ⊎ BecomesKnown a.after first → BecomesKnown a.after first
+    go : ReplyKeepsEvents p a → (IsKnown p ⊎ (a.outcome.acknowledged ≢ [])) ⊎ BecomesKnown a.after first → BecomesKnown a.after first
     go keeps (inl here) = known_first a.after first (keeps.known here)
     go keeps (inr later) = later
 
 -- the replies that are left
-rest_right : (base : Source) (files : Files) (p : Place) (commands : Feed Command) (ending : Ending) (first rest : List Reply) → Replies base files p commands ending (first ++ rest)
+pub rest_right : (base : Source) (files : Files) (p : Place) (commands : Feed Command) (ending : Ending) (first rest : List Reply) → Replies base files p commands ending (first ++ rest)
     → (behind : Files) × (left : Feed Command) × Replies base behind (place_after p first) left ending rest
 rest_right base files p commands ending [] rest right = (files, commands, right)
 rest_right base files p commands ending (a ∷ first) rest right =
@@ -221,7 +221,7 @@ module _ {D : Type 0} (v : Device D) (laws : IsDevice v) where
       (session_images base (files_behind files n.command) a.after n.rest ending more mid new n.right (keeps.known (inl known)) happens.holds leads))
 
   -- a session in two parts
-  parts : (p : Place) (first rest : List Reply) (old new : D) → Holds v p old → Executes v p (first ++ rest) old new
+  pub parts : (p : Place) (first rest : List Reply) (old new : D) → Holds v p old → Executes v p (first ++ rest) old new
       → (mid : D) × Executes v p first old mid × Executes v (place_after p first) rest mid new × Holds v (place_after p first) mid
   parts p [] rest old new holds leads = (old, (still v laws old, holds, omega arith), leads, holds)
   parts p (a ∷ first) rest old new holds (here, happens, leads) =
@@ -247,7 +247,7 @@ module _ {D : Type 0} (v : Device D) (laws : IsDevice v) where
   handed_back p [] old new (leaves, then, counted) = then
   handed_back p (a ∷ more) old new (mid, happens, leads) = handed_back a.after more mid new leads
 
-  starts_at_rest : (p : Place) (disk : D) → Holds v p disk → Starts v (at_rest p) disk
+  pub starts_at_rest : (p : Place) (disk : D) → Holds v p disk → Starts v (at_rest p) disk
   starts_at_rest (raw bytes) disk holds = holds
   starts_at_rest (closed s) disk holds = holds
   starts_at_rest (running events extent ps) disk holds = holds

@@ -2,6 +2,7 @@
 use Rattle.std.proofs.Common.{Option, None, Some, ◌≡◌, ◌≢◌, ◌⊎◌, inl, inr, ⊎_elim, ℕ, true, false, List, [], ◌∷◌, ◌++◌, refl, sym, ap, ◌∙◌, subst, append_assoc}
 use Rattle.rel_list.specs.Releases.{Bundle}
 use Rattle.rel_list.specs.Event.Event.{made, boot as booting}
+use Rattle.node_store.specs.Events.{Known, settled}
 use Rattle.session_input.specs.Commands.{Command}
 use Rattle.rel_session.specs.Device.{Device}
 use Rattle.session_input.specs.Feed.{Feed}
@@ -14,19 +15,19 @@ use Rattle.rel_session.specs.Files.{Files, files_behind, source_of}
 use Rattle.rel_session.specs.Node.{Place, at_rest, Reply}
 use Rattle.rel_session.specs.Node.Place.{raw}
 use Rattle.rel_session.specs.Run.{Executes, MayLeave, Replies, Ending}
-use Rattle.session_laws.specs.RunLaws.{acknowledged_at, BecomesKnown, NoneFails, NoneAcknowledged, BeginsWithAMaking}
+use Rattle.session_laws.specs.RunLaws.{known_at, BecomesKnown, NoneFails, NoneAcknowledged, BeginsWithAMaking}
 use Rattle.rel_session.specs.Transition
 use Rattle.rel_session.specs.Transition.Action.{answers, makes_node, changes_node, installs, reboots_node, boots_node, reports_start, calls}
 use Rattle.session_laws.proofs.AcknowledgedEvents.{first_answered, loses_nothing}
 use Rattle.rel_session.proofs.DeviceLemmas.{IsDevice}
 use Rattle.rel_session.proofs.StoppedReplies.{or_not}
-use Rattle.session_laws.proofs.Transitions.{rest_acknowledged}
+use Rattle.session_laws.proofs.Transitions.{rest_known}
 
 -- A reply on an empty disk leaves it empty, or the device failed, or a release was made.
 pub record IsMade (a : Reply) : Type 0 where
   pub bundle : Bundle
   pub acknowledged : a.outcome.acknowledged ≡ made bundle ∷ booting ∷ []
-  pub after : acknowledged_at a.after ≡ made bundle ∷ booting ∷ []
+  pub after : known_at a.after ≡ settled (made bundle ∷ booting ∷ [])
 
 abbrev OnEmpty : Reply → Type 0
 OnEmpty a = ((a.outcome.acknowledged ≡ []) × ((a.after ≡ raw []) ⊎ (a.outcome.failed ≡ true))) ⊎ IsMade a
@@ -66,7 +67,7 @@ acts (calls c) a is = on_empty_as a _ is (inl (refl, inl refl))
 without_node : (b : Reply) → OnEmpty b → OnEmpty (Transition.without_node b)
 without_node b (inl (none, inl there)) = inl (none, inl (ap at_rest there))
 without_node b (inl (none, inr failed)) = inl (none, inr failed)
-without_node b (inr of) = inr (record { bundle = of.bundle; acknowledged = of.acknowledged; after = rest_acknowledged b.after ∙ of.after })
+without_node b (inr of) = inr (record { bundle = of.bundle; acknowledged = of.acknowledged; after = rest_known b.after ∙ of.after })
 
 stops : (does : Transition.Action) (a : Reply) → Transition.StopsWithin (raw []) does a → OnEmpty a
 stops does a (b, is, lost) = on_empty_as a _ lost (without_node b (acts does b is))
@@ -82,7 +83,7 @@ still_empty a (inl (none, inr failed)) works nothing = let lost : true ≡ false
 still_empty a (inr of) works nothing = let lost : made of.bundle ∷ booting ∷ [] ≡ [] = sym of.acknowledged ∙ nothing in absurd cc
 
 -- the first reply that acknowledges an event
-first_event : (base : Source) (files : Files) (p : Place) (commands : Feed Command) (ending : Ending) (first : List Reply) (a : Reply) (rest : List Reply) → p ≡ raw []
+pub first_event : (base : Source) (files : Files) (p : Place) (commands : Feed Command) (ending : Ending) (first : List Reply) (a : Reply) (rest : List Reply) → p ≡ raw []
     → Replies base files p commands ending (first ++ a ∷ rest) → NoneFails first → NoneAcknowledged first → a.outcome.acknowledged ≢ [] → IsMade a
 first_event base files p commands ending [] a rest empty right works none some =
     let n = first_answered base files p commands ending a rest right in
@@ -94,7 +95,7 @@ first_event base files p commands ending (b ∷ first) a rest empty right (worke
     first_event base (files_behind files n.command) b.after n.rest ending first a rest there n.right works none some
 
 -- the store is known after such a reply
-becomes_known : (p : Place) (first : List Reply) (a : Reply) → a.outcome.acknowledged ≢ [] → BecomesKnown p (first ++ a ∷ [])
+pub becomes_known : (p : Place) (first : List Reply) (a : Reply) → a.outcome.acknowledged ≢ [] → BecomesKnown p (first ++ a ∷ [])
 becomes_known p [] a some = inl (inr some)
 becomes_known p (b ∷ first) a some = inr (becomes_known b.after first a some)
 
@@ -105,7 +106,7 @@ module _ {D : Type 0} (v : Device D) (laws : IsDevice v) where
       let same : first ++ a ∷ rest ≡ (first ++ a ∷ []) ++ rest = sym (append_assoc first (a ∷ []) rest) in (
         of.bundle,
         of.acknowledged,
-        of.after,
+        ap (λ (k : Known). k.acknowledged) of.after,
         loses_nothing v laws base files (raw []) commands ending (first ++ a ∷ []) rest old new (subst (Replies base files (raw []) commands ending) same right) empty
             (subst (λ l. Executes v (raw []) l old new) same leads) (becomes_known (raw []) first a some),
       )

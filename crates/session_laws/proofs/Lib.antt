@@ -2,6 +2,7 @@ pub mod Transitions
 pub mod AcknowledgedEvents
 pub mod Failures
 pub mod EmptyDisk
+pub mod KeptEvents
 pub mod AnswerLines
 pub mod ProcessLines
 pub mod SourceLemmas

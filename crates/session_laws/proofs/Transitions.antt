@@ -4,7 +4,7 @@ use Rattle.rel_list.specs.Releases.{Releases, libraries_at}
 use Rattle.rel_list.specs.Event.{Event}
 use Rattle.rel_list.specs.Event.Event.{restart_installed, reboot_old as rebooting, boot as booting}
 use Rattle.node_command.specs.declared.error.HandlerError.{HandlerError}
-use Rattle.node_store.specs.Events.{Events, Stored, BeginWith, MayHave, certain, uncertain_boot}
+use Rattle.node_store.specs.Events.{Known, Events, Stored, BeginWith, MayHave, settled, certain, with_doubt, uncertain_boot}
 use Rattle.node_store.specs.Image.{Extent, holds_a_store}
 use Rattle.node_store.proofs.Beginnings.{with_themselves, with_first, with_one_more}
 use Rattle.node_command.specs.Files.{bundle_brought, made_size}
@@ -24,7 +24,7 @@ use Rattle.rel_session.specs.Installation.{restarted, restarted_reply}
 use Rattle.rel_session.specs.Node.{Place, at_rest, Reply, reply, nothing, releases_after, behind, with_text}
 use Rattle.rel_session.specs.Node.Place.{raw, closed, running, dead}
 use Rattle.rel_session.specs.Run.{MayLeave}
-use Rattle.session_laws.specs.RunLaws.{MayBe, acknowledged_at, ran_at, IsKnown, Finds, KeepsEvents}
+use Rattle.session_laws.specs.RunLaws.{MayBe, known_at, acknowledged_at, ran_at, IsKnown, IsSettled, Finds, ReplyKeepsEvents}
 use Rattle.rel_session.specs.Transition
 use Rattle.rel_session.specs.Transition.Action.{answers, makes_node, changes_node, installs, reboots_node, boots_node, reports_start, calls}
 use Rattle.session_laws.proofs.InstallationLemmas.{each_reply}
@@ -40,117 +40,160 @@ found_there (closed s) = inl refl
 found_there (running events extent ps) = refl
 found_there (dead s) = inl refl
 
+-- where the start record was right
+right_there : (p : Place) → IsSettled p → ran_at p ≡ acknowledged_at p
+right_there p settled = ap (λ (k : Known). k.ran) settled
+
 -- a reply without an event, which leaves the disk where it stood
-keeps_still : (p : Place) (a : Reply) → a.after ≡ p → a.outcome.acknowledged ≡ [] → KeepsEvents p a
+keeps_still : (p : Place) (a : Reply) → a.after ≡ p → a.outcome.acknowledged ≡ [] → ReplyKeepsEvents p a
 keeps_still p a there none = record {
   found = acknowledged_at p;
   finds = found_there p;
   are = ap acknowledged_at there ∙ sym (append-nil (acknowledged_at p)) ∙ ap (λ (l : Events). acknowledged_at p ++ l) (sym none);
   known = λ k. subst IsKnown (sym there) (same_known p a.outcome.acknowledged none k);
+  doubt = inl (none, ap known_at there);
   ran = subst (λ (q : Place). BeginWith (ran_at p) (ran_at q)) (sym there) (with_themselves (ran_at p));
+  right = λ k. subst (λ (q : Place). ran_at q ≡ acknowledged_at q) (sym there) (⊎_elim (right_there p) (λ some. absurd (some none)) k);
 }
 
 -- one that is this
-keeps_as : (p : Place) (a b : Reply) → a ≡ b → KeepsEvents p b → KeepsEvents p a
-keeps_as p a b is keeps = subst (KeepsEvents p) (sym is) keeps
+keeps_as : (p : Place) (a b : Reply) → a ≡ b → ReplyKeepsEvents p b → ReplyKeepsEvents p a
+keeps_as p a b is keeps = subst (ReplyKeepsEvents p) (sym is) keeps
 
-still_as : (p : Place) (answer : List ℕ) (a : Reply) → a ≡ reply answer nothing p → KeepsEvents p a
+still_as : (p : Place) (answer : List ℕ) (a : Reply) → a ≡ reply answer nothing p → ReplyKeepsEvents p a
 still_as p answer a is = keeps_as p a (reply answer nothing p) is (keeps_still p (reply answer nothing p) refl refl)
 
--- one of a known store, after which it is known too
-keeps_known : (p : Place) (a : Reply) (found : Events) → Finds p found → acknowledged_at a.after ≡ found ++ a.outcome.acknowledged → IsKnown a.after → BeginWith (ran_at p) (ran_at a.after) → KeepsEvents p a
-keeps_known p a found finds are known ran = record { found = found; finds = finds; are = are; known = λ k. known; ran = ran }
+-- one after which the store is known, its start record is right, and at most an event of its own is in doubt
+keeps_known : (p : Place) (a : Reply) (found : Events) → Finds p found → acknowledged_at a.after ≡ found ++ a.outcome.acknowledged → IsKnown a.after
+    → ((known_at a.after).in_doubt ≡ None) ⊎ ((known_at a.after).in_doubt ≡ a.outcome.in_doubt) → BeginWith (ran_at p) (ran_at a.after) → ran_at a.after ≡ acknowledged_at a.after → ReplyKeepsEvents p a
+keeps_known p a found finds are known doubt ran right = record { found = found; finds = finds; are = are; known = λ k. known; doubt = inr doubt; ran = ran; right = λ k. right }
 
 -- a commit, where the replies to what is committed keep them
-commits : (events : Events) (extent : Extent) (ps : Processes) (e : Event) (size : ℕ) (o : Result Releases HandlerError) (P : Extent → Reply → Type 0) → ((x : Extent) (a : Reply) → P x a → KeepsEvents (running events extent ps) a)
-    → (a : Reply) → Transition.IsCommit events extent ps e size o P a → KeepsEvents (running events extent ps) a
+commits : (events : Events) (extent : Extent) (ps : Processes) (e : Event) (size : ℕ) (o : Result Releases HandlerError) (P : Extent → Reply → Type 0) → ((x : Extent) (a : Reply) → P x a → ReplyKeepsEvents (running events extent ps) a)
+    → (a : Reply) → Transition.IsCommit events extent ps e size o P a → ReplyKeepsEvents (running events extent ps) a
 commits events extent ps e size (Err why) P keeps a is = still_as (running events extent ps) _ a is
 commits events extent ps e size (Ok list) P keeps a (inl (fits, inl (x, reach, is))) = keeps x a is
-commits events extent ps e size (Ok list) P keeps a (inl (fits, inr is)) = keeps_as (running events extent ps) a _ is (keeps_known (running events extent ps) _ events refl (sym (append-nil events)) tt (with_themselves events))
+commits events extent ps e size (Ok list) P keeps a (inl (fits, inr is)) = keeps_as (running events extent ps) a _ is (keeps_known (running events extent ps) _ events refl (sym (append-nil events)) tt (inr refl) (with_themselves events) refl)
 commits events extent ps e size (Ok list) P keeps a (inr (over, is)) = still_as (running events extent ps) _ a is
 
-changes : (events : Events) (extent : Extent) (ps : Processes) (c : Transition.Change) (l : Releases) (f : Option Refusal) (o : Result Releases HandlerError) (a : Reply) → Transition.Changes events extent ps c l f o a → KeepsEvents (running events extent ps) a
+changes : (events : Events) (extent : Extent) (ps : Processes) (c : Transition.Change) (l : Releases) (f : Option Refusal) (o : Result Releases HandlerError) (a : Reply) → Transition.Changes events extent ps c l f o a → ReplyKeepsEvents (running events extent ps) a
 changes events extent ps c l (Some why) o a is = still_as (running events extent ps) _ a is
-changes events extent ps c l None o a is = commits events extent ps c.event (c.size l) o _ (λ x a is. keeps_as (running events extent ps) a _ is (keeps_known (running events extent ps) _ events refl refl tt (c.event ∷ [], refl))) a is
+changes events extent ps c l None o a is = commits events extent ps c.event (c.size l) o _ (λ x a is. keeps_as (running events extent ps) a _ is (keeps_known (running events extent ps) _ events refl refl tt (inl refl) (c.event ∷ [], refl) refl)) a is
 
-makes_with : (bytes : List ℕ) (p : Bundle) (size : ℕ) (why : Option Refusal) (a : Reply) → Transition.MakesWith bytes p size why a → KeepsEvents (raw bytes) a
+makes_with : (bytes : List ℕ) (p : Bundle) (size : ℕ) (why : Option Refusal) (a : Reply) → Transition.MakesWith bytes p size why a → ReplyKeepsEvents (raw bytes) a
 makes_with bytes p size (Some why) a is = still_as (raw bytes) _ a is
-makes_with bytes p size None a (inl (fits, is)) = keeps_as (raw bytes) a _ is (keeps_known (raw bytes) _ [] (inl refl) refl tt (_, refl))
+makes_with bytes p size None a (inl (fits, is)) = keeps_as (raw bytes) a _ is (keeps_known (raw bytes) _ [] (inl refl) refl tt (inl refl) (_, refl) refl)
 makes_with bytes p size None a (inr (over, is)) = still_as (raw bytes) _ a is
 
-makes_on : (bytes : List ℕ) (b : Brought) (there : Bool) (a : Reply) → Transition.MakesOn bytes b there a → KeepsEvents (raw bytes) a
+makes_on : (bytes : List ℕ) (b : Brought) (there : Bool) (a : Reply) → Transition.MakesOn bytes b there a → ReplyKeepsEvents (raw bytes) a
 makes_on bytes b true a is = still_as (raw bytes) _ a is
 makes_on bytes b false a is = makes_with bytes (bundle_brought b) (made_size b) (own_refusal b) a is
 
 -- a failure leaves other bytes, and nothing is known as before
-torn_as : (bytes torn answer : List ℕ) (doubt : Option Event) (a : Reply) → a ≡ reply answer (record { acknowledged = []; in_doubt = doubt; failed = true }) (raw torn) → KeepsEvents (raw bytes) a
-torn_as bytes torn answer doubt a is = keeps_as (raw bytes) a _ is (record { found = []; finds = inl refl; are = refl; known = λ k. ⊎_elim (λ (never : ⊥). never) (λ (some : [] ≢ []). some refl) k; ran = ([], refl) })
+torn_as : (bytes torn answer : List ℕ) (doubt : Option Event) (a : Reply) → a ≡ reply answer (record { acknowledged = []; in_doubt = doubt; failed = true }) (raw torn) → ReplyKeepsEvents (raw bytes) a
+torn_as bytes torn answer doubt a is = keeps_as (raw bytes) a _ is (record {
+  found = [];
+  finds = inl refl;
+  are = refl;
+  known = λ k. ⊎_elim (λ (never : ⊥). never) (λ (some : [] ≢ []). some refl) k;
+  doubt = inl (refl, refl);
+  ran = ([], refl);
+  right = λ k. refl;
+})
 
-failed_as : (s : Stored) (answer : List ℕ) (doubt : Option Event) (p : Place) (a : Reply) → Finds p s.known.acknowledged → BeginWith (ran_at p) s.known.ran → a ≡ reply answer (record { acknowledged = []; in_doubt = doubt; failed = true }) (closed s) → KeepsEvents p a
-failed_as s answer doubt p a finds ran is = keeps_as p a _ is (keeps_known p _ s.known.acknowledged finds (sym (append-nil s.known.acknowledged)) tt ran)
+-- A failure leaves a store without a node: as it was known, or with an event of the command in doubt.
+failed_as : (s : Stored) (answer : List ℕ) (doubt : Option Event) (p : Place) (a : Reply) → Finds p s.known.acknowledged → (s.known ≡ known_at p) ⊎ (s.known.in_doubt ≡ doubt) → BeginWith (ran_at p) s.known.ran
+    → (IsSettled p → s.known.ran ≡ s.known.acknowledged) → a ≡ reply answer (record { acknowledged = []; in_doubt = doubt; failed = true }) (closed s) → ReplyKeepsEvents p a
+failed_as s answer doubt p a finds known ran right is = keeps_as p a _ is (record {
+  found = s.known.acknowledged;
+  finds = finds;
+  are = sym (append-nil s.known.acknowledged);
+  known = λ k. tt;
+  doubt = ⊎_elim (λ same. inl (refl, same)) (λ own. inr (inr own)) known;
+  ran = ran;
+  right = λ k. ⊎_elim right (λ (some : [] ≢ []). absurd (some refl)) k;
+})
 
-makes_fails : (bytes : List ℕ) (p : Bundle) (why : Option Refusal) (a : Reply) → Transition.FailsToMake bytes p why a → KeepsEvents (raw bytes) a
+makes_fails : (bytes : List ℕ) (p : Bundle) (why : Option Refusal) (a : Reply) → Transition.FailsToMake bytes p why a → ReplyKeepsEvents (raw bytes) a
 makes_fails bytes p (Some why) a is = torn_as bytes bytes _ _ a is
 makes_fails bytes p None a (torn, kept, is) = torn_as bytes torn _ _ a is
 
-makes : (p : Place) (found : Brought) (a : Reply) → Transition.MakesNode p found a → KeepsEvents p a
+makes : (p : Place) (found : Brought) (a : Reply) → Transition.MakesNode p found a → ReplyKeepsEvents p a
 makes (raw bytes) found a (inl is) = makes_on bytes found (holds_a_store bytes) a is
 makes (raw bytes) found a (inr is) = makes_fails bytes (bundle_brought found) (own_refusal found) a is
 makes (closed s) found a (inl is) = still_as (closed s) _ a is
-makes (closed s) found a (inr is) = failed_as s _ _ (closed s) a (inl refl) (with_themselves s.known.ran) is
+makes (closed s) found a (inr is) = failed_as s _ _ (closed s) a (inl refl) (inl refl) (with_themselves s.known.ran) (right_there (closed s)) is
 makes (running events extent ps) found a is = still_as (running events extent ps) _ a is
 makes (dead s) found a is = still_as (dead s) _ a is
 
-booted : (p : Place) (events : Events) (extent : Extent) (a : Reply) → Finds p events → BeginWith (ran_at p) events → Transition.AnswersBoot events extent a → KeepsEvents p a
-booted p events extent a finds ran (list, after, is) = keeps_as p a _ is (keeps_known p _ events finds refl tt (with_one_more (ran_at p) events booting ran))
+booted : (p : Place) (events : Events) (extent : Extent) (a : Reply) → Finds p events → BeginWith (ran_at p) events → Transition.AnswersBoot events extent a → ReplyKeepsEvents p a
+booted p events extent a finds ran (list, after, is) = keeps_as p a _ is (keeps_known p _ events finds refl tt (inl refl) (with_one_more (ran_at p) events booting ran) refl)
 
 -- the events that a store may have
 pub may_have : (s : Stored) (events : Events) (extent : Extent) → MayHave s events extent → MayBe s events
 may_have s events extent (since, inl (is, at)) = inl is
 may_have s events extent (since, inr (is, at)) = inr is
 
-boots_store : (p : Place) (s : Stored) (a : Reply) → ((events : Events) (extent : Extent) → MayHave s events extent → Finds p events) → Finds p s.known.acknowledged → BeginWith (ran_at p) s.known.ran → Transition.BootsStore s a → KeepsEvents p a
-boots_store p s a finds here ran (inl (events, extent, has, is)) = booted p events extent a (finds events extent has) (with_first (ran_at p) s.known.ran events ran has.0) is
-boots_store p s a finds here ran (inr (inl is)) = failed_as s _ (Some booting) p a here ran is
-boots_store p s a finds here ran (inr (inr (events, extent, has, is))) = failed_as (uncertain_boot s.known.ran events extent) _ (Some booting) p a (finds events extent has) ran is
+-- where nothing is in doubt, a store has the acknowledged events, after which its start record is right
+right_after : (s : Stored) (events acknowledged : Events) → s.known ≡ settled acknowledged → MayBe s events → s.known.ran ≡ events
+right_after s events acknowledged settled (inl is) = ap (λ (k : Known). k.ran) settled ∙ sym (is ∙ ap (λ (k : Known). k.acknowledged) settled)
+right_after s events acknowledged settled (inr is) = ap (λ (k : Known). k.ran) settled ∙ sym (is ∙ ap (λ (k : Known). with_doubt k.acknowledged k.in_doubt) settled)
+
+boots_store : (p : Place) (s : Stored) (a : Reply) → s.known ≡ known_at p → ((events : Events) (extent : Extent) → MayHave s events extent → Finds p events) → Finds p s.known.acknowledged → BeginWith (ran_at p) s.known.ran
+    → Transition.BootsStore s a → ReplyKeepsEvents p a
+boots_store p s a same finds here ran (inl (events, extent, has, is)) = booted p events extent a (finds events extent has) (with_first (ran_at p) s.known.ran events ran has.0) is
+boots_store p s a same finds here ran (inr (inl is)) =
+    failed_as s _ (Some booting) p a here (inl same) ran (λ settled. right_after s s.known.acknowledged (acknowledged_at p) (same ∙ settled) (inl refl)) is
+boots_store p s a same finds here ran (inr (inr (events, extent, has, is))) =
+    failed_as (uncertain_boot s.known.ran events extent) _ (Some booting) p a (finds events extent has) (inr refl) ran
+    (λ settled. right_after s events (acknowledged_at p) (same ∙ settled) (may_have s events extent has)) is
 
 -- after an event that was committed
-keeps_behind : (events : Events) (extent : Extent) (ps : Processes) (then : Extent) (e : Event) (b : Reply) → KeepsEvents (closed (certain (events ++ e ∷ []) then)) b → KeepsEvents (running events extent ps) (behind e b)
+keeps_behind : (events : Events) (extent : Extent) (ps : Processes) (then : Extent) (e : Event) (b : Reply) → ReplyKeepsEvents (closed (certain (events ++ e ∷ []) then)) b → ReplyKeepsEvents (running events extent ps) (behind e b)
 keeps_behind events extent ps then e b keeps =
     let found : keeps.found ≡ events ++ e ∷ [] = ⊎_elim (λ is. is) (λ is. is) keeps.finds in
     keeps_known (running events extent ps) (behind e b) events refl
     (keeps.are ∙ ap (λ (l : Events). l ++ b.outcome.acknowledged) found ∙ append_assoc events (e ∷ []) b.outcome.acknowledged) (keeps.known (inl tt))
-    (with_first events (events ++ e ∷ []) (ran_at b.after) (e ∷ [], refl) keeps.ran)
+    (⊎_elim (λ (still : (b.outcome.acknowledged ≡ []) × (known_at b.after ≡ settled (events ++ e ∷ []))). inl (ap (λ (k : Known). k.in_doubt) still.1)) (λ own. own) keeps.doubt)
+    (with_first events (events ++ e ∷ []) (ran_at b.after) (e ∷ [], refl) keeps.ran) (keeps.right (inl refl))
 
 -- a reply keeps them too whose answer stands after a text
-keeps_text : (p : Place) (text : List ℕ) (a : Reply) → KeepsEvents p a → KeepsEvents p (with_text text a)
-keeps_text p text a keeps = record { found = keeps.found; finds = keeps.finds; are = keeps.are; known = keeps.known; ran = keeps.ran }
+keeps_text : (p : Place) (text : List ℕ) (a : Reply) → ReplyKeepsEvents p a → ReplyKeepsEvents p (with_text text a)
+keeps_text p text a keeps = record {
+  found = keeps.found;
+  finds = keeps.finds;
+  are = keeps.are;
+  known = keeps.known;
+  doubt = keeps.doubt;
+  ran = keeps.ran;
+  right = keeps.right;
+}
 
-boots : (p : Place) (a : Reply) → Transition.Boots p a → KeepsEvents p a
+boots : (p : Place) (a : Reply) → Transition.Boots p a → ReplyKeepsEvents p a
 boots (raw bytes) a (inl (events, list, extent, after, image, is)) = booted (raw bytes) events extent a (inr (list, after, image.image_of)) (events, refl) is
 boots (raw bytes) a (inr (inl (why, reported, is))) = still_as (raw bytes) _ a is
 boots (raw bytes) a (inr (inr (torn, is))) = torn_as bytes torn _ (Some booting) a is
-boots (closed s) a is = boots_store (closed s) s a (may_have s) (inl refl) (with_themselves s.known.ran) is
-boots (running events extent ps) a is = boots_store (running events extent ps) (certain events extent) a (λ es n has. ⊎_elim (λ e. e) (λ e. e) (may_have (certain events extent) es n has)) refl (with_themselves events) is
-boots (dead s) a is = boots_store (dead s) s a (may_have s) (inl refl) (with_themselves s.known.ran) is
+boots (closed s) a is = boots_store (closed s) s a refl (may_have s) (inl refl) (with_themselves s.known.ran) is
+boots (running events extent ps) a is = boots_store (running events extent ps) (certain events extent) a refl (λ es n has. ⊎_elim (λ e. e) (λ e. e) (may_have (certain events extent) es n has)) refl (with_themselves events) is
+boots (dead s) a is = boots_store (dead s) s a refl (may_have s) (inl refl) (with_themselves s.known.ran) is
 
 -- so does a boot after a commit, which had no memory or replies
-boots_or_not : (s : Stored) (b : Reply) → Transition.BootsOrNot s b → KeepsEvents (closed s) b
-boots_or_not s b (inl boot) = boots_store (closed s) s b (may_have s) (inl refl) (with_themselves s.known.ran) boot
+boots_or_not : (s : Stored) (b : Reply) → Transition.BootsOrNot s b → ReplyKeepsEvents (closed s) b
+boots_or_not s b (inl boot) = boots_store (closed s) s b refl (may_have s) (inl refl) (with_themselves s.known.ran) boot
 boots_or_not s b (inr is) = still_as (closed s) [] b is
 
-reboots : (events : Events) (extent : Extent) (ps : Processes) (vsn : List ℕ) (l : Releases) (o : Result Releases HandlerError) (a : Reply) → Transition.Reboots Transition.BootsOrNot events extent ps vsn l o a → KeepsEvents (running events extent ps) a
+reboots : (events : Events) (extent : Extent) (ps : Processes) (vsn : List ℕ) (l : Releases) (o : Result Releases HandlerError) (a : Reply) → Transition.Reboots Transition.BootsOrNot events extent ps vsn l o a → ReplyKeepsEvents (running events extent ps) a
 reboots events extent ps vsn l o =
     commits events extent ps (rebooting vsn) _ o _ (λ x a (b, boot, is).
     keeps_as (running events extent ps) a _ is (keeps_behind events extent ps x (rebooting vsn) b (boots_or_not (Transition.rebooted events x vsn) b boot)))
 
 restarts : (events : Events) (extent : Extent) (ps : Processes) (x : Extent) (vsn : List ℕ) (l : Releases) (f : FoundForm) (qs : Processes) (b : Reply) → Transition.BootsOrNot (restarted events x vsn) b
-    → KeepsEvents (running events extent ps) (restarted_reply vsn l f qs b)
+    → ReplyKeepsEvents (running events extent ps) (restarted_reply vsn l f qs b)
 restarts events extent ps x vsn l f qs b boot =
     keeps_text (running events extent ps) (installed_line f (stale_modules qs.modules (libraries_at vsn l))) (behind (restart_installed vsn) b)
     (keeps_behind events extent ps x (restart_installed vsn) b (boots_or_not (restarted events x vsn) b boot))
 
-acts : (p : Place) (does : Transition.Action) (a : Reply) → Transition.ActsWith Transition.BootsOrNot p does a → KeepsEvents p a
+acts : (p : Place) (does : Transition.Action) (a : Reply) → Transition.ActsWith Transition.BootsOrNot p does a → ReplyKeepsEvents p a
 acts p (answers text) a is = still_as p _ a is
 acts p (makes_node found) a is = makes p found a is
 acts (raw bytes) (changes_node c) a is = still_as (raw bytes) _ a is
@@ -159,15 +202,15 @@ acts (running events extent ps) (changes_node c) a is = changes events extent ps
 acts (dead s) (changes_node c) a is = still_as (dead s) _ a is
 acts (running events extent ps) (installs vsn) a is =
     let here = running events extent ps in
-    each_reply Transition.BootsOrNot (KeepsEvents here) events extent ps vsn (releases_after events) (record {
+    each_reply Transition.BootsOrNot (ReplyKeepsEvents here) events extent ps vsn (releases_after events) (record {
       listed = λ why. still_as here _ _ refl;
       unmatched = still_as here _ _ refl;
       not_run = λ f. still_as here _ _ refl;
       over_full = still_as here _ _ refl;
-      broken = λ f. keeps_known here _ events refl (sym (append-nil events)) tt (with_themselves events);
-      done_so = λ f r reach found comes. keeps_known here _ events refl refl tt (_, refl);
+      broken = λ f. keeps_known here _ events refl (sym (append-nil events)) tt (inl refl) (with_themselves events) refl;
+      done_so = λ f r reach found comes. keeps_known here _ events refl refl tt (inl refl) (_, refl) refl;
       restarted_so = λ f r reach b found comes boot. restarts events extent ps reach vsn (releases_after events) f (behind_run r) b boot;
-      doubted_so = λ f restart found. keeps_known here _ events refl (sym (append-nil events)) tt (with_themselves events);
+      doubted_so = λ f restart found. keeps_known here _ events refl (sym (append-nil events)) tt (inr refl) (with_themselves events) refl;
     }) a is
 acts (raw bytes) (installs vsn) a is = still_as (raw bytes) _ a is
 acts (closed s) (installs vsn) a is = still_as (closed s) _ a is
@@ -178,51 +221,52 @@ acts (closed s) (reboots_node vsn) a is = still_as (closed s) _ a is
 acts (dead s) (reboots_node vsn) a is = still_as (dead s) _ a is
 acts p boots_node a is = boots p a is
 acts (running events extent ps) reports_start a (inl is) = still_as (running events extent ps) _ a is
-acts (running events extent ps) reports_start a (inr is) = keeps_as (running events extent ps) a _ is (keeps_known (running events extent ps) _ events refl (sym (append-nil events)) tt (with_themselves events))
+acts (running events extent ps) reports_start a (inr is) = keeps_as (running events extent ps) a _ is (keeps_known (running events extent ps) _ events refl (sym (append-nil events)) tt (inl refl) (with_themselves events) refl)
 acts (raw bytes) reports_start a is = still_as (raw bytes) _ a is
 acts (closed s) reports_start a is = still_as (closed s) _ a is
 acts (dead s) reports_start a is = still_as (dead s) _ a is
-acts (running events extent ps) (calls c) a is = keeps_as (running events extent ps) a _ is (keeps_known (running events extent ps) _ events refl (sym (append-nil events)) tt (with_themselves events))
+acts (running events extent ps) (calls c) a is = keeps_as (running events extent ps) a _ is (keeps_known (running events extent ps) _ events refl (sym (append-nil events)) tt (inl refl) (with_themselves events) refl)
 acts (raw bytes) (calls c) a is = still_as (raw bytes) _ a is
 acts (closed s) (calls c) a is = still_as (closed s) _ a is
 acts (dead s) (calls c) a is = still_as (dead s) _ a is
 
-pub each_keeps : (source : Source) (p : Place) (c : Command) (a : Reply) → Transition.Transition source p c a → KeepsEvents p a
+pub each_keeps : (source : Source) (p : Place) (c : Command) (a : Reply) → Transition.Transition source p c a → ReplyKeepsEvents p a
 each_keeps source p c a (does, comes, is) = acts p does a (or_not p does a is)
 
--- a place at rest has the same events
+-- of a place at rest the same is known
+pub rest_known : (p : Place) → known_at (at_rest p) ≡ known_at p
+rest_known (raw bytes) = refl
+rest_known (closed s) = refl
+rest_known (running events extent ps) = refl
+rest_known (dead s) = refl
+
 pub rest_acknowledged : (p : Place) → acknowledged_at (at_rest p) ≡ acknowledged_at p
-rest_acknowledged (raw bytes) = refl
-rest_acknowledged (closed s) = refl
-rest_acknowledged (running events extent ps) = refl
-rest_acknowledged (dead s) = refl
+rest_acknowledged p = ap (λ (k : Known). k.acknowledged) (rest_known p)
 
-rest_ran : (p : Place) → ran_at (at_rest p) ≡ ran_at p
-rest_ran (raw bytes) = refl
-rest_ran (closed s) = refl
-rest_ran (running events extent ps) = refl
-rest_ran (dead s) = refl
-
-rest_known : (p : Place) → IsKnown p → IsKnown (at_rest p)
-rest_known (raw bytes) known = known
-rest_known (closed s) known = tt
-rest_known (running events extent ps) known = tt
-rest_known (dead s) known = tt
+still_known : (p : Place) → IsKnown p → IsKnown (at_rest p)
+still_known (raw bytes) known = known
+still_known (closed s) known = tt
+still_known (running events extent ps) known = tt
+still_known (dead s) known = tt
 
 -- so a reply whose node is lost keeps them
-keeps_without_node : (p : Place) (b : Reply) → KeepsEvents p b → KeepsEvents p (Transition.without_node b)
-keeps_without_node p b keeps = record {
-  found = keeps.found;
-  finds = keeps.finds;
-  are = rest_acknowledged b.after ∙ keeps.are;
-  known = λ k. rest_known b.after (keeps.known k);
-  ran = subst (BeginWith (ran_at p)) (sym (rest_ran b.after)) keeps.ran;
-}
+keeps_without_node : (p : Place) (b : Reply) → ReplyKeepsEvents p b → ReplyKeepsEvents p (Transition.without_node b)
+keeps_without_node p b keeps =
+    let same = rest_known b.after in
+    record {
+      found = keeps.found;
+      finds = keeps.finds;
+      are = rest_acknowledged b.after ∙ keeps.are;
+      known = λ k. still_known b.after (keeps.known k);
+      doubt = subst (λ (k : Known). ((b.outcome.acknowledged ≡ []) × (k ≡ known_at p)) ⊎ ((k.in_doubt ≡ None) ⊎ (k.in_doubt ≡ b.outcome.in_doubt))) (sym same) keeps.doubt;
+      ran = subst (λ (k : Known). BeginWith (ran_at p) k.ran) (sym same) keeps.ran;
+      right = λ k. subst (λ (k : Known). k.ran ≡ k.acknowledged) (sym same) (keeps.right k);
+    }
 
-stops : (p : Place) (does : Transition.Action) (a : Reply) → Transition.StopsWithin p does a → KeepsEvents p a
+stops : (p : Place) (does : Transition.Action) (a : Reply) → Transition.StopsWithin p does a → ReplyKeepsEvents p a
 stops p does a (b, is, lost) = keeps_as p a _ lost (keeps_without_node p b (acts p does b is))
 
 -- and so it does where memory is refused within a command
-pub each_left_keeps : (source : Source) (p : Place) (c : Command) (a : Reply) → MayLeave source p c a → KeepsEvents p a
+pub each_left_keeps : (source : Source) (p : Place) (c : Command) (a : Reply) → MayLeave source p c a → ReplyKeepsEvents p a
 each_left_keeps source p c a (inl is) = each_keeps source p c a is
 each_left_keeps source p c a (inr (does, comes, stopped)) = stops p does a stopped

@@ -1,3 +1,4 @@
 pub mod RunLaws
+pub mod KeptEvents
 pub mod AnswerLaws
 pub mod LawsBelow

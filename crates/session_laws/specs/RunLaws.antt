@@ -1,10 +1,10 @@
 -- What is so of whole sessions at each of their moments, and of sessions one after another.
-use Rattle.std.specs.Prelude.{◌≡◌, ◌≢◌, ◌⊎◌, ℕ, zero, suc, false, List, [], ◌∷◌, ◌++◌, Some}
+use Rattle.std.specs.Prelude.{◌≡◌, ◌≢◌, ◌⊎◌, ℕ, zero, suc, false, List, [], ◌∷◌, ◌++◌, None, Some}
 use Rattle.rel_disk.specs.Damage.{Only}
 use Rattle.rel_list.specs.Releases.{Bundle, Releases}
 use Rattle.rel_list.specs.Event.{list_after}
 use Rattle.rel_list.specs.Event.Event.{made, boot as booting}
-use Rattle.node_store.specs.Events.{Events, Stored, with_doubt, at_rest_since, BeginWith, HasStart, IsStoredAs, IsOfPrefix}
+use Rattle.node_store.specs.Events.{Known, Events, Stored, settled, with_doubt, at_rest_since, BeginWith, HasStart, IsStoredAs, IsOfPrefix}
 use Rattle.node_store.specs.Image.{extent_of, IsImageOf}
 use Rattle.session_input.specs.Commands.{Command}
 use Rattle.rel_session.specs.Device.{Device, LeavesOnly}
@@ -15,19 +15,24 @@ use Rattle.rel_session.specs.Node.{Place, at_rest, Reply}
 use Rattle.rel_session.specs.Node.Place.{raw, closed, running, dead}
 use Rattle.rel_session.specs.Run.{Starts, Holds, Executes, MayLeave, Replies, Ending, events_of}
 
--- the acknowledged events where the disk stands; of bytes that are no known store there are none
+-- what is known of the events where the disk stands; of bytes that are no known store there are none
+abbrev pub known_at : Place → Known
+known_at (raw bytes) = settled []
+known_at (closed s) = s.known
+known_at (running events extent ps) = settled events
+known_at (dead s) = s.known
+
+-- the acknowledged events there
 abbrev pub acknowledged_at : Place → Events
-acknowledged_at (raw bytes) = []
-acknowledged_at (closed s) = s.known.acknowledged
-acknowledged_at (running events extent ps) = events
-acknowledged_at (dead s) = s.known.acknowledged
+acknowledged_at p = (known_at p).acknowledged
 
 -- the events after which the start record there was last sure to be right
 abbrev pub ran_at : Place → Events
-ran_at (raw bytes) = []
-ran_at (closed s) = s.known.ran
-ran_at (running events extent ps) = events
-ran_at (dead s) = s.known.ran
+ran_at p = (known_at p).ran
+
+-- Nothing is in doubt there, and the start record is right.
+abbrev pub IsSettled : Place → Type 0
+IsSettled p = known_at p ≡ settled (acknowledged_at p)
 
 -- the store is known there
 abbrev pub IsKnown : Place → Type 0
@@ -47,18 +52,27 @@ Finds (closed s) events = MayBe s events
 Finds (running events extent ps) found = found ≡ events
 Finds (dead s) events = MayBe s events
 
+-- A command did nothing to the events; or at most its own last one is in doubt after it.
+abbrev pub DoubtsOwnAlone : Place → Reply → Type 0
+DoubtsOwnAlone p a =
+    ((a.outcome.acknowledged ≡ []) × (known_at a.after ≡ known_at p))
+    ⊎ (((known_at a.after).in_doubt ≡ None) ⊎ ((known_at a.after).in_doubt ≡ a.outcome.in_doubt))
+
 -- After a reply the acknowledged events are those that it found, with its own at the end. A store that is known stays
--- so, and one with an acknowledged event is known. The start record was right no sooner than before.
-pub record KeepsEvents (p : Place) (a : Reply) : Type 0 where
+-- so, and one with an acknowledged event is known. The start record was right no sooner than before, and is right where an event
+-- was acknowledged.
+pub record ReplyKeepsEvents (p : Place) (a : Reply) : Type 0 where
   pub found : Events
   pub finds : Finds p found
   pub are : acknowledged_at a.after ≡ found ++ a.outcome.acknowledged
   pub known : IsKnown p ⊎ (a.outcome.acknowledged ≢ []) → IsKnown a.after
+  pub doubt : DoubtsOwnAlone p a
   pub ran : BeginWith (ran_at p) (ran_at a.after)
+  pub right : IsSettled p ⊎ (a.outcome.acknowledged ≢ []) → ran_at a.after ≡ acknowledged_at a.after
 
 -- Each reply keeps the acknowledged events, also one that is stopped within.
 abbrev pub EachKeeps : Source → Type 0
-EachKeeps source = (p : Place) (c : Command) (a : Reply) → MayLeave source p c a → KeepsEvents p a
+EachKeeps source = (p : Place) (c : Command) (a : Reply) → MayLeave source p c a → ReplyKeepsEvents p a
 
 -- where the disk stands after these replies
 abbrev pub place_after : Place → List Reply → Place
