@@ -20,7 +20,7 @@ use Rattle.rel_session.proofs.Prefixes.{prefix_of, prefix_is}
 use Rattle.rel_session.proofs.DeviceLemmas.{IsDevice, weakened, joined, still}
 use Rattle.session_laws.proofs.Transitions.{may_have, each_left_keeps}
 
-left_by : (source : Source) (p : Place) (c : Command) (ending : Ending) (a : Reply) (more : List Reply) → IsReply source p c ending more a → MayLeave source p c a
+pub left_by : (source : Source) (p : Place) (c : Command) (ending : Ending) (a : Reply) (more : List Reply) → IsReply source p c ending more a → MayLeave source p c a
 left_by source p c ended a more is = inl is
 left_by source p c cut_off a more is = inl is
 left_by source p c unread a more is = inl is

@@ -1,26 +1,27 @@
 -- No moment of a session loses an acknowledged event, or has one that nobody asked for.
-use Rattle.std.proofs.Common.{◌≡◌, ◌⊎◌, inl, inr, ⊎_elim, ℕ, zero, suc, List, [], ◌∷◌, ◌++◌, Option, Some, None, refl, sym, ap, ◌∙◌, subst, append_assoc}
+use Rattle.std.proofs.Common.{◌≡◌, ◌⊎◌, inl, inr, ⊎_elim, ℕ, zero, suc, List, [], ◌∷◌, ◌++◌, Option, Some, None, refl, sym, ap, ◌∙◌, subst, append-nil, append_assoc}
 use Rattle.std.specs.Option.{option_and_then}
 use Rattle.rel_disk.specs.Damage.{Only}
 use Rattle.rel_list.specs.Releases.{Releases}
-use Rattle.rel_list.specs.Event.{list_from, list_after, step}
+use Rattle.rel_list.specs.Event.{Event, list_from, list_after, step}
 use Rattle.node_store.specs.Image.{first_extent}
-use Rattle.node_store.specs.Events.{Known, Events, Stored, certain, with_doubt, BeginWith, IsPrefix, IsStoredAs}
-use Rattle.node_store.proofs.Beginnings.{with_themselves, with_first}
+use Rattle.node_store.specs.Events.{Known, Events, Stored, certain, with_doubt, BeginWith, HasStart, IsPrefix, IsStoredAs}
+use Rattle.node_store.proofs.Beginnings.{with_themselves, with_first, has_start_since}
 use Rattle.rel_unpack.specs.Source.{Source}
 use Rattle.session_input.specs.Commands.{Command}
 use Rattle.session_input.specs.Feed.{Feed}
 use Rattle.session_input.specs.Input.{most_bytes}
 use Rattle.rel_session.specs.Device.{Device, LeavesOnly}
 use Rattle.rel_session.specs.Files.{Files, files_behind, source_of}
-use Rattle.rel_session.specs.Node.{Place, at_rest, Reply}
+use Rattle.rel_session.specs.Node.{Place, at_rest, CommandOutcome, Reply}
 use Rattle.rel_session.specs.Node.Place.{raw, closed, running, dead}
 use Rattle.rel_session.specs.Run.{Starts, Holds, Moments, Executes, Replies, Ending, IsReached, events_of}
 use Rattle.rel_session.specs.Run.Ending.{going_on}
 use Rattle.rel_session.proofs.DeviceLemmas.{IsDevice, joined, weakened}
-use Rattle.rel_session.proofs.Prefixes.{prefix_of, reached}
+use Rattle.rel_session.proofs.Prefixes.{prefix_of, prefix_is, reached, reached_sooner}
+use Rattle.session_laws.specs.AnswerLaws.{IsOneOrNone, Shows, TellsEvents, broken_events}
 use Rattle.session_laws.specs.RunLaws.{known_at, acknowledged_at, IsKnown, Finds, ReplyKeepsEvents, place_after}
-use Rattle.session_laws.specs.KeptEvents.{IsKnownAfter, KeepsAcknowledged, IsUnderWay, store_after_crash, GoesOnAfterCrash, KeepsEvents, SessionsKeepEvents, AnswersKeepEvents, KeepsEventsOnceMade, SessionsKeepEventsOnceMade, MayBegin, KeepEventsOver}
+use Rattle.session_laws.specs.KeptEvents.{IsKnownAfter, IsKnownAfterAll, KeepsAcknowledged, IsUnderWay, store_after_crash, GoesOnAfterCrash, KeepsEvents, SessionsKeepEvents, AnswersKeepEvents, KeepsEventsOnceMade, SessionsKeepEventsOnceMade, MayBegin, KeepEventsOver}
 use Rattle.session_laws.proofs.Transitions.{each_left_keeps}
 use Rattle.session_laws.proofs.AcknowledgedEvents.{first_answered, becomes_known, parts, rest_right, starts_at_rest}
 use Rattle.session_laws.proofs.EmptyDisk.{first_event, becomes_known as once_acknowledged}
@@ -83,6 +84,48 @@ keeps_acknowledged k last (a ∷ more) (next, here, later) = go here (keeps_ackn
     go (inr adds) then =
         with_first k.acknowledged next.acknowledged last.acknowledged
         (adds.prefix.more ++ a.outcome.acknowledged, adds.acknowledged ∙ ap (λ (l : Events). l ++ a.outcome.acknowledged) adds.prefix.holds ∙ append_assoc k.acknowledged adds.prefix.more a.outcome.acknowledged) then
+
+-- what is reached after a command is reached in it
+abbrev own_events : (doubt : Option Event) → Events
+own_events None = []
+own_events (Some e) = e ∷ []
+
+with_own : (events : Events) (doubt : Option Event) → events ++ own_events doubt ≡ with_doubt events doubt
+with_own events None = append-nil events
+with_own events (Some e) = refl
+
+no_more : (more left : Events) → more ++ left ≡ [] → more ≡ []
+no_more [] left is = refl
+no_more (e ∷ more) left is = absurd cc
+
+reached_after : (k next : Known) (o : CommandOutcome) (c : List ℕ) → IsKnownAfter k o next → IsReached next [] c → IsReached k (with_doubt o.acknowledged o.in_doubt) c
+reached_after k next o c (inl (none, same)) of = reached_sooner k [] (with_doubt o.acknowledged o.in_doubt) c (subst (λ (l : Known). IsReached l [] c) same of)
+reached_after k next o c (inr adds) of = ⊎_elim all (λ is. doubted is adds.in_doubt) (prefix_is next of.events of.prefix)
+  where
+    some : (begun left : Events) → begun ++ left ≡ with_doubt o.acknowledged o.in_doubt → of.events ≡ adds.found ++ begun → IsReached k (with_doubt o.acknowledged o.in_doubt) c
+    some begun left own is =
+        let same : of.events ++ of.more ≡ adds.found ++ begun = ap (λ (l : Events). of.events ++ l) (no_more of.more of.left of.begins) ∙ append-nil of.events ∙ is in
+        record {
+          events = adds.found;
+          prefix = adds.prefix;
+          more = begun;
+          left = left;
+          begins = own;
+          list = of.list;
+          after = ap list_after (sym same) ∙ of.after;
+          image_of = of.image_of;
+          start = subst (λ (l : Events). HasStart k.ran l c) same (has_start_since k.ran next.ran (of.events ++ of.more) c adds.ran of.start);
+        }
+
+    all : of.events ≡ next.acknowledged → IsReached k (with_doubt o.acknowledged o.in_doubt) c
+    all is = some o.acknowledged (own_events o.in_doubt) (with_own o.acknowledged o.in_doubt) (is ∙ adds.acknowledged)
+
+    doubted : of.events ≡ with_doubt next.acknowledged next.in_doubt → (next.in_doubt ≡ None) ⊎ (next.in_doubt ≡ o.in_doubt) → IsReached k (with_doubt o.acknowledged o.in_doubt) c
+    doubted is (inl none) = all (is ∙ ap (with_doubt next.acknowledged) none)
+    doubted is (inr own) =
+        some (with_doubt o.acknowledged o.in_doubt) [] (append-nil (with_doubt o.acknowledged o.in_doubt))
+        (is ∙ (λ i. with_doubt (adds.acknowledged i) (own i)) ∙ sym (with_own (adds.found ++ o.acknowledged) o.in_doubt) ∙ append_assoc adds.found o.acknowledged (own_events o.in_doubt)
+        ∙ ap (λ (l : Events). adds.found ++ l) (with_own o.acknowledged o.in_doubt))
 
 -- where the disk stands after replies of which this is the last
 place_after-last : (p : Place) (first : List Reply) (a : Reply) → place_after p (first ++ a ∷ []) ≡ a.after
@@ -168,6 +211,21 @@ module _ {D : Type 0} (v : Device D) (laws : IsDevice v) where
         let all = in_both (known_at p) a more (known_at a.after) next_known old mid new moments (within (known_at a.after) more mid new rest) in
         (mid, known_at a.after, moments, next_known, goes_on_after (known_at p) (a ∷ more) old new all, rest)
 
+    -- what is known after the first of these commands, and what is left on the disk after at most one more
+    tells_events : (k : Known) (whole broken : List Reply) (old new : D) → IsOneOrNone broken → KeepsEvents v Next k (whole ++ broken) old new
+        → (last : Known) × IsKnownAfterAll k whole last × ((c : List ℕ) → v.may_leave new c → IsReached last (broken_events broken) c)
+    tells_events k [] [] old new one (moments, goes_on, back) = (k, refl, back.images)
+    tells_events k [] (a ∷ more) old new one (mid, next, moments, after, goes_on, keeps) =
+        let (later, goes_on_then, back) = subst (λ l. KeepsEvents v Next next l mid new) one keeps in
+        (k, refl, λ c now. reached_after k next a.outcome c after (back.images c now))
+    tells_events k (a ∷ whole) broken old new one (mid, next, moments, after, goes_on, keeps) =
+        let (last, known, left) = tells_events next whole broken mid new one keeps in
+        (last, (next, after, known), left)
+
+    shown_events : (k : Known) (text : List ℕ) (replies : List Reply) (old new : D) → KeepsEvents v Next k replies old new → (shown : Shows text replies)
+        → (last : Known) × IsKnownAfterAll k shown.whole last × ((c : List ℕ) → v.may_leave new c → IsReached last (broken_events shown.broken) c)
+    shown_events k text replies old new keeps shown = tells_events k shown.whole shown.broken old new shown.one (subst (λ l. KeepsEvents v Next k l old new) shown.are keeps)
+
     pub sessions_keep_events : (base : Source) (s : Stored) (old : D) → MayBegin v s old → SessionsKeepEvents v base Next s old
     sessions_keep_events base s old starts ending taken input written written_then new session =
         let (commands, are, (text, appends, run)) = session (closed s) starts in
@@ -196,6 +254,12 @@ module _ {D : Type 0} (v : Device D) (laws : IsDevice v) where
     sessions_keep_events_once_made base old empty ending taken input written written_then new session =
         let (commands, are, (text, appends, run)) = session (raw []) empty in
         (commands, are, (text, appends, (run, keeps_events_once_made base _ commands ending run.replies old new run.right empty run.leads)))
+
+  pub text_tells_events : (base : Source) → TellsEvents v base
+  text_tells_events base ending taken input written written_then old new s session starts =
+      let (commands, are, (text, appends, run)) = session (closed s) starts in
+      let keeps = keeps_events (MayBegin v) (λ t disk begins. begins) base _ (closed s) commands ending run.replies old new run.right tt starts run.leads in
+      (commands, are, (text, appends, (run, shown_events (MayBegin v) (λ t disk begins. begins) s.known text run.replies old new keeps)))
 
   pub keep_events_over : {F : Type 0} (gives : F → Source) (n : ℕ) (s : Stored) (disk : D) → MayBegin v s disk → KeepEventsOver v gives n s disk
   keep_events_over gives zero s disk starts = starts

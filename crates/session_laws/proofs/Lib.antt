@@ -16,6 +16,7 @@ pub mod AnswerEvents
 pub mod Versions
 pub mod ProcessVersions
 pub mod OneRun
+pub mod BrokenTexts
 pub mod LinePaths
 pub mod OneText
 pub mod OneList

@@ -1,5 +1,5 @@
 -- What is so of the answers of whole sessions.
-use Rattle.std.specs.Prelude.{◌≡◌, ◌≢◌, ◌⊎◌, Bool, true, false, ℕ, List, [], ◌∷◌, ◌++◌, None, Some}
+use Rattle.std.specs.Prelude.{◌≡◌, ◌≢◌, ◌⊎◌, Bool, true, false, ℕ, List, [], ◌∷◌, ◌++◌, Option, None, Some}
 use Rattle.std.specs.List.{AllByRecursion}
 use Rattle.erl_term.specs.Lines.{is_one_line}
 use Rattle.erl_term.specs.Value.{Value}
@@ -14,7 +14,7 @@ use Rattle.node_store.specs.Image.{holds_a_store, IsImageOf}
 use Rattle.rel_handler.specs.Refusals.{IsBootRefusal}
 use Rattle.rel_handler.specs.declared.error.BootError.{BootError}
 use Rattle.rel_handler.specs.declared.error.BootError.TheVariants as boot_error
-use Rattle.node_store.specs.Events.{Events, Stored, at_rest_since, BeginWith}
+use Rattle.node_store.specs.Events.{Known, Events, Stored, at_rest_since, BeginWith}
 use Rattle.session_input.specs.Commands.{Command}
 use Rattle.session_input.specs.Commands.Command.{create, set_unpacked, relup}
 use Rattle.relup_command.specs.Answer.{AreLinePaths}
@@ -22,14 +22,16 @@ use Rattle.rel_session.specs.Device.{Device, HasFailed}
 use Rattle.session_input.specs.Feed.{Feed}
 use Rattle.session_input.specs.Feed.Feed.{next}
 use Rattle.rel_unpack.specs.Source.{Source, GivesOne, GivesEach}
-use Rattle.rel_session.specs.Files.{Files}
+use Rattle.rel_session.specs.Files.{Files, no_files}
 use Rattle.node_answer.specs.Lines.{installed_text}
 use Rattle.rel_session.specs.Node.{Place, Reply, releases_after}
 use Rattle.rel_session.specs.Node.Place.{raw, closed, running, dead}
 use Rattle.node_answer.specs.Refusals.{refusal_line}
 use Rattle.rel_session.specs.Booting.{boot_line}
 use Rattle.node_answer.specs.Refusals.NodeRefusal.{device, full}
-use Rattle.rel_session.specs.Run.{EndsInFull, Starts, Holds, Executes, Replies, Ending, answers_of, commands_in, events_of, IsRun}
+use Rattle.rel_session.specs.Run.{EndsInFull, Starts, Holds, Executes, Replies, Ending, IsReached, IsTextOf, answers_of, commands_in, events_of, IsRun}
+use Rattle.rel_session.specs.Session.{IsSession}
+use Rattle.session_laws.specs.KeptEvents.{IsKnownAfterAll, MayBegin, RunsWith}
 use Rattle.session_laws.specs.RunLaws.{MayBe, NoneFails}
 use Rattle.rel_session.specs.Transition.{Transition}
 
@@ -253,6 +255,57 @@ DeterminesOneRun base =
     → HasVersionsAt p → HasModuleVersionsAt p → HaveLinePaths commands → EndsInFull a → EndsInFull b → RestartAlike first second
     → Replies base files p commands a first → Replies base files p commands b second → answers_of first ≡ answers_of second
     → (a ≡ b) × AreSame first second
+
+-- none of these replies, or one
+abbrev pub IsOneOrNone : List Reply → Type 0
+IsOneOrNone [] = Unit {0}
+IsOneOrNone (a ∷ more) = more ≡ []
+
+-- A text shows these replies: their answers stand whole in it, one after another, but for that of the last one where the session
+-- broke off within that answer or its command. A part of that one stands at the end, or nothing.
+pub record Shows (text : List ℕ) (replies : List Reply) : Type 0 where
+  pub whole : List Reply
+  pub broken : List Reply
+  pub are : replies ≡ whole ++ broken
+  pub one : IsOneOrNone broken
+  pub part : List ℕ
+  pub left : List ℕ
+  pub written : text ≡ answers_of whole ++ part
+  pub answer : answers_of broken ≡ part ++ left
+  pub not_whole : left ≡ [] → part ≡ []
+
+-- A text determines the events of the answers that stand whole in it, wherever its session broke off. Two runs over the same
+-- commands from one place which have written the same, however they ended, have the same whole answers, as many, and the same
+-- events with them, acknowledged and in doubt, command by command. Each has followed at most one command more. The premises
+-- are those of `DeterminesOneRun`, but for an end.
+abbrev pub ShowsOneRun : Source → Type 0
+ShowsOneRun base =
+    GivesOne base → (files : Files) (p : Place) (commands : Feed Command) (a b : Ending) (first second : List Reply) (text : List ℕ)
+    → HasVersionsAt p → HasModuleVersionsAt p → HaveLinePaths commands → RestartAlike first second
+    → Replies base files p commands a first → Replies base files p commands b second → IsTextOf a first text → IsTextOf b second text
+    → (one : Shows text first) × (two : Shows text second) × AreSame one.whole two.whole
+
+-- The text that a session has written shows its replies.
+abbrev pub EachTextShows : Source → Type 0
+EachTextShows base =
+    (files : Files) (p : Place) (commands : Feed Command) (ending : Ending) (replies : List Reply) (text : List ℕ)
+    → Replies base files p commands ending replies → IsTextOf ending replies text → Shows text replies
+
+-- the events of the command within which a session broke off, or none
+abbrev pub broken_events : List Reply → Events
+broken_events [] = []
+broken_events (a ∷ more) = events_of a.outcome
+
+-- The answers that stand whole in a text tell what is known of the events on the disk that its session has handed back. A crash
+-- leaves there the list of a prefix of these with every acknowledged one, and of none, some or all of the events of one command
+-- more after them, in order: that within which the session broke off.
+abbrev pub TellsEvents : {D : Type 0} → Device D → Source → Type 0
+TellsEvents {D} v base =
+    (ending : Ending) (taken : ℕ) (input written written_then : Option (List ℕ)) (old new : D) (s : Stored)
+    → IsSession v base no_files ending taken input old new written written_then → MayBegin v s old
+    → RunsWith v base ending taken (closed s) input old new written written_then (λ text replies.
+    (shown : Shows text replies) → (k : Known) × IsKnownAfterAll s.known shown.whole k
+    × ((c : List ℕ) → v.may_leave new c → IsReached k (broken_events shown.broken) c))
 
 -- The commands of an input have such paths.
 abbrev pub ReadsLinePaths : Type 0

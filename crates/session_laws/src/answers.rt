@@ -2,7 +2,7 @@
 //! rests on.
 ghost use Rattle.std.specs.Prelude.{[]};
 ghost use Rattle.rel_session.specs.Node.Place.{raw};
-ghost use Rattle.session_laws.specs.AnswerLaws.{HaveOneAnswer, HaveOneText, EachHasAnAnswer, HaveOneList, ListDecidesAnswers, ListDecidesText, DeterminesOneRun, ReadsLinePaths, KeepsVersions, RepliesKeepVersions};
+ghost use Rattle.session_laws.specs.AnswerLaws.{HaveOneAnswer, HaveOneText, EachHasAnAnswer, HaveOneList, ListDecidesAnswers, ListDecidesText, DeterminesOneRun, EachTextShows, ShowsOneRun, TellsEvents, ReadsLinePaths, KeepsVersions, RepliesKeepVersions};
 ghost use Rattle.session_laws.specs.LawsBelow.{BootLaws};
 
 use file_source::Files;
@@ -54,4 +54,17 @@ pub fn a_text_determines_one_run<D: Disk, F: Files>()
     ensures paths { ReadsLinePaths }
     ensures versions { KeepsVersions D.Disk }
     ensures replies { (files : F) → RepliesKeepVersions D.Disk (F.gives files) }
+{}
+
+/// The whole answers of a text determine which events are acknowledged, wherever its session broke off, and at most the events of
+/// the next command are in doubt.
+///
+/// Two runs of the same commands from one place which have written the same text have the same whole answers in it, and the same
+/// events with them, acknowledged and in doubt, command by command. Each has followed at most one command more, of whose answer a
+/// part stands at the end, or nothing. The premises are those of `a_text_determines_one_run`, without an end. On the disk that is
+/// handed back a crash leaves the events that these answers tell of, and none, some or all of those of that one command.
+pub fn a_broken_text_determines_its_events<D: Disk, F: Files>()
+    ensures shown { (files : F) → EachTextShows (F.gives files) }
+    ensures one { (files : F) → ShowsOneRun (F.gives files) }
+    ensures events { (files : F) → TellsEvents D.Disk (F.gives files) }
 {}
