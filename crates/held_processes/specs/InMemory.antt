@@ -9,7 +9,7 @@ use Rattle.held_processes.specs.declared.steps.Step.TheVariants.{Suspend, Load, 
 use Rattle.held_processes.specs.Course as course
 use Rattle.held_processes.specs.Course.{Courses, ModulesBySlot, Operation, on_all, on_module, runs}
 use Rattle.proc_table.specs.Agrees.{slots}
-use Rattle.sup_tree.specs.Tree.{module_in}
+use Rattle.sup_tree.specs.Tree.{NotesUsers, module_in}
 use Rattle.std.specs.Option.{option_map_or}
 use Rattle.held_processes.specs.Following.{HeldForm}
 use Rattle.held_processes.specs.Course.Operation.{suspend, load, resume, stop, start, pass_point}
@@ -45,6 +45,11 @@ behind_release which.UntilPoint cs = on_all pass_point cs
 abbrev pub is_until_point : course.Hold → Bool
 is_until_point until_point = true
 is_until_point h = false
+
+-- Where the processes of a module are let go, each slot is noted as theirs or not.
+abbrev pub NotesUsersOf : Which → List Bool → Type 0
+NotesUsersOf (which.Of users) used = NotesUsers users.module.now users.tree.now used
+NotesUsersOf which.UntilPoint used = Unit {0}
 
 -- whether the process of a slot is let go
 abbrev pub is_released : Which → ℕ → Option HeldForm → Bool

@@ -8,7 +8,7 @@ ghost use Rattle.proc_table.specs.Views.{seen};
 ghost use Rattle.held_processes.specs.Course.{Courses, on_all, on_module, opening};
 ghost use Rattle.held_processes.specs.Course.Operation.{suspend, load, resume, stop, start, pass_point, finish};
 ghost use Rattle.held_processes.specs.Following.{AllFollow, AreLeft, AreLonger, Followed, HoldsNothing};
-ghost use Rattle.held_processes.specs.InMemory.{AsksAt, behind_release, is_released, operation_of};
+ghost use Rattle.held_processes.specs.InMemory.{AsksAt, NotesUsersOf, behind_release, is_released, operation_of};
 ghost use Rattle.held_processes.specs.Operations.{AreLookedAt, Changes, IsDone, ReportsHeldUser, give_up_at, has_free_user, modules_by_slot, uses_up, values_seen};
 
 use crate::Users;
@@ -16,7 +16,7 @@ use crate::held_process::HeldProcess;
 use crate::steps::{self, Step, Undone};
 use erl_term::Term;
 use mod_table::{Old, Worker};
-use proc_table::{HandlerSeat, Pid, ProcTable, Value};
+use proc_table::{HandlerSeat, Pid, ProcTable, SLOTS, Value};
 use std::alloc::{AllocError, Global};
 use std::marker::Model;
 use std::sync::Wait;
@@ -114,8 +114,9 @@ impl HeldProcesses {
         ensures { Changes (modules_by_slot users.now.tree.now) users.now.module.now
             (old_of old.now) (value_of extra.now) self.old result self.new }
     {
+        let used = users.by_slot();
         for slot in 0..self.places.len() {
-            if users.include(slot) && !steps::change(&mut self.places[slot], old, extra) {
+            if users.include(&used, slot) && !steps::change(&mut self.places[slot], old, extra) {
                 return Err(Undone { slot });
             }
         }
@@ -127,8 +128,9 @@ impl HeldProcesses {
         ensures { ReportsHeldUser (modules_by_slot users.now.tree.now) users.now.module.now
             self.now result }
     {
+        let used = users.by_slot();
         for slot in 0..self.places.len() {
-            if self.places[slot].is_some() && users.include(slot) {
+            if self.places[slot].is_some() && users.include(&used, slot) {
                 return true;
             }
         }
@@ -155,8 +157,9 @@ impl HeldProcesses {
             followed.courses seat.old.view seat.new.view }
         ensures longer { AreLonger seat.old.view seat.new.view }
     {
+        let used = users.by_slot();
         for slot in 0..self.places.len() {
-            if users.include(slot) {
+            if users.include(&used, slot) {
                 let pid = Pid { slot, round: 0 };
                 if steps::is_up(rt, table, seat, pid, &self.places[slot]) {
                     return true;
@@ -318,8 +321,9 @@ impl HeldProcesses {
             users.now.module.now followed.courses e.slot) }
         ensures longer { AreLonger seat.old.view seat.new.view }
     {
+        let used = users.by_slot();
         for slot in 0..self.places.len() {
-            if users.include(slot) {
+            if users.include(&used, slot) {
                 let pid = Pid { slot, round: 0 };
                 match steps::perform(rt, table, seat, pid, &mut self.places[slot], step) {
                     Ok(()) => {}
@@ -339,8 +343,9 @@ impl HeldProcesses {
             self.new seat.new.view }
         ensures longer { AreLonger seat.old.view seat.new.view }
     {
+        let used = which.users_by_slot();
         for slot in 0..self.places.len() {
-            if which.includes(slot, &self.places[slot]) {
+            if which.includes(&used, slot, &self.places[slot]) {
                 steps::let_go(table, seat, slot, &mut self.places[slot]);
             }
         }
@@ -348,11 +353,22 @@ impl HeldProcesses {
 }
 
 impl Which<'_> {
-    fn includes(self, slot: usize, place: &Option<HeldProcess>) -> bool
+    // Which slots have a process of the module whose processes are let go.
+    fn users_by_slot(self) -> [bool; SLOTS]
+        ensures { NotesUsersOf self.entry result }
+    {
+        match self {
+            Which::Of(users) => users.by_slot(),
+            Which::UntilPoint => [false; SLOTS],
+        }
+    }
+
+    fn includes(self, used: &[bool; SLOTS], slot: usize, place: &Option<HeldProcess>) -> bool
+        requires { NotesUsersOf self used.now }
         ensures { result ≡ is_released self.entry slot place.now }
     {
         match self {
-            Which::Of(users) => users.include(slot),
+            Which::Of(users) => users.include(used, slot),
             Which::UntilPoint => match place {
                 Some(process) => process.waits_for_point(),
                 None => false,

@@ -136,8 +136,9 @@ fn worker_in<'a>(fetched: &'a Loaded, name: &str) -> Option<&'a Worker>
 fn is_used(users: &Users<'_>) -> bool
     ensures { result ≡ is_used (modules_by_slot users.now.tree.now) users.now.module.now }
 {
+    let used = users.by_slot();
     for slot in 0..Pid::count() {
-        if users.include(slot) {
+        if users.include(&used, slot) {
             return true;
         }
     }

@@ -3,3 +3,4 @@ pub mod EndLemmas
 pub mod ChangeLemmas
 pub mod PlaceLemmas
 pub mod KeepLemmas
+pub mod FindLemmas

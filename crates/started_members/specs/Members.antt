@@ -1,7 +1,7 @@
 -- The members of started applications, and their processes.
-use Rattle.std.specs.Prelude.{ℕ, ◌==◌, Bool, false, List, [], ◌∷◌, map, nat_le, Option, Some, None, if◌then◌else◌}
+use Rattle.std.specs.Prelude.{ℕ, ◌≡◌, ◌==◌, Bool, false, List, [], ◌∷◌, map, nat_le, slice_index_or, Option, Some, None, if◌then◌else◌}
 use Rattle.std.specs.List.{find, filter, list_any}
-use Rattle.std.specs.Option.{option_map}
+use Rattle.std.specs.Option.{option_map, option_map_or}
 use Rattle.std.specs.Str.{bytes_eq}
 use Rattle.proc_table.specs.declared.pid.Pid.{Pid}
 use Rattle.started_members.specs.declared.member.Member.{Member}
@@ -47,6 +47,14 @@ using_among module' ps = pids_of (filter (λ (p : StartedProcess). bytes_eq p.mo
 -- the module that the process of these runs which began in this slot, where one did
 abbrev pub module_among : ℕ → List StartedProcess → Option (List ℕ)
 module_among slot ps = option_map (λ (p : StartedProcess). p.module) (find (λ (p : StartedProcess). p.pid.slot == slot) ps)
+
+-- The note of a slot: whether the first of these processes that began in it runs this module. Where none did, its earlier note.
+abbrev pub note_of : List ℕ → List StartedProcess → List Bool → ℕ → Bool
+note_of name ps before p = option_map_or (bytes_eq name) (module_among p ps) (slice_index_or before p false)
+
+-- Each slot has its note.
+abbrev pub Notes : List ℕ → List StartedProcess → List Bool → List Bool → Type 0
+Notes name ps before after = (p : ℕ) → slice_index_or after p false ≡ note_of name ps before p
 
 -- whether a supervisor of this module stands for a member
 abbrev pub is_supervisor : List ℕ → MemberState → Bool

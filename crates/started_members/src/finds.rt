@@ -1,10 +1,11 @@
 //! What is looked up among members.
 ghost use Rattle.std.specs.Prelude.{◌≡◌, ◌++◌, OnOk, Some, length};
 ghost use Rattle.std.specs.Option.{option_map};
-ghost use Rattle.started_members.specs.Members.{lower, lowest_with, module_among, processes_among, supervises_in, using_among, supervisors_in};
+ghost use Rattle.proc_table.specs.Agrees.{slots};
+ghost use Rattle.started_members.specs.Members.{lower, Notes, lowest_with, module_among, processes_among, supervises_in, using_among, supervisors_in};
 
 use crate::Member;
-use proc_table::Pid;
+use proc_table::{Pid, SLOTS};
 use std::alloc::AllocError;
 
 /// The process with this id among those of these members; of several the one in the lowest slot.
@@ -59,6 +60,21 @@ pub fn module_among(members: &[Member], slot: usize) -> Option<&str>
         }
     }
     None
+}
+
+/// Notes each slot in which a process of these members began: whether that process runs this module. Of several that began in one
+/// slot the first counts. Other slots keep their notes.
+pub fn note_users(used: &mut [bool; SLOTS], members: &[Member], module: &str)
+    requires { length used.old ≡ slots }
+    ensures long { length used.new ≡ slots }
+    ensures noted { Notes «module».now (processes_among members.now) used.old used.new }
+{
+    // The first process of a slot is noted last.
+    for place in (0..members.len()).rev() {
+        if let Some(process) = members[place].process() {
+            used[process.pid.slot] = module == process.module.as_str();
+        }
+    }
 }
 
 /// Whether a supervisor of this module stands for one of these members.

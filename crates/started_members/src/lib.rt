@@ -33,7 +33,9 @@ pub use changes::changed_members;
 pub use children::{delete, terminate};
 pub use copies::copy_members;
 pub use ends::{end_all, end_member};
-pub use finds::{add_using, module_among, process_with, supervises_in, supervisor_count};
+pub use finds::{
+    add_using, module_among, note_users, process_with, supervises_in, supervisor_count,
+};
 pub use looks::{Stay, member_stays};
 pub use member::{Member, MemberState, StartedProcess};
 pub use mod_table::{Child, Super};

@@ -1,5 +1,5 @@
 -- The applications that are started, and their members.
-use Rattle.std.specs.Prelude.{ℕ, Bool, List, [], ◌∷◌, Option, if◌then◌else◌}
+use Rattle.std.specs.Prelude.{◌≡◌, ℕ, Bool, false, List, [], ◌∷◌, slice_index_or, Option, if◌then◌else◌}
 use Rattle.std.proofs.Common.{refl}
 use Rattle.std.specs.Coded.{Coded, coded×, coded_ℕ, coded_list, code_by}
 use Rattle.std.specs.List.{find, flat_map, list_any}
@@ -59,6 +59,10 @@ all_processes apps = flat_map app_processes apps
 -- the module that the process runs which began in this slot, where one did
 abbrev pub module_in : ℕ → List App → Option (List ℕ)
 module_in slot apps = module_among slot (all_processes apps)
+
+-- Each slot is noted: whether the process that began in it runs this module.
+abbrev pub NotesUsers : List ℕ → List App → List Bool → Type 0
+NotesUsers name apps used = (p : ℕ) → slice_index_or used p false ≡ option_map_or (bytes_eq name) (module_in p apps) false
 
 -- whether a started application has a supervisor of this module
 abbrev pub supervises : List ℕ → List App → Bool

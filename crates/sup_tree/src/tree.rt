@@ -1,10 +1,10 @@
 //! The tree of started applications.
 ghost use Rattle.std.specs.Prelude.{◌≡◌, IfOk, Some, is_some, []};
 ghost use Rattle.std.specs.Option.{option_map};
-ghost use Rattle.sup_tree.specs.Tree.{app_of, app_named, find_process, members_of, module_in, processes_using, supervises};
+ghost use Rattle.sup_tree.specs.Tree.{app_of, app_named, find_process, members_of, NotesUsers, module_in, processes_using, supervises};
 
-use proc_table::{Name, Pid};
-use started_members::{Member, add_using, module_among, process_with, supervises_in};
+use proc_table::{Name, Pid, SLOTS};
+use started_members::{Member, add_using, module_among, note_users, process_with, supervises_in};
 use std::alloc::{AllocError, Global};
 use std::marker::Model;
 
@@ -90,6 +90,17 @@ impl Tree {
             }
         }
         None
+    }
+
+    /// Which slots have a process that runs this module, found in one walk through all members. It takes no memory.
+    pub fn users_by_slot(&self, module: &str) -> [bool; SLOTS]
+        ensures { NotesUsers «module».now self.now result }
+    {
+        let mut used = [false; SLOTS];
+        for place in (0..self.apps.len()).rev() {
+            note_users(&mut used, self.apps[place].members.as_slice(), module);
+        }
+        used
     }
 
     /// Whether a started application has a supervisor of this module.
