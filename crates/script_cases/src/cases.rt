@@ -5,6 +5,7 @@ ghost use Rattle.relup_instruction.specs.Instruction.{script_of};
 ghost use Rattle.relup_exec.specs.Outcome.{Start};
 ghost use Rattle.relup_script.specs.Script.{IsRunnable};
 
+use crate::beside::push_beside;
 use crate::held::push_way;
 use crate::node::{
     other_libraries, push_call, push_calls, release_list, running_libraries, script,
@@ -17,6 +18,7 @@ use relup_instruction::Instr;
 use relup_script::check;
 use std::alloc::{AllocError, Global};
 use std::sync::Wait;
+use std::thread::Threads;
 use sup_tree::{MemberState, Tree};
 use text_cases::Answer;
 
@@ -24,9 +26,10 @@ use text_cases::Answer;
 /// answer is what the calls answer, whether the script can't be run, is refused, or is armed, and then, by the mode: `before`,
 /// what a call is answered while it is armed, and, once it was rolled back, what the further calls answer; `whole`, which
 /// instruction after the point fails, or that the script is done and which modules are loaded then, and what the further calls
-/// answer; `tree`, the same, and after it the ids of the members of `ch_app`, with `-` before one for which nothing stands. The
-/// modes of single operations are those of [`push_way`].
-pub(crate) fn answer<R: Wait>(
+/// answer; `tree`, the same, and after it the ids of the members of `ch_app`, with `-` before one for which nothing stands.
+/// `beside`: a script that is refused while a client calls, as in [`push_beside`]. The modes of single operations are those of
+/// [`push_way`].
+pub(crate) fn answer<R: Threads + Wait + Sync>(
     rt: &R,
     alloc: Global,
     mode: &str,
@@ -38,6 +41,7 @@ pub(crate) fn answer<R: Wait>(
         "before" => push_case(rt, alloc, Mode::Before, words, &mut answer),
         "whole" => push_case(rt, alloc, Mode::Whole, words, &mut answer),
         "tree" => push_case(rt, alloc, Mode::Tree, words, &mut answer),
+        "beside" => push_beside(rt, alloc, words, &mut answer),
         _ => push_way(rt, alloc, mode, words, &mut answer),
     }
     answer.finish()
@@ -247,7 +251,14 @@ fn push_loaded(alloc: Global, loaded: &Loaded, answer: &mut Answer) {
     }
 }
 
-fn push_stopped(alloc: Global, how: &str, instr: usize, cause: &Cause, answer: &mut Answer) {
+/// Appends how a script was stopped, at which instruction, and why.
+pub(crate) fn push_stopped(
+    alloc: Global,
+    how: &str,
+    instr: usize,
+    cause: &Cause,
+    answer: &mut Answer,
+) {
     answer.push(how);
     answer.push_number(instr as u64);
     answer.push(" ");

@@ -3,6 +3,7 @@
 #![tactic(auto)]
 
 mod apps;
+mod beside;
 mod cases;
 mod held;
 mod node;
