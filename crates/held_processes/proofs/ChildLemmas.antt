@@ -40,7 +40,7 @@ use Rattle.held_processes.proofs.FollowLemmas.{at_slot, follow_same, past_of}
 use Rattle.held_processes.proofs.LongerLemmas.{end_longer, look_longer, same_longer}
 use Rattle.held_processes.proofs.LookLemmas.{looked_at}
 use Rattle.held_processes.proofs.SlotLemmas.{gives_back, longer_both, longer_still, looked_value, free_case, held_case}
-use Rattle.held_processes.proofs.TakenLemmas.{IsFoundMore, child_later, ended_found, look_taken, quiet_taken, same_found}
+use Rattle.held_processes.proofs.TakenLemmas.{child_later, look_taken, quiet_taken}
 
 pub terminates_in : {X E : Type 0} (followed : Followed) (hs : HeldSlots) (v : View) (apps : List App) (name id : List ℕ) (r : Result X E) (apps' : List App) (w : View) → has_one_supervisor name apps ≡ true
     → AllFollow followed.first (held_ended (pids_of (processes_among (child_members name id apps))) followed.courses) hs v → TerminatesChild name id apps v r apps' w
@@ -140,8 +140,8 @@ pub seen_where : (first : View) (cs : Courses) (hs : HeldSlots) (v : View) → A
 seen_where first cs hs v f = λ p inside. (f.each p inside).stand
 
 -- so it is of one that doesn't stay where the handler has seen more since then
-pub later_stay : (first : View) (stay : Stay) (cs : Courses) (o : Option Place) (b v w : View) → AreLonger v w → IsFoundMore v w → IsStay first stay cs o false b v → IsStay first stay cs o false b w
-later_stay first stay cs o b v w more found is = (is.0, is.1, is.2, is.3, longer_both is.0 v w is.4 more, child_later cs o b v w is.5 found, λ stays. absurd (true≢false (sym stays)))
+pub later_stay : (first : View) (stay : Stay) (cs : Courses) (o : Option Place) (b v w : View) → AreLonger v w → IsStay first stay cs o false b v → IsStay first stay cs o false b w
+later_stay first stay cs o b v w more is = (is.0, is.1, is.2, is.3, longer_both is.0 v w is.4 more, child_later cs o b v w is.5 more, λ stays. absurd (true≢false (sym stays)))
 
 -- What stands for a child was given up, unless it stays.
 StateEnded : Bool → MemberState → View → View → Type 0
@@ -197,7 +197,7 @@ free_given first stay cs q hs v u look w same before hold f true looked ended =
       reported = at.1;
       since = longer_both v u look before (look_longer stay (Process q) true u look looked);
       longer = same_longer look w ended;
-      taken = λ _. subst (λ x. HasTaken q.pid.slot x w) same (look_taken stay q.pid true u look w looked (same_found look w ended));
+      taken = λ _. subst (λ x. HasTaken q.pid.slot x w) same (look_taken stay q.pid true u look w looked (same_longer look w ended));
       now = λ _. subst (λ x. state_stays stay (now_in (values_seen x) cs) (Process q) ≡ true) (sym ended) (sym at.1);
       follow = subst (AllFollow first cs hs) (sym ended) at.0;
     }
@@ -209,7 +209,7 @@ free_given first stay cs q hs v u look w same before hold f false looked ended =
       reported = at.1;
       since = longer_both v u look before (look_longer stay (Process q) false u look looked);
       longer = end_longer (Some q) look w ended;
-      taken = λ _. subst (λ x. HasTaken q.pid.slot x w) same (look_taken stay q.pid false u look w looked (ended_found (Some q) look w ended));
+      taken = λ _. subst (λ x. HasTaken q.pid.slot x w) same (look_taken stay q.pid false u look w looked (end_longer (Some q) look w ended));
       now = λ stays. absurd (true≢false (sym stays));
       follow = ended_follow first ds hs look q.pid w (follow_same first cs ds hs look (λ p inside. sym (left_alone q.pid.slot cs hold p)) at.0) (free_there q.pid.slot cs) ended;
     }

@@ -11,12 +11,12 @@ use Rattle.proc_table.specs.Views.{seen}
 use Rattle.proc_table.specs.Waits.{HasTaken}
 use Rattle.held_processes.specs.Course.{Courses, ModulesBySlot, runs}
 use Rattle.held_processes.specs.Course.Hold.{not_held}
-use Rattle.held_processes.specs.Following.{AllFollow, Follows, HeldForm, HeldSlots}
+use Rattle.held_processes.specs.Following.{AllFollow, AreLonger, Follows, HeldForm, HeldSlots}
 use Rattle.held_processes.specs.Operations.{AreLookedAt, is_free_user, is_held, is_up_user, values_seen}
 use Rattle.held_processes.specs.Slots.{IsLookedAt, Steps, value_with}
 use Rattle.held_processes.proofs.AnyLemmas.{any_found}
 use Rattle.held_processes.proofs.FollowLemmas.{past_of}
-use Rattle.held_processes.proofs.TakenLemmas.{IsFoundMore, free_user, taken_later, taken_since}
+use Rattle.held_processes.proofs.TakenLemmas.{free_user, taken_later, taken_since}
 
 -- all follow after a look at one slot
 pub looked_at : (first : View) (cs : Courses) (hs : HeldSlots) (v w : View) (p : ℕ) (place : Option HeldForm) → AllFollow first cs hs v → place ≡ slice_index_or hs p None
@@ -48,11 +48,11 @@ abbrev pub AreTaken : ModulesBySlot → List ℕ → Courses → View → ℕ �
 AreTaken users name cs v n w = (p : ℕ) → p < n → is_free_user users name cs p ≡ true → HasTaken p v w
 
 -- after a look at one more
-pub one_taken : (first : View) (users : ModulesBySlot) (name : List ℕ) (cs : Courses) (v u w : View) (n : ℕ) → IsFoundMore v u → IsLookedAt (past_of first cs n) n u w → AreTaken users name cs v n u
+pub one_taken : (first : View) (users : ModulesBySlot) (name : List ℕ) (cs : Courses) (v u w : View) (n : ℕ) → AreLonger v u → IsLookedAt (past_of first cs n) n u w → AreLonger u w → AreTaken users name cs v n u
     → AreTaken users name cs v (n + 1) w
-one_taken first users name cs v u w n more looked so_far p below free = dite (ℕ_discrete p n)
-    (λ is. subst (λ q. HasTaken q v w) (sym is) (taken_since n v u w more (looked.taken (subst (λ q. (cs q).hold ≡ not_held) is (free_user users name cs p free)))))
-    (λ ne. taken_later p v u w (so_far p (omega (arith, below, ne)) free) looked.found)
+one_taken first users name cs v u w n more looked later so_far p below free = dite (ℕ_discrete p n)
+    (λ is. subst (λ q. HasTaken q v w) (sym is) (taken_since n v u w more (looked (subst (λ q. (cs q).hold ≡ not_held) is (free_user users name cs p free)))))
+    (λ ne. taken_later p v u w (so_far p (omega (arith, below, ne)) free) later)
 
 -- and after one that is no process of the module
 pub none_taken : (users : ModulesBySlot) (name : List ℕ) (cs : Courses) (v u : View) (n : ℕ) → runs name (users n) ≡ false → AreTaken users name cs v n u → AreTaken users name cs v (n + 1) u
@@ -61,8 +61,8 @@ none_taken users name cs v u n none so_far p below free = dite (ℕ_discrete p n
     (λ ne. so_far p (omega (arith, below, ne)) free)
 
 -- up to one that is up
-pub taken_up_to : (first : View) (users : ModulesBySlot) (name : List ℕ) (cs : Courses) (v u w : View) (n : ℕ) → IsFoundMore v u → IsLookedAt (past_of first cs n) n u w → AreTaken users name cs v n u
+pub taken_up_to : (first : View) (users : ModulesBySlot) (name : List ℕ) (cs : Courses) (v u w : View) (n : ℕ) → AreLonger v u → IsLookedAt (past_of first cs n) n u w → AreLonger u w → AreTaken users name cs v n u
     → is_up_user (values_seen w) users name cs n ≡ true → AreLookedAt users name cs v w
-taken_up_to first users name cs v u w n more looked so_far up p inside free none =
+taken_up_to first users name cs v u w n more looked later so_far up p inside free none =
     ⊎_elim (λ (beyond : n < p). absurd (true≢false (sym (any_found (is_up_user (values_seen w) users name cs) p n beyond up) ∙ none)))
-    (λ (near : p ≤ n). one_taken first users name cs v u w n more looked so_far p (omega (arith, near)) free) (cases_lt n p)
+    (λ (near : p ≤ n). one_taken first users name cs v u w n more looked later so_far p (omega (arith, near)) free) (cases_lt n p)

@@ -37,7 +37,7 @@ use Rattle.held_processes.proofs.FollowLemmas.{follow_same}
 use Rattle.held_processes.proofs.LongerLemmas.{began_longer, look_longer}
 use Rattle.held_processes.proofs.RoundLemmas.{AllLegal, free_is}
 use Rattle.held_processes.proofs.SlotLemmas.{longer_both, longer_still}
-use Rattle.held_processes.proofs.TakenLemmas.{began_found, look_taken, same_found}
+use Rattle.held_processes.proofs.TakenLemmas.{look_taken}
 
 -- an end adds nothing to a process that doesn't stand
 ended_nothing : (values : Values) (pid : Pid) (cs : Courses) → stands pid (known values cs pid.slot) ≡ false → (p : ℕ) → ended_at values pid cs p ≡ cs p
@@ -92,7 +92,7 @@ process_looked first stay cs q hs hs' v u look NotHeld not before f longer looke
       reported = at.1;
       since = longer_both v u look longer (look_longer stay (Process q) false u look looked);
       longer = longer_still look;
-      taken = λ _. subst (λ x. HasTaken q.pid.slot x look) f.2 (look_taken stay q.pid false u look look looked (same_found look look refl));
+      taken = λ _. subst (λ x. HasTaken q.pid.slot x look) f.2 (look_taken stay q.pid false u look look looked (longer_still look));
       follow = at.0;
     }
 
@@ -146,8 +146,7 @@ begun_in followed hs hs' v u look w apps apps' name id tables p e not one there 
       one = one;
       place = p;
       there = there;
-      stay = later_stay first UpOrTemporary followed.courses (Some p) v t.after_end w (began_longer app starts t.after_end t.processes w t.began)
-          (began_found app starts t.after_end t.processes w t.began) is.stay_is;
+      stay = later_stay first UpOrTemporary followed.courses (Some p) v t.after_end w (began_longer app starts t.after_end t.processes w t.began) is.stay_is;
       sound = t.sound;
       room = subst (λ n. length starts ≤ n) (free_is first cs hs' t.after_end is.follow legal_now) (began_in_room app starts t.after_end t.processes w t.began);
       tree = t.is ∙ ap (λ (pids : List Pid). apps_with (in_place (members_at (restart_members tables p.child) pids)) name id apps) began.places;

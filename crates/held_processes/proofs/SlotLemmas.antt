@@ -23,6 +23,7 @@ use Rattle.held_processes.specs.Course.Hold.{not_held, until_point, until_resume
 use Rattle.held_processes.specs.Following.{AreLonger, AreStrangers, Stand, HeldForm, IsHeld, IsFree}
 use Rattle.held_processes.specs.Slots.{SlotPast, IsFollowed, Steps, dropped, taken, value_with}
 use Rattle.held_processes.proofs.StandLemmas.{stand_more, stand_block}
+use Rattle.held_processes.proofs.TakenLemmas.{taken_at_last, taken_found}
 
 -- nothing happened
 pub stays : (p : ℕ) (v : View) → Elsewhere p v v
@@ -84,24 +85,37 @@ lets_go past p c v w h f r = record {
 
 -- what the handler had seen stays in front where nothing happens, and through two steps
 pub longer_still : (v : View) → AreLonger v v
-longer_still v = λ p. prefix_self (seen v p)
+longer_still v = record { histories = λ p. prefix_self (seen v p); takes = prefix_self v.found }
 
 pub longer_both : (v u w : View) → AreLonger v u → AreLonger u w → AreLonger v w
-longer_both v u w a b = λ p. prefix_trans (seen v p) (seen u p) (seen w p) (a p) (b p)
+longer_both v u w a b = record {
+  histories = λ p. prefix_trans (seen v p) (seen u p) (seen w p) (a.histories p) (b.histories p);
+  takes = prefix_trans v.found u.found w.found a.takes b.takes;
+}
+
+-- so it does where the same was seen, and no slot was taken
+pub longer_same : (v w : View) → ((p : ℕ) → seen w p ≡ seen v p) → w.found ≡ v.found → AreLonger v w
+longer_same v w same found = record {
+  histories = λ p. subst (IsPrefix (seen v p)) (sym (same p)) (prefix_self (seen v p));
+  takes = subst (IsPrefix v.found) (sym found) (prefix_self v.found);
+}
 
 -- so it does where entries come in one slot alone
-longer_there : (p : ℕ) (es : List HistoryEntry) (v w : View) → seen w p ≡ seen v p ++ es → Elsewhere p v w → AreLonger v w
-longer_there p es v w here elsewhere = λ q. dite (ℕ_discrete q p)
-    (λ is. subst (λ z. IsPrefix (seen v z) (seen w z)) (sym is) (es, sym here))
-    (λ ne. ([], append-nil (seen v q) ∙ sym (ap (λ (x : Part). x.seen) (elsewhere.others q ne))))
+longer_there : (p : ℕ) (es : List HistoryEntry) (v w : View) → seen w p ≡ seen v p ++ es → Elsewhere p v w → IsPrefix v.found w.found → AreLonger v w
+longer_there p es v w here elsewhere takes = record {
+  histories = λ q. dite (ℕ_discrete q p)
+      (λ is. subst (λ z. IsPrefix (seen v z) (seen w z)) (sym is) (es, sym here))
+      (λ ne. ([], append-nil (seen v q) ∙ sym (ap (λ (x : Part). x.seen) (elsewhere.others q ne))));
+  takes = takes;
+}
 
 -- so it does where a slot is taken
 pub taken_longer : (p : ℕ) (v : View) (h : Holding) (u : View) → HeldAtLast p v h u → AreLonger v u
-taken_longer p v h u at = let s = since p v h u at in longer_there p s.between v u s.seen_is s.elsewhere
+taken_longer p v h u at = let s = since p v h u at in longer_there p s.between v u s.seen_is s.elsewhere (taken_found p v u (taken_at_last p v h u at))
 
 -- so it does where a slot is given back, also if it was held for that
 pub released_longer : (p : ℕ) (es : List HistoryEntry) (v w : View) → Released p es v w → AreLonger v w
-released_longer p es v w r = longer_there p es v w r.seen_is (elsewhere_left p es v w r)
+released_longer p es v w r = longer_there p es v w r.seen_is (elsewhere_left p es v w r) (subst (IsPrefix v.found) (sym r.found) (prefix_self v.found))
 
 pub alone_longer : (p q : ℕ) (es : List HistoryEntry) (v : View) (h : Holding) (u w : View) → HeldAtLast p v h u → Released q es u w → AreLonger v w
 alone_longer p q es v h u w at r = longer_both v u w (taken_longer p v h u at) (released_longer q es u w r)

@@ -1,76 +1,52 @@
--- Takes of slots that a call makes: what they found stays in front, and the slot of a process that is looked at is among them.
+-- Takes of slots that a call makes: the slot of a process that is looked at is among them.
 use Rattle.std.proofs.Common.{◌≡◌, ℕ, Bool, ◌&&◌, true, false, not, List, [], ◌∷◌, ◌++◌, Option, Some, None, refl, ap, sym, subst, ◌∙◌, append-nil, append_assoc}
 use mathlib.Core.List.{IsPrefix}
 use Rattle.proc_history.specs.Events.{HistoryEntry}
-use Rattle.proc_history.proofs.Prefixes.{prefix_more, prefix_self, prefix_trans}
+use Rattle.proc_history.proofs.Prefixes.{prefix_more, prefix_trans}
 use Rattle.proc_table.specs.declared.pid.Pid.{Pid}
 use Rattle.proc_table.specs.declared.view.View.{View}
 use Rattle.proc_table.specs.Holds.{Holding, Released}
 use Rattle.proc_table.specs.Waits.{HasTaken, HeldAtLast, at_slot}
 use Rattle.proc_table.proofs.WaitLemmas.{since}
-use Rattle.sup_tree.specs.Walk.{Start}
 use Rattle.started_members.specs.declared.looks.Stay.{Stay}
 use Rattle.started_members.specs.declared.member.MemberState.{MemberState}
 use Rattle.started_members.specs.declared.member.MemberState.TheVariants.{Ended, Process, Supervisor}
-use Rattle.started_members.specs.declared.member.StartedProcess.{StartedProcess}
-use Rattle.started_members.specs.Begins.{BeganInOrder}
-use Rattle.started_members.specs.Ends.{MemberEnded}
 use Rattle.started_members.specs.Looks.{LookedAt}
 use Rattle.started_members.specs.Members.{state_process}
 use Rattle.started_members.specs.Places.{Place}
 use Rattle.held_processes.specs.Children.{IsChildTaken, IsStateTaken}
 use Rattle.held_processes.specs.Course.{Courses, Hold, ModulesBySlot, runs}
 use Rattle.held_processes.specs.Course.Hold.{not_held, until_point, until_resumed}
+use Rattle.held_processes.specs.Following.{AreLonger}
 use Rattle.held_processes.specs.Operations.{is_free_user, is_held}
 
--- What takes found stays in front.
-abbrev pub IsFoundMore : View → View → Type 0
-IsFoundMore v w = IsPrefix v.found w.found
+-- a slot that is held was taken
+pub taken_at_last : (p : ℕ) (v : View) (h : Holding) (u : View) → HeldAtLast p v h u → HasTaken p v u
+taken_at_last p v h u at =
+    let f = (since p v h u at).found in record { before = at_slot p f.words; is = ([], append-nil ((v.found ++ at_slot p f.words) ++ (p, 0) ∷ []) ∙ sym f.is) }
 
--- where nothing happens
-pub same_found : (v w : View) → w ≡ v → IsFoundMore v w
-same_found v w is = subst (IsFoundMore v) (sym is) (prefix_self v.found)
-
-pub found_both : (v u w : View) → IsFoundMore v u → IsFoundMore u w → IsFoundMore v w
-found_both v u w a b = prefix_trans v.found u.found w.found a b
-
--- a slot that was held and given back was taken
+-- and so was one that was given back then
 pub held_taken : (p q : ℕ) (es : List HistoryEntry) (v : View) (h : Holding) (u w : View) → HeldAtLast p v h u → Released q es u w → HasTaken p v w
 held_taken p q es v h u w at r =
-    let f = (since p v h u at).found in
-    record { before = at_slot p f.words; is = ([], append-nil ((v.found ++ at_slot p f.words) ++ (p, 0) ∷ []) ∙ sym (r.found ∙ f.is)) }
+    let t = taken_at_last p v h u at in record { before = t.before; is = subst (IsPrefix ((v.found ++ t.before) ++ (p, 0) ∷ [])) (sym r.found) t.is }
 
-taken_found : (p : ℕ) (v w : View) → HasTaken p v w → IsFoundMore v w
+-- what takes found before stays in front
+pub taken_found : (p : ℕ) (v w : View) → HasTaken p v w → IsPrefix v.found w.found
 taken_found p v w t =
     prefix_trans v.found ((v.found ++ t.before) ++ (p, 0) ∷ []) w.found
     (prefix_trans v.found (v.found ++ t.before) ((v.found ++ t.before) ++ (p, 0) ∷ []) (prefix_more v.found t.before) (prefix_more (v.found ++ t.before) ((p, 0) ∷ []))) t.is
 
-pub held_found : (p q : ℕ) (es : List HistoryEntry) (v : View) (h : Holding) (u w : View) → HeldAtLast p v h u → Released q es u w → IsFoundMore v w
-held_found p q es v h u w at r = taken_found p v w (held_taken p q es v h u w at r)
-
 -- a take from before, and one from later on
-pub taken_later : (p : ℕ) (v u w : View) → HasTaken p v u → IsFoundMore u w → HasTaken p v w
-taken_later p v u w t more = record { before = t.before; is = prefix_trans ((v.found ++ t.before) ++ (p, 0) ∷ []) u.found w.found t.is more }
+pub taken_later : (p : ℕ) (v u w : View) → HasTaken p v u → AreLonger u w → HasTaken p v w
+taken_later p v u w t more = record { before = t.before; is = prefix_trans ((v.found ++ t.before) ++ (p, 0) ∷ []) u.found w.found t.is more.takes }
 
-pub taken_since : (p : ℕ) (v u w : View) → IsFoundMore v u → HasTaken p u w → HasTaken p v w
+pub taken_since : (p : ℕ) (v u w : View) → AreLonger v u → HasTaken p u w → HasTaken p v w
 taken_since p v u w more t =
-    let front : (v.found ++ (more.0 ++ t.before)) ≡ (u.found ++ t.before) = sym (append_assoc v.found more.0 t.before) ∙ ap (λ (l : List (ℕ × ℕ)). l ++ t.before) more.1 in
-    record { before = more.0 ++ t.before; is = subst (λ (l : List (ℕ × ℕ)). IsPrefix (l ++ (p, 0) ∷ []) w.found) (sym front) t.is }
-
--- processes begin one after another, or one is given up
-pub began_found : (app : List ℕ) (ss : List Start) (v : View) (ps : List StartedProcess) (w : View) → BeganInOrder app ss v ps w → IsFoundMore v w
-began_found app [] v [] w is = same_found v w is
-began_found app [] v (p ∷ ps) w is = absurd is
-began_found app (s ∷ ss) v [] w is = absurd is
-began_found app (s ∷ ss) v (p ∷ ps) w (u, began, is, later) =
-    found_both v u w (held_found p.pid.slot p.pid.slot _ v began.1.0 began.1.1 u began.1.2 began.1.6) (began_found app ss u ps w later)
-
-pub ended_found : (o : Option StartedProcess) (v w : View) → MemberEnded o v w → IsFoundMore v w
-ended_found None v w is = same_found v w is
-ended_found (Some q) v w (h, u, at, r) = held_found q.pid.slot q.pid.slot _ v h u w at r
+    let front : (v.found ++ (more.takes.0 ++ t.before)) ≡ (u.found ++ t.before) = sym (append_assoc v.found more.takes.0 t.before) ∙ ap (λ (l : List (ℕ × ℕ)). l ++ t.before) more.takes.1 in
+    record { before = more.takes.0 ++ t.before; is = subst (λ (l : List (ℕ × ℕ)). IsPrefix (l ++ (p, 0) ∷ []) w.found) (sym front) t.is }
 
 -- a look takes the slot
-pub look_taken : (stay : Stay) (pid : Pid) (b : Bool) (v look w : View) → LookedAt stay pid b v look → IsFoundMore look w → HasTaken pid.slot v w
+pub look_taken : (stay : Stay) (pid : Pid) (b : Bool) (v look w : View) → LookedAt stay pid b v look → AreLonger look w → HasTaken pid.slot v w
 look_taken stay pid b v look w (h, u, at, is, r) more = taken_later pid.slot v look w (held_taken pid.slot pid.slot [] v h u look at r) more
 
 -- what stands for a child, where it is no process
@@ -80,12 +56,12 @@ quiet_taken cs (Process q) v w none = absurd (cc none)
 quiet_taken cs (Supervisor m) v w none = tt
 
 -- the slot of a child was taken also where more takes came since
-state_later : (cs : Courses) (m : MemberState) (v u w : View) → IsStateTaken cs m v u → IsFoundMore u w → IsStateTaken cs m v w
+state_later : (cs : Courses) (m : MemberState) (v u w : View) → IsStateTaken cs m v u → AreLonger u w → IsStateTaken cs m v w
 state_later cs Ended v u w t more = tt
 state_later cs (Process q) v u w t more = λ free. taken_later q.pid.slot v u w (t free) more
 state_later cs (Supervisor m) v u w t more = tt
 
-pub child_later : (cs : Courses) (o : Option Place) (v u w : View) → IsChildTaken cs o v u → IsFoundMore u w → IsChildTaken cs o v w
+pub child_later : (cs : Courses) (o : Option Place) (v u w : View) → IsChildTaken cs o v u → AreLonger u w → IsChildTaken cs o v w
 child_later cs None v u w t more = tt
 child_later cs (Some p) v u w t more = state_later cs p.child.state v u w t more
 

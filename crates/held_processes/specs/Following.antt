@@ -88,9 +88,10 @@ pub record HoldsNothing (v : View) : Type 0 where
   pub handler : v.number ≡ 0
   pub out : (p : ℕ) → p < slots → is_out v p ≡ false
 
--- What was seen of each slot is still in front.
-abbrev pub AreLonger : View → View → Type 0
-AreLonger v w = (p : ℕ) → IsPrefix (seen v p) (seen w p)
+-- What was seen of each slot is still in front, and so is what takes found.
+pub record AreLonger (v w : View) : Type 0 where
+  pub histories : (p : ℕ) → IsPrefix (seen v p) (seen w p)
+  pub takes : IsPrefix v.found w.found
 
 -- what the handler's view was at first, and the courses of the processes since then
 pub record Followed : Type 0 where

@@ -1,6 +1,5 @@
 -- What a step at one slot leaves.
 use Rattle.std.specs.Prelude.{◌≡◌, ℕ, Bool, true, List, [], Option, Some, None, Result, Ok, Err}
-use mathlib.Core.List.{IsPrefix}
 use Rattle.erl_term.specs.Value as term
 use Rattle.worker_table.specs.Table.{OldVersion}
 use Rattle.proc_history.specs.declared.value.Value.{Value}
@@ -52,10 +51,9 @@ abbrev pub Takes : {E : Type 0} → SlotPast → ℕ → Hold → View → Resul
 Takes past p k v (Ok h) w = Steps past p (taken k past.course) v (Some h) w
 Takes past p k v (Err e) w = Steps past p past.course v None w
 
--- The slot was looked at: it was taken, unless its process is held. What takes found before stays in front.
-pub record IsLookedAt (past : SlotPast) (p : ℕ) (v w : View) : Type 0 where
-  pub taken : past.course.hold ≡ not_held → HasTaken p v w
-  pub found : IsPrefix v.found w.found
+-- The slot was looked at: it was taken, unless its process is held.
+abbrev pub IsLookedAt : SlotPast → ℕ → View → View → Type 0
+IsLookedAt past p v w = past.course.hold ≡ not_held → HasTaken p v w
 
 -- Whether the code of a process that is held was changed: it found its row. It is what its event makes of it in either case.
 abbrev pub ChangesAt : OldVersion → term.Value → Option HeldForm → Bool → Option HeldForm → Type 0

@@ -96,6 +96,7 @@ impl HeldProcess {
             → IsFollowed past self.held.slot past.course seat.old.view (Some self)
             → Steps past self.held.slot (dropped past.course) seat.old.view None seat.new.view }
         ensures seen { (p : ℕ) → seen seat.new.view p ≡ seen seat.old.view p }
+        ensures found { seat.new.view.found ≡ seat.old.view.found }
     {
         let HeldProcess {
             mut held,

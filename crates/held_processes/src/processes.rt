@@ -292,6 +292,7 @@ impl HeldProcesses {
         ensures left { (first : View) (courses : Courses)
             → AllFollow first courses self seat.old.view → AreLeft first courses seat.new.view }
         ensures seen { (p : ℕ) → seen seat.new.view p ≡ seen seat.old.view p }
+        ensures found { seat.new.view.found ≡ seat.old.view.found }
     {
         let HeldProcesses { mut places } = self;
         while let Some(place) = places.pop() {

@@ -123,14 +123,14 @@ ran_alone s first since now e reported [] rest n r none values ran = ap (λ m. o
 ran_alone s first since now true reported (i ∷ is) rest n r none values ran =
     let e' = not (is_point i) in
     let r' = run_after s true false i r in
-    step_is s first ran.0 true false i (is ++ rest) n r none values ran.1
-    ∙ (ran_alone s first ran.0 now e' reported is rest (n + 1) r' none (step_values s true false i r ∙ values) ran.3
+    step_is s first ran.3.0.0 true false i (is ++ rest) n r none values ran.3.0.1
+    ∙ (ran_alone s first ran.1 now e' reported is rest (n + 1) r' none (step_values s true false i r ∙ values) ran.4
     ∙ ap (λ m. outcome_from s (still_early e' is) m rest (run_through s e' reported is r')) (omega arith))
 ran_alone s first since now false [] (i ∷ is) rest n r none values ran = absurd ran
 ran_alone s first since now false (b ∷ reported) (i ∷ is) rest n r none values ran =
     let r' = run_after s false b i r in
-    step_is s first ran.0 false b i (is ++ rest) n r none values ran.1
-    ∙ (ran_alone s first ran.0 now false reported is rest (n + 1) r' none (step_values s false b i r ∙ values) ran.3
+    step_is s first ran.3.0.0 false b i (is ++ rest) n r none values ran.3.0.1
+    ∙ (ran_alone s first ran.1 now false reported is rest (n + 1) r' none (step_values s false b i r ∙ values) ran.4
     ∙ ap (λ m. outcome_from s (still_early false is) m rest (run_through s false reported is r')) (omega arith))
 
 -- a cause that isn't memory
@@ -185,5 +185,5 @@ has_one_outcome = record {
   refused = λ s start script number c v none other is.
       failed_alone s start script number c [] is.front is.instruction v v none other is.at is.ran is.fails ∙ ap (λ e. fails_at e number c) (still_before is.front is.early);
   broken = λ s start script number c v none other is.
-      failed_alone s start script number c is.reported is.front is.instruction is.then_view is.then_view none other is.at is.ran is.fails ∙ ap (λ e. fails_at e number c) is.late;
+      failed_alone s start script number c is.reported is.front is.instruction is.began is.then_view none other is.at is.ran is.fails ∙ ap (λ e. fails_at e number c) is.late;
 }

@@ -144,13 +144,13 @@ reported_same : (s : Site) (first since now from to : View) (e : Bool) (ts us : 
     → RanAll s first since now e ts is r → RanAll s first from to e us is r → ts ≡ us
 reported_same s first since now from to e ts us [] r none values one two = one.0 ∙ sym two.0
 reported_same s first since now from to true ts us (i ∷ is) r none values one two =
-    reported_same s first one.0 now two.0 to (not (is_point i)) ts us is (run_after s true false i r) none (step_values s true false i r ∙ values) one.3 two.3
+    reported_same s first one.1 now two.1 to (not (is_point i)) ts us is (run_after s true false i r) none (step_values s true false i r ∙ values) one.4 two.4
 reported_same s first since now from to false [] us (i ∷ is) r none values one two = absurd one
 reported_same s first since now from to false (b ∷ ts) [] (i ∷ is) r none values one two = absurd two
 reported_same s first since now from to false (b ∷ ts) (d ∷ us) (i ∷ is) r none values one two =
-    let same : b ≡ d = reported_is s first one.0 b i r none values one.1 ∙ sym (reported_is s first two.0 d i r none values two.1) in
-    let rest = reported_same s first one.0 now two.0 to false ts us is (run_after s false b i r) none (step_values s false b i r ∙ values) one.3
-    (subst (λ (x : Bool). RanAll s first two.0 to false us is (run_after s false x i r)) (sym same) two.3) in
+    let same : b ≡ d = reported_is s first one.3.0.0 b i r none values one.3.0.1 ∙ sym (reported_is s first two.3.0.0 d i r none values two.3.0.1) in
+    let rest = reported_same s first one.1 now two.1 to false ts us is (run_after s false b i r) none (step_values s false b i r ∙ values) one.4
+    (subst (λ (x : Bool). RanAll s first two.1 to false us is (run_after s false x i r)) (sym same) two.4) in
     λ k. same k ∷ rest k
 
 -- What is left where this instruction fails, after these.
@@ -183,8 +183,8 @@ breaks_of s start script number c v b = record { then_view = b.then_view; fails 
 pub leaves_one_history : LeavesOneHistory
 leaves_one_history s start script number c v w none other a b =
     let parts = parted_same a.front b.front a.instruction b.instruction a.at.rest b.at.rest (sym a.at.is ∙ b.at.is) (omega (arith, a.at.counted, b.at.counted)) in
-    let ran = subst (λ (is : List Instruction). Ran s start b.then_view b.reported is) (sym parts.0) b.ran in
-    let reported = reported_same s start.first start.first a.then_view start.first b.then_view true a.reported b.reported a.front (began_at s start) none refl a.ran ran in
+    let ran = subst (λ (is : List Instruction). Ran s start b.began b.reported is) (sym parts.0) b.ran in
+    let reported = reported_same s start.first start.first a.began start.first b.began true a.reported b.reported a.front (began_at s start) none refl a.ran ran in
     let its = subst (λ (is : List Instruction). Breaks s start is b.instruction b.reported c w) (sym parts.0) (breaks_of s start script number c w b) in
     let now = subst (λ (i : Instruction). Breaks s start a.front i b.reported c w) (sym parts.1) its in
     breaks_same s start a.front a.instruction a.reported c v w none other (breaks_of s start script number c v a)

@@ -1,5 +1,5 @@
 -- What comes of a script, by what comes of its instructions.
-use Rattle.std.proofs.Common.{◌≡◌, ℕ, ◌≤◌, Bool, true, false, List, [], ◌∷◌, ◌++◌, length, refl, sym, ap, subst, ◌∙◌, inl, inr, append_assoc, append-nil}
+use Rattle.std.proofs.Common.{◌≡◌, ℕ, ◌≤◌, Bool, true, false, true≢false, Ok, List, [], ◌∷◌, ◌++◌, length, refl, sym, ap, subst, ◌∙◌, inl, inr, append_assoc, append-nil}
 use Rattle.std.specs.List.{AllByRecursion}
 use Rattle.proc_history.specs.Histories.{replay}
 use Rattle.proc_table.specs.Parts.{part_of}
@@ -11,37 +11,47 @@ use Rattle.held_processes.specs.Following.{AllFollow, AreLeft, AreLonger, AreUnt
 use Rattle.held_processes.specs.Operations.{Values, values_seen}
 use Rattle.held_processes.proofs.CourseLemmas.{no_block_is_nothing}
 use Rattle.relup_instruction.specs.Instruction.{Instruction}
-use Rattle.relup_instruction.specs.Instruction.Instruction.{point_of_no_return}
-use Rattle.relup_script.specs.Script.{IsRunnable}
+use Rattle.relup_instruction.specs.Instruction.Instruction.{apply, point_of_no_return, remove}
+use Rattle.relup_script.specs.Script.{IsRunnable, is_error, is_supported_call}
 use Rattle.sup_tree.specs.Tree.{App}
 use Rattle.script_progress.specs.Script.{Run, Site, courses_within}
 use Rattle.script_progress.specs.Fault.{Cause, fault}
 use Rattle.script_progress.specs.Fault.Cause.{no_memory}
-use Rattle.relup_exec.specs.Outcome.{ArmedForm, IsArmed, IsPointAt, IsRefused, Ran, Start, began_at, past_behind, run_behind, still_early}
-use Rattle.script_progress.specs.Steps.{HasDone, IsCarriedOut, IsEarly, IsFault, ProgressForm}
+use Rattle.relup_exec.specs.Outcome.{ArmedForm, IsArmed, IsPointAt, IsRefused, Ran, RanOne, Start, began_at, past_behind, run_behind, still_early}
+use Rattle.script_progress.specs.Steps.{GoesByLooks, HasDone, HasNoFault, IsCarriedOut, IsEarly, IsFault, Past, ProgressForm, TakesSlots}
 use Rattle.script_progress.specs.Stops.{takes_memory}
 use Rattle.relup_exec.specs.Stepwise.{IsStopped, start_at}
+use Rattle.script_progress.proofs.CallLemmas.{error_on_no_child, right_true}
 use Rattle.script_steps.proofs.RowLemmas.{all_front}
 use Rattle.script_steps.proofs.CourseLemmas.{within_adds_no_block}
 use Rattle.relup_exec.proofs.QuietLemmas.{early_quiet}
-use Rattle.held_processes.proofs.SlotLemmas.{longer_still}
+use Rattle.held_processes.proofs.SlotLemmas.{longer_same, longer_still}
 use Rattle.relup_exec.proofs.RunLemmas.{ran_later, ran_push_early, ran_push_late, run_push_early, run_push_late, still_before, through_values}
 
+-- one that may stand before the point goes by no look at a slot
+takes_none : (i : Instruction) (r : Run) (v w : View) → IsEarly i → TakesSlots i r v w
+takes_none (apply c) r v w early = λ child. absurd (true≢false (sym child ∙ error_on_no_child c (right_true (is_supported_call c) (is_error c) early)))
+takes_none (remove p) r v w early = absurd (cc early)
+takes_none i r v w early = tt
+
+ran_early : (s : Site) (past : Past) (i : Instruction) (v w : View) → IsEarly i → HasNoFault s past.first v w past.run false i → RanOne s past.first past.run false i v w
+ran_early s past i v w early sound = (sound, (takes_none i past.run v w early, λ stays. absurd (true≢false (sym stays))))
+
 -- one instruction more was done, before the point
-pub run_more_early : (s : Site) (start : Start) (is : List Instruction) (i : Instruction) (a : ProgressForm) (tree : List App) (v w : View) → still_early true is ≡ true → Ran s start v [] is
+pub run_more_early : (s : Site) (start : Start) (is : List Instruction) (i : Instruction) (a : ProgressForm) (tree : List App) (v w : View) → still_early true is ≡ true → IsEarly i → Ran s start v [] is
     → IsCarriedOut s (past_behind s start [] is) true false i a tree v w
     → Ran s start w [] (is ++ i ∷ []) × HasDone (past_behind s start [] (is ++ i ∷ [])) a tree w
-run_more_early s start is i a tree v w early ran carried = (
-  ran_push_early s start.first start.first v w true [] is i (began_at s start) early ran carried.0,
-  subst (λ (r : Run). HasDone (record { first = start.first; run = r }) a tree w) (sym (run_push_early s true [] is i (began_at s start) early)) carried.1,
+run_more_early s start is i a tree v w before early ran carried = (
+  ran_push_early s start.first start.first v w true [] is i (began_at s start) before ran (ran_early s (past_behind s start [] is) i v w early carried.0),
+  subst (λ (r : Run). HasDone (record { first = start.first; run = r }) a tree w) (sym (run_push_early s true [] is i (began_at s start) before)) carried.1,
 )
 
 -- and after it
 pub run_more_late : (s : Site) (start : Start) (reported : List Bool) (is : List Instruction) (b : Bool) (i : Instruction) (a : ProgressForm) (tree : List App) (v w : View) → still_early true is ≡ false
-    → Ran s start v reported is → IsCarriedOut s (past_behind s start reported is) false b i a tree v w
+    → Ran s start v reported is → IsCarriedOut s (past_behind s start reported is) false b i a tree v w → GoesByLooks (past_behind s start reported is) i (Ok b) v w
     → Ran s start w (reported ++ b ∷ []) (is ++ i ∷ []) × HasDone (past_behind s start (reported ++ b ∷ []) (is ++ i ∷ [])) a tree w
-run_more_late s start reported is b i a tree v w late ran carried = (
-  ran_push_late s start.first start.first v w true reported is b i (began_at s start) late ran carried.0,
+run_more_late s start reported is b i a tree v w late ran carried looked = (
+  ran_push_late s start.first start.first v w true reported is b i (began_at s start) late ran (carried.0, looked),
   subst (λ (r : Run). HasDone (record { first = start.first; run = r }) a tree w) (sym (run_push_late s start.first start.first v true reported is b i (began_at s start) late ran)) carried.1,
 )
 
@@ -56,7 +66,7 @@ point_passed s start script a hs v w armed follow longer =
     let early = still_before front armed.point.early in
     let values : r.values ≡ values_seen start.first = through_values s true [] front (began_at s start) in (
       ran_push_early s start.first start.first v w true [] front point_of_no_return (began_at s start) early armed.ran
-          (v, (λ p inside. (armed.follow.each p inside).stand, refl, refl), longer_still v, longer),
+          ((v, (λ p inside. (armed.follow.each p inside).stand, refl, refl), longer_still v, longer), (tt, λ stays. absurd (true≢false (sym stays)))),
       subst (λ (q : Run). HasDone (record { first = start.first; run = q }) (record { held = hs; fetched = a.fetched; next = a.next }) a.apps w)
           (sym (run_push_early s true [] front point_of_no_return (began_at s start) early))
           (record { follow = follow; fetched = armed.fetched; next = armed.next; apps = armed.apps; values = values }),
@@ -93,9 +103,9 @@ armed_well s start script place room reported is a tree v point nothing enough s
 
 -- An instruction before the point fails, and what was held went back.
 pub refused_well : (s : Site) (start : Start) (script : List Instruction) (place : ℕ) (is : List Instruction) (number : ℕ) (c : Cause) (hs : HeldSlots) (v w : View) (point : IsPointAt script place) → is ≡ point.front
-    → (stopped : IsStopped s start is number c hs v) → ((p : ℕ) → seen w p ≡ seen v p)
+    → (stopped : IsStopped s start is number c hs v) → ((p : ℕ) → seen w p ≡ seen v p) → w.found ≡ v.found
     → AreLeft start.first (courses_within s true stopped.instruction stopped.modules stopped.slot (run_behind s start [] stopped.front)) w → IsRefused s start script number c w
-refused_well s start script place is number c hs v w point same stopped kept left =
+refused_well s start script place is number c hs v w point same stopped kept found left =
     let parts : point.front ≡ stopped.front ++ (stopped.instruction ∷ stopped.at.rest) = sym same ∙ stopped.at.is in
     let early : AllByRecursion IsEarly stopped.front = all_front IsEarly stopped.front (stopped.instruction ∷ stopped.at.rest) (subst (AllByRecursion IsEarly) parts point.early) in
     record {
@@ -108,7 +118,7 @@ refused_well s start script place is number c hs v w point same stopped kept lef
         counted = stopped.at.counted;
       };
       early = early;
-      ran = ran_later s start.first start.first v w true [] stopped.front (began_at s start) (λ p. ([], append-nil (seen v p) ∙ sym (kept p))) stopped.ran;
+      ran = ran_later s start.first start.first v w true [] stopped.front (began_at s start) (longer_same v w kept found) stopped.ran;
       fails = fault_later start.first s v w (run_behind s start [] stopped.front) stopped.instruction c kept stopped.fails;
       asks = λ memory. inr (ap (λ (x : Values). takes_memory s x (run_behind s start [] stopped.front) stopped.instruction) (values_kept v w kept) ∙ stopped.asks memory);
       untouched = no_block_is_nothing start.first (courses_within s true stopped.instruction stopped.modules stopped.slot (run_behind s start [] stopped.front)) w left
@@ -140,7 +150,7 @@ refused_at_first s apps script v runnable free = go runnable.before runnable.is
       early = tt;
       ran = (refl, longer_still v);
       fails = tt;
-      asks = λ _. inl refl;
+      asks = λ _. inl (refl, refl);
       untouched = nothing_held v free;
     }
     go (b ∷ bs) e = record {
@@ -150,6 +160,6 @@ refused_at_first s apps script v runnable free = go runnable.before runnable.is
       early = tt;
       ran = (refl, longer_still v);
       fails = tt;
-      asks = λ _. inl refl;
+      asks = λ _. inl (refl, refl);
       untouched = nothing_held v free;
     }

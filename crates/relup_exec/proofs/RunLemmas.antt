@@ -7,6 +7,7 @@ use Rattle.relup_instruction.specs.Instruction.Instruction.{apply, code_change, 
 use Rattle.relup_script.specs.Script.{IsRunnable, is_point}
 use Rattle.relup_script.proofs.ScriptLemmas.{are_early}
 use Rattle.library.specs.Library.{Library}
+use Rattle.loaded_modules.specs.Loaded.{NamedModules}
 use Rattle.relup_instruction.specs.declared.instruction.Direction.{Direction}
 use Rattle.started_members.specs.Places.{Place}
 use Rattle.sup_tree.specs.Children.{child_place}
@@ -14,14 +15,14 @@ use Rattle.sup_tree.specs.Tree.{app_named}
 use Rattle.held_processes.specs.Applications.{with_started}
 use Rattle.held_processes.specs.Children.{with_deleted}
 use Rattle.held_processes.specs.Following.{AreLonger}
-use Rattle.held_processes.proofs.SlotLemmas.{longer_both}
+use Rattle.held_processes.proofs.SlotLemmas.{longer_both, longer_still}
 use Rattle.held_processes.specs.Operations.{Values}
 use Rattle.script_progress.specs.Calls.{AppCall, ChildCall, app_call, child_call, is_on_child}
 use Rattle.script_progress.specs.Calls.AppCall.{starts, stops, idle}
 use Rattle.script_progress.specs.Calls.ChildCall.{terminates, deletes, restarts, nothing}
 use Rattle.script_progress.specs.Script.{Run, Site, call_after, called_after, changed, changed_once, child_after, mode_of, restarted_at, run_after, scene_of, started_from, tables_among, target_library, with_scene}
-use Rattle.relup_exec.specs.Outcome.{RanAll, RanAllLate, run_through, still_early}
-use Rattle.script_progress.specs.Steps.{HasNoFault, IsEarly, IsLate}
+use Rattle.relup_exec.specs.Outcome.{RanAll, RanAllLate, RanOne, run_through, still_early}
+use Rattle.script_progress.specs.Steps.{IsEarly, IsLate}
 use Rattle.script_steps.proofs.RowLemmas.{all_middle}
 
 -- after the point
@@ -38,11 +39,11 @@ run_push_early s true reported (k ∷ is) i r early = run_push_early s (not (is_
 run_push_early s false reported (k ∷ is) i r early = absurd (let no = sym (still_behind is) ∙ early in cc no)
 
 pub ran_push_early : (s : Site) (first since mid now : View) (e : Bool) (reported : List Bool) (is : List Instruction) (i : Instruction) (r : Run) → still_early e is ≡ true
-    → RanAll s first since mid e reported is r → HasNoFault s first mid now (run_through s e reported is r) false i → RanAll s first since now e reported (is ++ i ∷ []) r
-ran_push_early s first since mid now true reported [] i r early ran one = (one.0, one.1, longer_both since mid one.0 ran.1 one.2, (ran.0, one.3))
+    → RanAll s first since mid e reported is r → RanOne s first (run_through s e reported is r) false i mid now → RanAll s first since now e reported (is ++ i ∷ []) r
+ran_push_early s first since mid now true reported [] i r early ran one = (mid, now, ran.1, one, (ran.0, longer_still now))
 ran_push_early s first since mid now false reported [] i r early ran one = absurd (cc early)
 ran_push_early s first since mid now true reported (k ∷ is) i r early ran one =
-    (ran.0, ran.1, ran.2, ran_push_early s first ran.0 mid now (not (is_point k)) reported is i (run_after s true false k r) early ran.3 one)
+    (ran.0, ran.1, ran.2, ran.3, ran_push_early s first ran.1 mid now (not (is_point k)) reported is i (run_after s true false k r) early ran.4 one)
 ran_push_early s first since mid now false reported (k ∷ is) i r early ran one = absurd (let no = sym (still_behind is) ∙ early in cc no)
 
 -- one instruction more, of which this is reported, after the point
@@ -51,20 +52,20 @@ pub run_push_late : (s : Site) (first since now : View) (e : Bool) (reported : L
 run_push_late s first since now true reported [] b i r late ran = absurd (cc late)
 run_push_late s first since now false [] [] b i r late ran = refl
 run_push_late s first since now false (t ∷ ts) [] b i r late ran = absurd (let none = ran.0 in cc none)
-run_push_late s first since now true reported (k ∷ is) b i r late ran = run_push_late s first ran.0 now (not (is_point k)) reported is b i (run_after s true false k r) late ran.3
+run_push_late s first since now true reported (k ∷ is) b i r late ran = run_push_late s first ran.1 now (not (is_point k)) reported is b i (run_after s true false k r) late ran.4
 run_push_late s first since now false [] (k ∷ is) b i r late ran = absurd ran
-run_push_late s first since now false (t ∷ ts) (k ∷ is) b i r late ran = run_push_late s first ran.0 now false ts is b i (run_after s false t k r) late ran.3
+run_push_late s first since now false (t ∷ ts) (k ∷ is) b i r late ran = run_push_late s first ran.1 now false ts is b i (run_after s false t k r) late ran.4
 
 pub ran_push_late : (s : Site) (first since mid now : View) (e : Bool) (reported : List Bool) (is : List Instruction) (b : Bool) (i : Instruction) (r : Run) → still_early e is ≡ false
-    → RanAll s first since mid e reported is r → HasNoFault s first mid now (run_through s e reported is r) b i → RanAll s first since now e (reported ++ b ∷ []) (is ++ i ∷ []) r
+    → RanAll s first since mid e reported is r → RanOne s first (run_through s e reported is r) b i mid now → RanAll s first since now e (reported ++ b ∷ []) (is ++ i ∷ []) r
 ran_push_late s first since mid now true reported [] b i r late ran one = absurd (cc late)
-ran_push_late s first since mid now false [] [] b i r late ran one = (one.0, one.1, longer_both since mid one.0 ran.1 one.2, (refl, one.3))
+ran_push_late s first since mid now false [] [] b i r late ran one = (mid, now, ran.1, one, (refl, longer_still now))
 ran_push_late s first since mid now false (t ∷ ts) [] b i r late ran one = absurd (let none = ran.0 in cc none)
 ran_push_late s first since mid now true reported (k ∷ is) b i r late ran one =
-    (ran.0, ran.1, ran.2, ran_push_late s first ran.0 mid now (not (is_point k)) reported is b i (run_after s true false k r) late ran.3 one)
+    (ran.0, ran.1, ran.2, ran.3, ran_push_late s first ran.1 mid now (not (is_point k)) reported is b i (run_after s true false k r) late ran.4 one)
 ran_push_late s first since mid now false [] (k ∷ is) b i r late ran one = absurd ran
 ran_push_late s first since mid now false (t ∷ ts) (k ∷ is) b i r late ran one =
-    (ran.0, ran.1, ran.2, ran_push_late s first ran.0 mid now false ts is b i (run_after s false t k r) late ran.3 one)
+    (ran.0, ran.1, ran.2, ran.3, ran_push_late s first ran.1 mid now false ts is b i (run_after s false t k r) late ran.4 one)
 
 pub still_push : (e : Bool) (is : List Instruction) (i : Instruction) → still_early e (is ++ i ∷ []) ≡ (still_early e is && not (is_point i))
 still_push e [] i = refl
@@ -74,10 +75,10 @@ still_push e (k ∷ is) i = still_push (e && not (is_point k)) is i
 pub ran_later : (s : Site) (first since v w : View) (e : Bool) (reported : List Bool) (is : List Instruction) (r : Run) → AreLonger v w → RanAll s first since v e reported is r → RanAll s first since w e reported is r
 ran_later s first since v w e reported [] r longer ran = (ran.0, longer_both since v w ran.1 longer)
 ran_later s first since v w true reported (i ∷ is) r longer ran =
-    (ran.0, ran.1, ran.2, ran_later s first ran.0 v w (not (is_point i)) reported is (run_after s true false i r) longer ran.3)
+    (ran.0, ran.1, ran.2, ran.3, ran_later s first ran.1 v w (not (is_point i)) reported is (run_after s true false i r) longer ran.4)
 ran_later s first since v w false [] (i ∷ is) r longer ran = absurd ran
 ran_later s first since v w false (b ∷ reported) (i ∷ is) r longer ran =
-    (ran.0, ran.1, ran.2, ran_later s first ran.0 v w false reported is (run_after s false b i r) longer ran.3)
+    (ran.0, ran.1, ran.2, ran.3, ran_later s first ran.1 v w false reported is (run_after s false b i r) longer ran.4)
 
 -- what may stand before the point isn't the point
 pub not_the_point : (i : Instruction) → IsEarly i → is_point i ≡ false
@@ -103,7 +104,7 @@ late_at_first s first since now (i ∷ front) r early longer =
 
 -- one instruction more after it
 pub late_push : (s : Site) (first since mid now : View) (e : Bool) (reported : List Bool) (is : List Instruction) (b : Bool) (i : Instruction) (r : Run) → still_early e is ≡ false
-    → RanAllLate s first since mid e reported is r → HasNoFault s first mid now (run_through s e reported is r) b i → RanAllLate s first since now e (reported ++ b ∷ []) (is ++ i ∷ []) r
+    → RanAllLate s first since mid e reported is r → RanOne s first (run_through s e reported is r) b i mid now → RanAllLate s first since now e (reported ++ b ∷ []) (is ++ i ∷ []) r
 late_push s first since mid now false reported is b i r late ran one = ran_push_late s first since mid now false reported is b i r late ran one
 late_push s first since mid now true reported [] b i r late ran one = absurd ran
 late_push s first since mid now true reported (k ∷ is) b i r late ran one = late_push s first since mid now (not (is_point k)) reported is b i (run_after s true false k r) late ran one
@@ -200,3 +201,34 @@ through_values s e reported [] r = refl
 through_values s true reported (i ∷ is) r = through_values s (not (is_point i)) reported is (run_after s true false i r) ∙ step_values s true false i r
 through_values s false [] (i ∷ is) r = refl
 through_values s false (b ∷ reported) (i ∷ is) r = through_values s false reported is (run_after s false b i r) ∙ step_values s false b i r
+
+-- changes of code and calls leave what is loaded
+pub changed_modules : (s : Site) (mode : Direction) (cs : List ChangeForm) (r : Run) → (changed s mode cs r).modules ≡ r.modules
+changed_modules s mode [] r = refl
+changed_modules s mode (c ∷ cs) r = changed_modules s mode cs (changed_once s mode c r)
+
+either_modules : (b : Bool) (q q' : Run) (ms : NamedModules) → q.modules ≡ ms → q'.modules ≡ ms → (if b then q else q').modules ≡ ms
+either_modules true q q' ms one other = one
+either_modules false q q' ms one other = other
+
+started_modules : (l : Option Library) (r : Run) → (started_from l r).modules ≡ r.modules
+started_modules None r = refl
+started_modules (Some l) r = either_modules (is_some (app_named l.app.name r.apps)) r (with_scene r (with_started l.app.name l.app.top (tables_among r.modules) (scene_of r))) r.modules refl refl
+
+called_modules : (s : Site) (c : AppCall) (r : Run) → (called_after s c r).modules ≡ r.modules
+called_modules s (starts name) r = started_modules (target_library s name) r
+called_modules s (stops name) r = refl
+called_modules s idle r = refl
+
+restarted_modules : (super id : List ℕ) (o : Option Place) (r : Run) → (restarted_at super id o r).modules ≡ r.modules
+restarted_modules super id None r = refl
+restarted_modules super id (Some p) r = refl
+
+child_modules : (c : ChildCall) (b : Bool) (r : Run) → (child_after c b r).modules ≡ r.modules
+child_modules (terminates super id) b r = refl
+child_modules (deletes super id) b r = either_modules b r (with_scene r (with_deleted super id (scene_of r))) r.modules refl refl
+child_modules (restarts super id) b r = either_modules b r (restarted_at super id (child_place super id r.apps) r) r.modules refl (restarted_modules super id (child_place super id r.apps) r)
+child_modules nothing b r = refl
+
+pub call_modules : (s : Site) (c : CallForm) (b : Bool) (r : Run) → (call_after s c b r).modules ≡ r.modules
+call_modules s c b r = either_modules (is_on_child c) (child_after (child_call c) b r) (called_after s (app_call c) r) r.modules (child_modules (child_call c) b r) (called_modules s (app_call c) r)

@@ -1,5 +1,5 @@
 -- What comes of a script: up to its point of no return, and after it.
-use Rattle.std.specs.Prelude.{◌≡◌, ℕ, ◌+◌, ◌≤◌, Bool, true, false, ◌&&◌, ◌⊎◌, not, List, [], ◌∷◌, ◌++◌, length}
+use Rattle.std.specs.Prelude.{◌≡◌, ℕ, ◌+◌, ◌≤◌, Bool, true, false, ◌&&◌, ◌⊎◌, not, List, [], ◌∷◌, ◌++◌, length, Ok}
 use Rattle.std.specs.List.{AllByRecursion}
 use Rattle.proc_table.specs.declared.view.View.{View}
 use Rattle.relup_instruction.specs.Instruction.{Instruction}
@@ -13,8 +13,7 @@ use Rattle.held_processes.specs.Following.{AllFollow, AreLeft, AreLonger, AreUnt
 use Rattle.held_processes.specs.Operations.{values_seen}
 use Rattle.script_progress.specs.Script.{Site, Run, began, courses_within, run_after}
 use Rattle.script_progress.specs.Fault.{Cause}
-use Rattle.script_progress.specs.Steps.{IsLate}
-use Rattle.script_progress.specs.Steps.{IsEarly, IsFault, HasNoFaultAt, Past}
+use Rattle.script_progress.specs.Steps.{FailsByLooks, GoesByLooks, HasNoFault, IsEarly, IsFault, IsLate, Past}
 use Rattle.script_progress.specs.Stops.{StopsAt, is_memory, takes_memory}
 
 -- What the handler had seen when a script began, and which applications were started then.
@@ -45,21 +44,25 @@ run_behind s start reported is = run_through s true reported is (began_at s star
 abbrev pub past_behind : Site → Start → List Bool → List Instruction → Past
 past_behind s start reported is = record { first = start.first; run = run_behind s start reported is }
 
--- None of these failed, each by the histories that the handler had seen at a moment of its own: one after another, between these
--- two. And of each after the point this is reported.
+-- An instruction was carried out from the one moment to the other: by histories that the handler had seen between these nothing
+-- made it fail, and the slots by which it goes were taken between them. Of the child that it is on this is reported.
+abbrev pub RanOne : Site → View → Run → Bool → Instruction → View → View → Type 0
+RanOne s first r stays i v w = HasNoFault s first v w r stays i × GoesByLooks (record { first = first; run = r }) i (Ok stays) v w
+
+-- These instructions were carried out, one after another, between these two moments. Of each after the point this is reported.
 abbrev pub RanAll : Site → View → View → View → Bool → List Bool → List Instruction → Run → Type 0
 RanAll s first since now early reported [] r = (reported ≡ []) × AreLonger since now
 RanAll s first since now true reported (i ∷ is) r =
-    (u : View) × HasNoFaultAt s first r false i u × AreLonger since u × RanAll s first u now (not (is_point i)) reported is (run_after s true false i r)
+    (v w : View) × AreLonger since v × RanOne s first r false i v w × RanAll s first w now (not (is_point i)) reported is (run_after s true false i r)
 RanAll s first since now false [] (i ∷ is) r = ⊥
 RanAll s first since now false (b ∷ reported) (i ∷ is) r =
-    (u : View) × HasNoFaultAt s first r b i u × AreLonger since u × RanAll s first u now false reported is (run_after s false b i r)
+    (v w : View) × AreLonger since v × RanOne s first r b i v w × RanAll s first w now false reported is (run_after s false b i r)
 
 abbrev pub Ran : Site → Start → View → List Bool → List Instruction → Type 0
 Ran s start now reported is = RanAll s start.first start.first now true reported is (began_at s start)
 
--- The point of no return is one of these instructions, and none of those after it failed: each by the histories that the handler
--- had seen at a moment of its own, one after another, between these two. So none of them is judged by an earlier view.
+-- The point of no return is one of these instructions, and those after it were carried out between these two moments. So none of
+-- them is judged by an earlier view.
 abbrev pub RanAllLate : Site → View → View → View → Bool → List Bool → List Instruction → Run → Type 0
 RanAllLate s first since now false reported is r = RanAll s first since now false reported is r
 RanAllLate s first since now true reported [] r = ⊥
@@ -112,7 +115,8 @@ pub record IsInstructionAt (script : List Instruction) (number : ℕ) (front : L
   pub counted : number ≡ length front + 1
 
 -- An instruction before the point is the first that fails; and nothing was added to any history. Out of memory is reported only of
--- one that asks for memory, or of the first instruction of the script, whatever it is: then the script could not begin.
+-- one that asks for memory, or of the first instruction of the script, whatever it is: then the script could not begin, and the
+-- handler has tried nothing.
 pub record IsRefused (s : Site) (start : Start) (script : List Instruction) (number : ℕ) (c : Cause) (v : View) : Type 0 where
   pub front : List Instruction
   pub instruction : Instruction
@@ -120,7 +124,7 @@ pub record IsRefused (s : Site) (start : Start) (script : List Instruction) (num
   pub early : AllByRecursion IsEarly front
   pub ran : Ran s start v [] front
   pub fails : IsFault start.first s v (run_behind s start [] front) instruction c
-  pub asks : is_memory c ≡ true → (number ≡ 1) ⊎ (takes_memory s (values_seen v) (run_behind s start [] front) instruction ≡ true)
+  pub asks : is_memory c ≡ true → ((number ≡ 1) × (v ≡ start.first)) ⊎ (takes_memory s (values_seen v) (run_behind s start [] front) instruction ≡ true)
   pub untouched : AreUntouched start.first v
 
 -- The whole script was carried out: its blocks stand in the histories, and this is loaded and started.
@@ -132,22 +136,27 @@ pub record IsFinished (s : Site) (start : Start) (script : List Instruction) (lo
   pub left : AreLeft start.first (on_all finish (run_behind s start reported script).courses) v
 
 -- An instruction after the point is the first that fails. What was held is let go with what was done to it by then: by those in
--- front, and by this one for so many of its modules and for the next in the slots below this. It fails by the histories that the
--- handler had seen after those by which the others didn't.
+-- front, and by this one for so many of its modules and for the next in the slots below this. It began after those in front, and
+-- fails by histories that the handler had seen since then. The slots by which it goes were taken while it was carried out.
 pub record IsBroken (s : Site) (start : Start) (script : List Instruction) (number : ℕ) (c : Cause) (v : View) : Type 0 where
   pub front : List Instruction
   pub instruction : Instruction
   pub at : IsInstructionAt script number front instruction
   pub late : still_early true front ≡ false
   pub reported : List Bool
+  pub began : View
+  pub ran : Ran s start began reported front
   pub then_view : View
-  pub ran : Ran s start then_view reported front
+  pub since : AreLonger began then_view
   pub fails : IsFault start.first s then_view (run_behind s start reported front) instruction c
+  pub ended : View
+  pub longer : AreLonger then_view ended
+  pub looked : FailsByLooks instruction (run_behind s start reported front) c began ended
   pub modules : ℕ
   pub slot : ℕ
   pub stops : StopsAt start.first s then_view (run_behind s start reported front) instruction c modules slot
   pub left : AreLeft start.first (on_all finish (courses_within s false instruction modules slot (run_behind s start reported front))) v
-  pub longer : AreLonger then_view v
+  pub last : AreLonger ended v
 
 -- The whole script was carried out, and what stands after its point is judged by no view from before this one.
 pub record IsFinishedFrom (s : Site) (start : Start) (script : List Instruction) (since : View) (loaded : NamedModules) (apps : List App) (v : View) : Type 0 where
@@ -158,4 +167,4 @@ pub record IsFinishedFrom (s : Site) (start : Start) (script : List Instruction)
 -- one.
 pub record IsBrokenFrom (s : Site) (start : Start) (script : List Instruction) (since : View) (number : ℕ) (c : Cause) (v : View) : Type 0 where
   pub broken : IsBroken s start script number c v
-  pub late : RanLate s start since broken.then_view broken.reported broken.front
+  pub late : RanLate s start since broken.began broken.reported broken.front

@@ -28,7 +28,8 @@ pub struct Refused {
 }
 
 /// Carries out a script up to its point of no return. Where an instruction fails, all processes that were held by then go back
-/// as they were. It waits for processes that clients have. Out of memory before the first instruction is reported of it.
+/// as they were. It waits for processes that clients have. Out of memory before the first instruction is reported of it, and then
+/// nothing was tried.
 pub fn run_before<R: Wait>(
     rt: &R,
     alloc: Global,

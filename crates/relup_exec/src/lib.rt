@@ -6,7 +6,8 @@
 //! [`Armed::roll_back`] gives all processes back as they were. [`Armed::run_after`] carries out what stands after the point, and
 //! judges no instruction by an earlier view: where all is done, the blocks of the script stand in the histories, each whole, and
 //! what is loaded and started is what the script says (`finished`); else the first instruction that fails is reported, and what was
-//! held is let go with the changes made so far (`broken`). All but the way back wait for processes that clients have.
+//! held is let go with the changes made so far (`broken`). Each instruction goes by histories that the handler saw while it was
+//! carried out, and by slots that were taken then (`RanOne`). All but the way back wait for processes that clients have.
 //!
 //! The laws say that while no pass is lent a script has one outcome, memory aside: the one that `outcome` (specs/Alone) gives by
 //! what stood in the slots (`a_script_alone_has_one_outcome`); and where an instruction fails after the point, one history is left

@@ -1,5 +1,9 @@
 -- Calls of a script, by what they are on.
-use Rattle.std.proofs.Common.{◌≡◌, ℕ, ◌&&◌, ◌||◌, Bool, true, false, true≢false, List, if◌then◌else◌, refl, sym, ap, ap₂, subst, ◌∙◌, Option, Result, Ok, Err, codes}
+use Rattle.std.proofs.Common.{◌≡◌, ℕ, ◌&&◌, ◌||◌, Bool, true, false, true≢false, List, if◌then◌else◌, refl, sym, ap, ap₂, subst, ◌∙◌, Option, Some, Result, Ok, Err, codes}
+use Rattle.std.specs.Prelude.{IfErr, IfOk}
+use Rattle.std.specs.declared.alloc.AllocError.{AllocError}
+use Rattle.erl_term.specs.declared.term.Term.{Term}
+use Rattle.erl_term.specs.Value.{value_of}
 use Rattle.std.proofs.lemmas.Slice.Eq.{bytes_eq-Decides}
 use Rattle.std.specs.Str.{bytes_eq}
 use Rattle.proc_table.specs.declared.view.View.{View}
@@ -15,6 +19,8 @@ use Rattle.script_progress.specs.Apps.{CallsApp}
 use Rattle.script_progress.specs.Calls.{app_call, child_call, is_on_child}
 use Rattle.script_progress.specs.Children.{CallsChild}
 use Rattle.script_progress.specs.Fault.{Cause, app_call_fault, call_fault, child_call_fault, error_cause}
+use Rattle.script_progress.specs.Fault.Cause.{raised as raised_with}
+use Rattle.script_progress.specs.Fault.Cause.{no_memory}
 use Rattle.script_progress.specs.InMemory.{cause_of}
 use Rattle.script_progress.specs.Script.{Run, Site, call_after, call_within, called_after, child_after, child_stays_at, child_within, stays_at}
 use Rattle.script_progress.specs.Steps.{CarriesOutLate, HasDone, IsCause, IsCauseIn, IsEarly, IsFailed, GoesByLooks, Past, ProgressForm, on_no_child}
@@ -135,21 +141,27 @@ raised s past call e a tree v done raises cause =
       partly = subst (λ (cs : Courses). AllFollow past.first cs a.held v) (sym (ap (λ (b : Bool). if b then child_within (child_call call) e.modules r else r.courses) child)) done.follow;
     }
 
+-- it fails with the term of which there is a copy, or for want of one
+pub raised_cause : (o : Option Cause) (copy : Result Term AllocError) (c : Cause) → IfOk copy (λ t. o ≡ Some (raised_with (value_of t))) → IfOk copy (λ t. c ≡ raised_with (value_of t)) → IfErr copy (λ e. c ≡ no_memory)
+    → IsCause o c
+raised_cause o (Ok t) c copied with_term memory = subst (IsCause o) (sym with_term) copied
+raised_cause o (Err e) c copied with_term memory = subst (IsCause o) (sym memory) tt
+
 -- it is on no child
 pub no_child_raised : (past : Past) (call : CallForm) (e : Failure) (v : View) → is_error call ≡ true → GoesByLooks past (apply call) (Err e) v v
-no_child_raised past call e v raises = λ _ on_child. absurd (true≢false (sym on_child ∙ error_on_no_child call raises))
+no_child_raised past call e v raises = (λ _ on_child. absurd (true≢false (sym on_child ∙ error_on_no_child call raises)), tt)
 
 -- a call on an application is on no child
 pub no_child_called : {X : Type 0} (past : Past) (call : CallForm) (r : Result X Failure) (v w : View) → bytes_eq call.name (codes "application") ≡ true → GoesByLooks past (apply call) (on_no_child r) v w
 no_child_called past call (Ok x) v w named = (λ on_child. absurd (true≢false (sym on_child ∙ app_on_no_child call named)), λ stays. absurd (true≢false (sym stays)))
-no_child_called past call (Err e) v w named = λ _ on_child. absurd (true≢false (sym on_child ∙ app_on_no_child call named))
+no_child_called past call (Err e) v w named = (λ _ on_child. absurd (true≢false (sym on_child ∙ app_on_no_child call named)), tt)
 
 -- one on a child looks at it
 pub child_looked : (s : Site) (past : Past) (call : CallForm) (r : Result Bool Failure) (a : ProgressForm) (tree : List App) (v w : View) → bytes_eq call.name (codes "supervisor") ≡ true
     → CallsChild past (child_call call) r a tree v w → GoesByLooks past (apply call) r v w
 child_looked s past call (Ok stays) a tree v w named called =
     (λ _. called.taken, λ is_so. (on_child s call past.run named).stay (values_seen w) ∙ called.now is_so)
-child_looked s past call (Err e) a tree v w named called = λ other _. called.taken other
+child_looked s past call (Err e) a tree v w named called = (λ other _. called.taken other, tt)
 
 -- a call on an application was made, or fails
 pub app_called : {X : Type 0} (s : Site) (past : Past) (call : CallForm) (r : Result X Failure) (a a' : ProgressForm) (tree tree' : List App) (v w : View) → HasDone past a tree v → AreLonger v w

@@ -16,7 +16,7 @@ use Rattle.script_progress.specs.declared.progress.Progress.{Progress}
 use Rattle.script_progress.specs.Calls.{ChildCall, child_call, is_on_child}
 use Rattle.script_progress.specs.Calls.ChildCall.{deletes, restarts}
 use Rattle.script_progress.specs.Script.{Site, Run, courses_within, modules_by_slot_in, run_after, stays_at}
-use Rattle.script_progress.specs.Fault.{Cause, fault}
+use Rattle.script_progress.specs.Fault.{Cause, fault, remove_fault}
 use Rattle.script_progress.specs.Fault.Cause.{no_memory, no_super}
 use Rattle.script_progress.specs.InMemory.{cause_of}
 use Rattle.script_progress.specs.Stops.{StopsAt}
@@ -121,11 +121,20 @@ TakesSlots (apply c) r v w = is_on_child c ≡ true → IsCallTaken (child_call 
 TakesSlots (remove p) r v w = supervises p.name r.apps ≡ false → AreLookedAt (modules_by_slot_in r) p.name r.courses v w
 TakesSlots i r v w = Unit {0}
 
--- The handler took the slots by which an instruction goes from the one moment to the other, unless the supervisor of a child wasn't
--- there. A child that is left as it is stays by what the handler has seen then.
+-- A removal fails by what the handler has seen at the end.
+abbrev pub FailsAtLast : Instruction → Run → Cause → View → Type 0
+FailsAtLast (remove p) r c w = remove_fault p.name (values_seen w) r ≡ Some c
+FailsAtLast i r c w = Unit {0}
+
+-- The handler took the slots by which an instruction goes that fails, unless the supervisor of a child wasn't there.
+abbrev pub FailsByLooks : Instruction → Run → Cause → View → View → Type 0
+FailsByLooks i r c v w = (c ≢ no_super → TakesSlots i r v w) × FailsAtLast i r c w
+
+-- The handler took the slots by which an instruction goes from the one moment to the other. A child that is left as it is stays by
+-- what the handler has seen then.
 abbrev pub GoesByLooks : Past → Instruction → Result Bool Failure → View → View → Type 0
 GoesByLooks past i (Ok stays) v w = TakesSlots i past.run v w × (stays ≡ true → stays_at (values_seen w) i past.run ≡ true)
-GoesByLooks past i (Err e) v w = cause_of e.cause ≢ no_super → TakesSlots i past.run v w
+GoesByLooks past i (Err e) v w = FailsByLooks i past.run (cause_of e.cause) v w
 
 -- what is reported where an instruction is on no child
 abbrev pub on_no_child : {X : Type 0} → Result X Failure → Result Bool Failure

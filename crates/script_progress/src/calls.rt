@@ -18,7 +18,7 @@ ghost use Rattle.held_processes.specs.Following.{AreLonger};
 
 use crate::cause::failure_at_start;
 use crate::child::{call_child, child_call};
-use crate::errors::raise;
+use crate::errors::{error_term, raise};
 use crate::{Cause, Failure, Progress, Site, on_no_child};
 use erl_term::Term;
 use held_processes::AppName;
@@ -62,7 +62,7 @@ pub fn apply<R: Wait>(
     match call.name.as_str() {
         "application" => on_no_child(call_app(progress, rt, alloc, site, seat, app_call(call))),
         "supervisor" => call_child(progress, rt, alloc, site, seat, child_call(call)),
-        _ => Err(raise(call)),
+        _ => Err(raise(error_term(call))),
     }
 }
 

@@ -7,7 +7,7 @@
 //! carried out or fails (specs/Steps: `CarriesOut`, `CarriesOutLate`). A [`Failure`] reports both; [`Cause::text`] is how the cause
 //! is shown.
 //! [`apply`] makes a call after the point of no return: an application is started or stopped, a child of a supervisor ends, goes
-//! or begins again, or the script raises an error, as [`raise`] does before the point. A call that takes a child away, or begins
+//! or begins again, or the script raises an error (`raise`), as it may before the point. A call that takes a child away, or begins
 //! it again, leaves one that is up as it is, and `apply` reports which it did, since what the rest of a script does goes by that
 //! (`carried`). Where it fails, of the progress only what is held is said, so that it can be given back.
 //!
@@ -24,7 +24,7 @@ mod site;
 
 pub use calls::apply;
 pub use cause::{Cause, Failure, failure_at_start, on_no_child};
-pub use errors::raise;
+pub use errors::{error_term, raise};
 pub use progress::Progress;
 pub use site::Site;
 pub use sup_tree::Tree;

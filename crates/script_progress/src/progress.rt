@@ -53,6 +53,7 @@ impl Progress {
         ensures left { (first : View) (courses : Courses) → AllFollow first courses self.held
             seat.old.view → AreLeft first courses seat.new.view }
         ensures seen { (p : ℕ) → seen seat.new.view p ≡ seen seat.old.view p }
+        ensures found { seat.new.view.found ≡ seat.old.view.found }
     {
         let Progress {
             held,

@@ -15,7 +15,7 @@ use Rattle.script_progress.specs.declared.cause.Failure.{Failure}
 use Rattle.script_progress.specs.Fault.{Cause, call_fault, error_cause}
 use Rattle.script_progress.specs.InMemory.{cause_of}
 use Rattle.script_progress.specs.Script.{Run, Site}
-use Rattle.script_progress.specs.Steps.{CarriesOut, CarriesOutLate, HasDone, IsCause, IsEarly, TakesSlots, GoesByLooks, Past, ProgressForm, on_no_child}
+use Rattle.script_progress.specs.Steps.{CarriesOut, CarriesOutLate, FailsAtLast, HasDone, IsCause, IsEarly, TakesSlots, GoesByLooks, Past, ProgressForm, on_no_child}
 use Rattle.script_steps.specs.Steps.{goes_by_looks}
 use Rattle.script_progress.proofs.CallLemmas.{early_error, error_fault, error_memory, error_on_no_child}
 use Rattle.script_progress.proofs.SeenLemmas.{cause_seen, seen_in}
@@ -38,9 +38,13 @@ takes_none (apply c) r v w other = absurd (true≢false other)
 takes_none (remove p) r v w other = absurd (true≢false other)
 takes_none i r v w other = tt
 
+fails_anywhere : (i : Instruction) (r : Run) (c : Cause) (w : View) → goes_by_looks i ≡ false → FailsAtLast i r c w
+fails_anywhere (remove p) r c w other = absurd (true≢false other)
+fails_anywhere i r c w other = tt
+
 pub goes_by_none : {X : Type 0} (past : Past) (i : Instruction) (r : Result X Failure) (v w : View) → goes_by_looks i ≡ false → GoesByLooks past i (on_no_child r) v w
 goes_by_none past i (Ok x) v w other = (takes_none i past.run v w other, λ stays. absurd (true≢false (sym stays)))
-goes_by_none past i (Err e) v w other = λ _. takes_none i past.run v w other
+goes_by_none past i (Err e) v w other = (λ _. takes_none i past.run v w other, fails_anywhere i past.run (cause_of e.cause) w other)
 
 -- before it, a call raises the error that it gives
 pub raises_early : (s : Site) (past : Past) (i : Instruction) (call : CallForm) (e : Failure) (a : ProgressForm) (tree : List App) (v : View) → i ≡ apply call → IsEarly i → HasDone past a tree v

@@ -1,5 +1,5 @@
 -- A module that isn't loaded any more.
-use Rattle.std.proofs.Common.{◌≡◌, ℕ, ◌||◌, Bool, false, true≢false, List, if◌then◌else◌, refl, sym, ap, subst, ◌∙◌, None, Some, Result, Ok, Err}
+use Rattle.std.proofs.Common.{◌≡◌, ℕ, ◌||◌, Bool, true, false, true≢false, List, if◌then◌else◌, refl, sym, ap, subst, ◌∙◌, None, Some, Ok, Err}
 use Rattle.proc_table.specs.declared.view.View.{View}
 use Rattle.held_processes.specs.Following.{AllFollow, AreLonger}
 use Rattle.held_processes.specs.Operations.{AreLookedAt, uses_up, modules_by_slot, values_seen}
@@ -10,8 +10,9 @@ use Rattle.script_progress.specs.Tree.{App, supervises}
 use Rattle.script_progress.specs.declared.cause.Failure.{Failure}
 use Rattle.script_progress.specs.Fault.{remove_fault}
 use Rattle.script_progress.specs.Fault.Cause.{in_use}
+use Rattle.script_progress.specs.InMemory.{cause_of}
 use Rattle.script_progress.specs.Script.{Site}
-use Rattle.script_progress.specs.Steps.{CarriesOut, GoesByLooks, HasDone, Past, ProgressForm, on_no_child}
+use Rattle.script_progress.specs.Steps.{CarriesOut, GoesByLooks, HasDone, Past, ProgressForm, TakesSlots, on_no_child}
 use Rattle.held_processes.proofs.SlotLemmas.{longer_still}
 use Rattle.script_progress.proofs.SeenLemmas.{seen_of}
 
@@ -26,13 +27,22 @@ nothing_reported : (past : Past) (name : List ℕ) (a : ProgressForm) (tree : Li
 nothing_reported past name a tree v w b done is unused =
     ap (λ (c : Bool). if c then Some in_use else None) (sym (reported_here past name a tree v w done) ∙ (sym is ∙ unused))
 
--- the slots of its processes were taken
-pub removal_looks : {X : Type 0} (past : Past) (p : PurgingForm) (r : Result X Failure) (a : ProgressForm) (tree : List App) (v w : View) → HasDone past a tree v
-    → (supervises p.name tree ≡ false → AreLookedAt (modules_by_slot tree) p.name past.run.courses v w) → GoesByLooks past (remove p) (on_no_child r) v w
-removal_looks past p (Ok x) a tree v w done looked =
-    (subst (λ (apps : List App). supervises p.name apps ≡ false → AreLookedAt (modules_by_slot apps) p.name past.run.courses v w) done.apps looked, λ stays. absurd (true≢false (sym stays)))
-removal_looks past p (Err e) a tree v w done looked =
-    λ _. subst (λ (apps : List App). supervises p.name apps ≡ false → AreLookedAt (modules_by_slot apps) p.name past.run.courses v w) done.apps looked
+-- the slots of its processes were taken, also where it fails
+slots_taken : (past : Past) (p : PurgingForm) (a : ProgressForm) (tree : List App) (v w : View) → HasDone past a tree v
+    → (supervises p.name tree ≡ false → AreLookedAt (modules_by_slot tree) p.name past.run.courses v w) → TakesSlots (remove p) past.run v w
+slots_taken past p a tree v w done looked = subst (λ (apps : List App). supervises p.name apps ≡ false → AreLookedAt (modules_by_slot apps) p.name past.run.courses v w) done.apps looked
+
+pub removal_looks : (past : Past) (p : PurgingForm) (a : ProgressForm) (tree : List App) (v w : View) → HasDone past a tree v
+    → (supervises p.name tree ≡ false → AreLookedAt (modules_by_slot tree) p.name past.run.courses v w) → GoesByLooks past (remove p) (on_no_child {X = Unit {0}} (Ok tt)) v w
+removal_looks past p a tree v w done looked = (slots_taken past p a tree v w done looked, λ stays. absurd (true≢false (sym stays)))
+
+pub refusal_looks : (past : Past) (p : PurgingForm) (e : Failure) (a : ProgressForm) (tree : List App) (v w : View) (b : Bool) → HasDone past a tree v
+    → (supervises p.name tree ≡ false → AreLookedAt (modules_by_slot tree) p.name past.run.courses v w)
+    → b ≡ (supervises p.name tree || uses_up (values_seen w) (modules_by_slot tree) p.name past.run.courses) → b ≡ true → cause_of e.cause ≡ in_use → GoesByLooks past (remove p) (on_no_child {X = Unit {0}} (Err e)) v w
+refusal_looks past p e a tree v w b done looked is used caused = (
+  λ _. slots_taken past p a tree v w done looked,
+  ap (λ (c : Bool). if c then Some in_use else None) (sym (reported_here past p.name a tree v w done) ∙ (sym is ∙ used)) ∙ ap Some (sym caused),
+)
 
 -- nothing runs it
 pub removed_well : (s : Site) (past : Past) (p : PurgingForm) (m : List ℕ) (a : ProgressForm) (next : NamedModules) (tree : List App) (v w : View) (b : Bool) → HasDone past a tree v → AreLonger v w

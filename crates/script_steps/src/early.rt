@@ -11,7 +11,7 @@ use crate::load::load;
 use crate::suspend::suspend;
 use proc_table::HandlerSeat;
 use relup_instruction::Instr;
-use script_progress::{Failure, Progress, Site, raise};
+use script_progress::{Failure, Progress, Site, error_term, raise};
 use std::alloc::Global;
 use std::sync::Wait;
 
@@ -40,7 +40,7 @@ pub fn carry_out_early<R: Wait>(
         Instr::Suspend(suspensions) => suspend(progress, rt, alloc, site, seat, suspensions),
         Instr::Load(purging) => load(progress, rt, alloc, site, seat, true, purging),
         Instr::CodeChange(conversion) => change_code(progress, alloc, site, conversion),
-        Instr::Apply(call) => Err(raise(call)),
+        Instr::Apply(call) => Err(raise(error_term(call))),
         _ => unreachable!(),
     }
 }

@@ -1,4 +1,4 @@
-use Rattle.std.proofs.Common.{◌∙◌, [], Option, is_some, ap, refl, sym, subst}
+use Rattle.std.proofs.Common.{◌∙◌, [], Option, is_some, ap, sym, subst}
 use Rattle.proc_history.specs.declared.value.Value.{Value}
 use Rattle.proc_history.specs.Values.{up_at}
 use Rattle.proc_table.specs.Holds.{Released}
@@ -6,7 +6,7 @@ use Rattle.held_processes.specs.Following.{HeldForm, IsHeld}
 use Rattle.held_processes.specs.Slots.{IsFollowed, Steps}
 use Rattle.held_processes.proofs.ChangeLemmas.{held_value}
 use Rattle.held_processes.proofs.SlotLemmas.{alone_longer, gives_back, looked_value}
-use Rattle.held_processes.proofs.TakenLemmas.{held_found, held_taken, same_found}
+use Rattle.held_processes.proofs.TakenLemmas.{held_taken}
 use Rattle.held_processes.proofs.steps.is_up.Goals as goal
 
 pub returns-in-Some-clause-reported : goal.returns-in-Some-clause-reported
@@ -38,10 +38,7 @@ pub returns-in-Some-clause-looked : goal.returns-in-Some-clause-looked
 returns-in-Some-clause-looked g c =
     let f = subst (λ (h : Option HeldForm). IsFollowed g.past c.args.pid.slot g.past.course c.args.seat.now.view h) c.in-Some.is c.requires.1.1 in
     let held : IsHeld c.args.pid.slot g.past.course _ c.in-Some.process = f.follows.at in
-    record { taken = λ free. absurd (held.really free); found = same_found c.args.seat.now.view c.args.seat.now.view refl }
+    λ free. absurd (held.really free)
 
 pub returns-in-None-clause-looked : goal.returns-in-None-clause-looked
-returns-in-None-clause-looked g c = record {
-  taken = λ free. held_taken _ _ _ _ _ _ _ c.hold-held.ensures.held c.release.ensures.released;
-  found = held_found _ _ _ _ _ _ _ c.hold-held.ensures.held c.release.ensures.released;
-}
+returns-in-None-clause-looked g c = λ free. held_taken _ _ _ _ _ _ _ c.hold-held.ensures.held c.release.ensures.released

@@ -31,7 +31,7 @@ returns-in-Err-clause-refused g c =
     let stopped = subst (λ (apps : List App). IsStopped s (start_at v apps) instrs c.in-Err.refused.instr (cause_of c.in-Err.refused.cause) c.run_early.new.progress.held c.run_early.new.seat.view)
     c.in-Ok-new.ensures.tree c.in-Err.ensures.ran in
     refused_well s start (script_of c.args.script.now) c.point_in-place.result (script_of (take c.point_in-place.result c.args.script.now)) c.in-Err.refused.instr (cause_of c.in-Err.refused.cause) c.run_early.new.progress.held c.run_early.new.seat.view c.roll_back.new.seat.view
-    c.point_in-place.ensures (front_is c.args.script.now c.point_in-place.result c.point_in-place.ensures) stopped c.roll_back.ensures.seen
+    c.point_in-place.ensures (front_is c.args.script.now c.point_in-place.result c.point_in-place.ensures) stopped c.roll_back.ensures.seen c.roll_back.ensures.found
     (c.roll_back.ensures.left v (courses_within s true stopped.instruction stopped.modules stopped.slot (run_behind s start [] stopped.front)) stopped.partly)
 
 pub returns-in_default-clause-refused : goal.returns-in_default-clause-refused

@@ -1,4 +1,4 @@
-use Rattle.std.proofs.Common.{◌≡◌, [], true, ◌+◌, ◌∙◌, ◌∷◌, List, length, take, drop, sym, ap, subst, arith}
+use Rattle.std.proofs.Common.{◌≡◌, [], true, ◌+◌, ◌∙◌, ◌∷◌, ◌++◌, List, length, take, drop, sym, ap, subst, arith}
 use Rattle.std.proofs.lemmas.List.{length-map, length-take-le, take_all}
 use Rattle.std.specs.List.{AllByRecursion}
 use Rattle.relup_instruction.specs.Instruction.{Instruction, instruction_of, script_of}
@@ -42,9 +42,11 @@ loop-i-preserved g c =
     let so_far = script_of (take c.loop-i.i c.args.instrs.now) in
     let i = instruction_of c.index-instrs-i.result in
     let parts = parted instruction_of c.args.instrs.now c.loop-i.i c.index-instrs-i.result c.loop-i-test.true c.index-instrs-i.is in
-    let early : AllByRecursion IsEarly so_far = all_front IsEarly so_far (i ∷ script_of (drop (c.loop-i.i + 1) c.args.instrs.now)) (subst (AllByRecursion IsEarly) parts c.requires.1.1.0) in
+    let rest = script_of (drop (c.loop-i.i + 1) c.args.instrs.now) in
+    let all : AllByRecursion IsEarly (so_far ++ i ∷ rest) = subst (AllByRecursion IsEarly) parts c.requires.1.1.0 in
+    let early : AllByRecursion IsEarly so_far = all_front IsEarly so_far (i ∷ rest) all in
     let grown = more instruction_of c.args.instrs.now c.loop-i.i c.index-instrs-i.result c.loop-i-test.true c.index-instrs-i.is in
-    let done = run_more_early s g.start so_far i (progress_of c.carry_out_early-done.new.progress) c.carry_out_early-done.new.progress.tree c.loop-i.seat.view c.carry_out_early-done.new.seat.view (still_before so_far early)
+    let done = run_more_early s g.start so_far i (progress_of c.carry_out_early-done.new.progress) c.carry_out_early-done.new.progress.tree c.loop-i.seat.view c.carry_out_early-done.new.seat.view (still_before so_far early) (all_middle IsEarly so_far i rest all)
     c.loop-i.invariant.1 c.in_default.ensures.carried in (
       c.carry_out_early-done.ensures.table ∙ c.loop-i.invariant.0,
       subst (Ran s g.start c.carry_out_early-done.new.seat.view []) (sym grown) done.0,

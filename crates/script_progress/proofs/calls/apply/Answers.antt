@@ -6,10 +6,11 @@ use Rattle.script_progress.specs.declared.cause.Failure.{Failure}
 use Rattle.script_progress.specs.Apps.{CallsApp}
 use Rattle.script_progress.specs.Calls.{AppCall, ChildCall}
 use Rattle.script_progress.specs.Children.{CallsChild}
+use Rattle.script_progress.specs.Fault.{error_cause}
 use Rattle.script_progress.specs.InMemory.{site_of}
 use Rattle.script_progress.specs.Steps.{CarriesOutLate, GoesByLooks, progress_of}
 use Rattle.script_progress.specs.Stops.{AsksMemory, app_takes_memory}
-use Rattle.script_progress.proofs.CallLemmas.{app_called, child_called, child_looked, no_child_called, no_child_raised, other_raises, raised}
+use Rattle.script_progress.proofs.CallLemmas.{app_called, child_called, child_looked, no_child_called, no_child_raised, other_raises, raised, raised_cause}
 use Rattle.script_progress.proofs.calls.apply.Goals as goal
 
 pub returns-in-application-clause-carried : goal.returns-in-application-clause-carried
@@ -34,7 +35,8 @@ pub returns-in_default-clause-carried : goal.returns-in_default-clause-carried
 returns-in_default-clause-carried g c =
     let call = call_of c.args.call.now in
     raised (site_of c.args.site.now) g.past call c.raise.result (progress_of c.args.progress.now) c.args.progress.now.tree c.args.seat.now.view c.requires.1.1.1
-    (other_raises call c.requires.1.1.0 (λ is. c.in_default.not-application (c.as_str.ensures.value ∙ is)) (λ is. c.in_default.not-supervisor (c.as_str.ensures.value ∙ is))) c.raise.ensures
+    (other_raises call c.requires.1.1.0 (λ is. c.in_default.not-application (c.as_str.ensures.value ∙ is)) (λ is. c.in_default.not-supervisor (c.as_str.ensures.value ∙ is)))
+    (raised_cause (error_cause call.args) c.error_term.result _ c.error_term.ensures c.raise.ensures.copied c.raise.ensures.memory)
 
 pub returns-in-application-clause-looked : goal.returns-in-application-clause-looked
 returns-in-application-clause-looked g c =

@@ -7,7 +7,6 @@ use Rattle.held_processes.proofs.AnyLemmas.{any_found, any_none}
 use Rattle.held_processes.proofs.FollowLemmas.{at_slot}
 use Rattle.held_processes.proofs.LookLemmas.{looked_at, looked_none, none_taken, not_user, one_taken, taken_up_to}
 use Rattle.held_processes.proofs.SlotLemmas.{longer_both, longer_still}
-use Rattle.held_processes.proofs.TakenLemmas.{found_both, same_found}
 use Rattle.held_processes.proofs.processes.HeldProcesses.any_up.Goals as goal
 use Rattle.held_processes.proofs.processes.HeldProcesses.any_up.Goals.{then-include+else-is_up, else-include}
 
@@ -23,7 +22,6 @@ loop-slot-init g c = (
   c.requires.1.1,
   λ p below. absurd (omega (arith, below)),
   longer_still c.args.seat.now.view,
-  same_found c.args.seat.now.view c.args.seat.now.view refl,
   λ p below. absurd (omega (arith, below)),
 )
 
@@ -70,8 +68,7 @@ loop-slot-preserved g c =
         looked_none users name cs c.loop-slot.seat.view w.is_up.new.seat.view slot w.if-is_up.ensures.followed.elsewhere.others none
             (ap₂ (λ (a b : Bool). a && b) (sym w.if-include.ensures) (sym w.if-is_up.ensures.reported)),
         longer_both c.args.seat.now.view c.loop-slot.seat.view w.is_up.new.seat.view c.loop-slot.invariant.4 w.if-is_up.ensures.longer,
-        found_both c.args.seat.now.view c.loop-slot.seat.view w.is_up.new.seat.view c.loop-slot.invariant.5 w.if-is_up.ensures.looked.found,
-        one_taken g.followed.first users name cs c.args.seat.now.view c.loop-slot.seat.view w.is_up.new.seat.view slot c.loop-slot.invariant.5 w.if-is_up.ensures.looked c.loop-slot.invariant.6,
+        one_taken g.followed.first users name cs c.args.seat.now.view c.loop-slot.seat.view w.is_up.new.seat.view slot c.loop-slot.invariant.4 w.if-is_up.ensures.looked w.if-is_up.ensures.longer c.loop-slot.invariant.5,
       )
       | else-include w ↦ rw w.seat-is (
         c.loop-slot.invariant.0,
@@ -79,8 +76,7 @@ loop-slot-preserved g c =
         all,
         looked_none users name cs c.loop-slot.seat.view c.loop-slot.seat.view slot (λ q ne. refl) none (not_user users name cs c.loop-slot.seat.view slot (sym w.if-include.ensures)),
         c.loop-slot.invariant.4,
-        c.loop-slot.invariant.5,
-        none_taken users name cs c.args.seat.now.view c.loop-slot.seat.view slot (sym w.if-include.ensures) c.loop-slot.invariant.6,
+        none_taken users name cs c.args.seat.now.view c.loop-slot.seat.view slot (sym w.if-include.ensures) c.loop-slot.invariant.5,
       )
     ]
 
@@ -98,10 +94,10 @@ returns-then-is_up-clause-looked g c =
     let users = modules_by_slot c.args.users.now.tree.now in
     let name = c.args.users.now.module.now in
     let w = c.is_up.new.seat.view in
-    taken_up_to g.followed.first users name g.followed.courses c.args.seat.now.view c.loop-slot.seat.view w c.loop-slot.slot c.loop-slot.invariant.5 c.if-is_up.ensures.looked c.loop-slot.invariant.6
+    taken_up_to g.followed.first users name g.followed.courses c.args.seat.now.view c.loop-slot.seat.view w c.loop-slot.slot c.loop-slot.invariant.4 c.if-is_up.ensures.looked c.if-is_up.ensures.longer c.loop-slot.invariant.5
     (ap₂ (λ (a b : Bool). a && b) (sym c.if-include.ensures) (sym c.if-is_up.ensures.reported))
 
 pub returns-clause-looked : goal.returns-clause-looked
 returns-clause-looked g c =
     let far : slots ≤ c.loop-slot.slot = omega (arith, c.loop-slot-test.false, c.loop-slot.invariant.1) in
-    λ p inside free none. c.loop-slot.invariant.6 p (omega (arith, inside, far)) free
+    λ p inside free none. c.loop-slot.invariant.5 p (omega (arith, inside, far)) free

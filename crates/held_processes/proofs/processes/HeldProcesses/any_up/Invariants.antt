@@ -4,7 +4,6 @@ use Rattle.proc_table.specs.Waits.{HasTaken}
 use Rattle.held_processes.specs.Following.{AllFollow, AreLonger}
 use Rattle.held_processes.specs.Operations.{is_free_user, is_up_user, modules_by_slot, values_seen}
 use Rattle.held_processes.proofs.FollowLemmas.{past_of}
-use Rattle.held_processes.proofs.TakenLemmas.{IsFoundMore}
 use Rattle.held_processes.proofs.processes.HeldProcesses.any_up.Given as goal
 
 abbrev pub ghost-is_up : goal.ghost-is_up
@@ -18,5 +17,4 @@ invariant-loop-slot g l =
     × AllFollow g.followed.first g.followed.courses l.self l.seat.view
     × ((p : ℕ) → p < l.slot → is_up_user (values_seen l.seat.view) (modules_by_slot l.users.tree.now) l.users.module.now g.followed.courses p ≡ false)
     × AreLonger l.initial.seat.view l.seat.view
-    × IsFoundMore l.initial.seat.view l.seat.view
     × ((p : ℕ) → p < l.slot → is_free_user (modules_by_slot l.users.tree.now) l.users.module.now g.followed.courses p ≡ true → HasTaken p l.initial.seat.view l.seat.view)

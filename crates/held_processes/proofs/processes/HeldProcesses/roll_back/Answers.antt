@@ -10,6 +10,7 @@ loop-place-init c = (
   refl,
   λ first cs all. all_going first cs dropped c.self.inside.places.items c.args.seat.now.view (subst (λ (hs : HeldSlots). AllFollow first cs hs c.args.seat.now.view) (sym c.self.view_is) all),
   λ p. refl,
+  refl,
 )
 
 pub loop-place-preserved : goal.loop-place-preserved
@@ -18,6 +19,7 @@ loop-place-preserved c = (
   λ first cs all. ends_free first cs dropped c.loop-place.places.items c.pop.new.self.items c.loop-place.seat.view dropped_keeps_free
       (c.in-Some.ensures.items ∙ ap (λ (x : Option HeldForm). c.pop.new.self.items ++ x ∷ []) c.in_default-place.is) (c.loop-place.invariant.1 first cs all),
   c.loop-place.invariant.2,
+  c.loop-place.invariant.3,
 )
 
 pub roll_back-requires-clause-held : goal.roll_back-requires-clause-held
@@ -41,6 +43,7 @@ loop-place-preserved-in-Some-place c =
           ends_held first cs dropped c.loop-place.places.items c.pop.new.self.items process v c.roll_back.new.seat.view is e
           (c.roll_back.ensures.gone (past_of first cs process.held.slot) (may_end first cs dropped c.loop-place.places.items c.pop.new.self.items process v is e)),
       λ p. c.roll_back.ensures.seen p ∙ c.loop-place.invariant.2 p,
+      c.roll_back.ensures.found ∙ c.loop-place.invariant.3,
     )
 
 pub returns-clause-left : goal.returns-clause-left

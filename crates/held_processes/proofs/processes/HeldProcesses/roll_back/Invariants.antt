@@ -12,6 +12,7 @@ invariant-loop-place l =
     (l.seat.table ≡ l.initial.seat.table)
     × ((first : View) (cs : Courses) → AllFollow first cs l.fn.self l.initial.seat.view → IsEnding first cs dropped l.places.items l.seat.view)
     × ((p : ℕ) → seen l.seat.view p ≡ seen l.initial.seat.view p)
+    × (l.seat.view.found ≡ l.initial.seat.view.found)
 
 abbrev pub decreases-loop-place : goal.decreases-loop-place
 decreases-loop-place l = vec_len l.places

@@ -1,18 +1,16 @@
-use Rattle.std.proofs.Common.{◌≡◌, ◌+◌, ◌<◌, ◌≤◌, ◌∙◌, ◌∷◌, ◌&&◌, not, [], Bool, true, false, List, ℕ, length, length-append, take, drop, sym, ap, subst, subst₂, arith}
+use Rattle.std.proofs.Common.{◌≡◌, ◌+◌, ◌<◌, ◌≤◌, ◌∙◌, ◌∷◌, ◌&&◌, not, [], Bool, true, false, Ok, List, ℕ, length, length-append, take, drop, sym, ap, subst, subst₂, arith}
 use Rattle.std.proofs.lemmas.List.{length-map, length-take-le, take_all}
 use Rattle.relup_instruction.specs.Instruction.{Instruction, instruction_of, script_of}
 use Rattle.relup_script.specs.Script.{is_point}
 use Rattle.held_processes.specs.Course.{on_all}
 use Rattle.held_processes.specs.Course.Operation.{finish, pass_point}
 use Rattle.held_processes.specs.Following.{AllFollow, AreLeft}
-use Rattle.held_processes.proofs.SlotLemmas.{longer_both}
 use Rattle.script_progress.specs.Script.{courses_within}
 use Rattle.script_progress.specs.InMemory.{cause_of, site_of}
-use Rattle.script_progress.specs.Steps.{IsLate}
 use Rattle.script_progress.specs.Stops.{StopsAt}
 use Rattle.relup_exec.specs.Outcome.{Ran, RanLate, began_at, past_behind, run_behind, still_early}
 use Rattle.relup_exec.specs.InMemory.{armed_of}
-use Rattle.script_progress.specs.Steps.{HasDone, IsCarriedOut, IsFault, ProgressForm, progress_of}
+use Rattle.script_progress.specs.Steps.{FailsByLooks, GoesByLooks, HasDone, IsCarriedOut, IsFault, IsLate, ProgressForm, progress_of}
 use Rattle.relup_exec.proofs.PointLemmas.{front_is, point_is}
 use Rattle.relup_exec.proofs.OutcomeLemmas.{point_passed, run_more_late}
 use Rattle.script_steps.proofs.RowLemmas.{more, parted}
@@ -72,8 +70,9 @@ loop-i-preserved g c =
     let grown = more instruction_of script c.loop-i.i c.index-script-i.result c.loop-i-test.true c.index-script-i.is in
     let w = c.carry_out_late-done.new in
     let carried = subst (λ (reported : List Bool). IsCarriedOut s (past_behind s g.start reported so_far) false c.in-Ok.stays i (progress_of w.progress) w.progress.tree c.loop-i.seat.view w.seat.view) c.as_slice.ensures.value c.in-Ok.ensures.carried in
+    let looked = subst (λ (reported : List Bool). GoesByLooks (past_behind s g.start reported so_far) i (Ok c.in-Ok.stays) c.loop-i.seat.view w.seat.view) c.as_slice.ensures.value c.in-Ok.ensures.looked in
     let pushed = sym {A = List Bool} c.push_reserved.ensures.items in
-    let done = run_more_late s g.start c.loop-i.reported.items so_far c.in-Ok.stays i (progress_of w.progress) w.progress.tree c.loop-i.seat.view w.seat.view c.loop-i.invariant.2 c.loop-i.invariant.5 carried in (
+    let done = run_more_late s g.start c.loop-i.reported.items so_far c.in-Ok.stays i (progress_of w.progress) w.progress.tree c.loop-i.seat.view w.seat.view c.loop-i.invariant.2 c.loop-i.invariant.5 carried looked in (
       c.carry_out_late-done.ensures.table ∙ c.loop-i.invariant.0,
       omega (arith, c.loop-i.invariant.1),
       ap (still_early true) grown ∙ (still_push true so_far i ∙ ap (λ e. e && not (is_point i)) c.loop-i.invariant.2),
@@ -83,7 +82,7 @@ loop-i-preserved g c =
       subst₂ (λ (bs : List Bool) (is : List Instruction). HasDone (past_behind s g.start bs is) (progress_of w.progress) w.progress.tree w.seat.view)
           pushed (sym grown) done.1,
       subst₂ (RanLate s g.start c.args.seat.now.view w.seat.view) pushed (sym grown)
-          (late_push s g.start.first c.args.seat.now.view c.loop-i.seat.view w.seat.view true c.loop-i.reported.items so_far c.in-Ok.stays i (began_at s g.start) c.loop-i.invariant.2 c.loop-i.invariant.7 carried.0),
+          (late_push s g.start.first c.args.seat.now.view c.loop-i.seat.view w.seat.view true c.loop-i.reported.items so_far c.in-Ok.stays i (began_at s g.start) c.loop-i.invariant.2 c.loop-i.invariant.7 (carried.0, looked)),
     )
 
 pub push_reserved-requires : goal.push_reserved-requires
@@ -106,18 +105,23 @@ returns-in-Err-clause-broken g c =
         at = record { rest = script_of (drop (c.loop-i.i + 1) script); is = parts; counted = ap (λ n. n + 1) (sym long) };
         late = c.loop-i.invariant.2;
         reported = c.loop-i.reported.items;
+        began = c.loop-i.seat.view;
+        ran = c.loop-i.invariant.5;
         then_view = c.in-Err.ensures.carried.then_view;
-        ran = ran_later s g.start.first g.start.first c.loop-i.seat.view c.in-Err.ensures.carried.then_view true c.loop-i.reported.items so_far (began_at s g.start) c.in-Err.ensures.carried.since c.loop-i.invariant.5;
+        since = c.in-Err.ensures.carried.since;
         fails = subst (λ (reported : List Bool). IsFault g.start.first s c.in-Err.ensures.carried.then_view (run_behind s g.start reported so_far) i (cause_of c.in-Err.failure.cause)) c.as_slice.ensures.value c.in-Err.ensures.carried.fails;
+        ended = c.carry_out_late-done.new.seat.view;
+        longer = c.in-Err.ensures.carried.longer;
+        looked = subst (λ (reported : List Bool). FailsByLooks i (run_behind s g.start reported so_far) (cause_of c.in-Err.failure.cause) c.loop-i.seat.view c.carry_out_late-done.new.seat.view) c.as_slice.ensures.value c.in-Err.ensures.looked;
         modules = c.in-Err.failure.modules;
         slot = c.in-Err.failure.slot;
         stops = subst (λ (reported : List Bool). StopsAt g.start.first s c.in-Err.ensures.carried.then_view (run_behind s g.start reported so_far) i (cause_of c.in-Err.failure.cause) c.in-Err.failure.modules c.in-Err.failure.slot)
             c.as_slice.ensures.value c.in-Err.ensures.carried.stops;
         left = subst (λ (bs : List Bool). AreLeft g.start.first (on_all finish (courses_within s false i c.in-Err.failure.modules c.in-Err.failure.slot (run_behind s g.start bs so_far))) c.close.new.seat.view)
             c.as_slice-in-Err.ensures.value c.close.ensures.left;
-        longer = longer_both c.in-Err.ensures.carried.then_view c.carry_out_late-done.new.seat.view c.close.new.seat.view c.in-Err.ensures.carried.longer c.close.ensures.longer;
+        last = c.close.ensures.longer;
       };
-      late = late_later s g.start.first c.args.seat.now.view c.loop-i.seat.view c.in-Err.ensures.carried.then_view true c.loop-i.reported.items so_far (began_at s g.start) c.in-Err.ensures.carried.since c.loop-i.invariant.7;
+      late = c.loop-i.invariant.7;
     }
 
 pub returns-clause-finished : goal.returns-clause-finished

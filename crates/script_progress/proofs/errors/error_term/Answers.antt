@@ -1,15 +1,16 @@
-use Rattle.std.proofs.Common.{◌≡◌, ◌∙◌, ◌&&◌, true, List, [], ◌∷◌, Some, sym, ap, refl, codes}
+use Rattle.std.proofs.Common.{◌≡◌, ◌∙◌, ◌&&◌, true, List, [], ◌∷◌, Option, Some, Result, Ok, Err, sym, ap, refl, codes}
 use Rattle.std.specs.List.{slice_get}
+use Rattle.std.specs.Prelude.{IfOk, MatchResult}
 use Rattle.std.specs.Option.{option_copied}
 use Rattle.std.specs.Str.{bytes_eq}
 use Rattle.erl_term.specs.declared.term.Term.{Term}
-use Rattle.erl_term.specs.Value.{members_of, value_of}
+use Rattle.erl_term.specs.Value.{Value, members_of, value_of}
 use Rattle.relup_instruction.specs.Instruction.{CallForm, call_of}
 use Rattle.relup_script.specs.Script.{has_one, is_error}
-use Rattle.script_progress.specs.Fault.{error_cause}
+use Rattle.script_progress.specs.Fault.{Cause, error_cause}
 use Rattle.script_progress.specs.Fault.Cause.{raised}
 use Rattle.script_progress.proofs.CallLemmas.{right_true}
-use Rattle.script_progress.proofs.errors.cause_of_call.Goals as goal
+use Rattle.script_progress.proofs.errors.error_term.Goals as goal
 
 error_has_one : (call : CallForm) → is_error call ≡ true → has_one call.args ≡ true
 error_has_one call e =
@@ -27,9 +28,14 @@ unreachable-requires c =
     let first : slice_get c.args.call.now.args.items 0 ≡ Some one.0 = ap (λ (ts : List Term). slice_get ts 0) one.1 in
     cc (sym (ap option_copied c.in_default.is) ∙ (c.first.ensures.value ∙ (ap (λ (ts : List Term). slice_get ts 0) c.deref.ensures.value ∙ first)))
 
-pub returns-in-Ok : goal.returns-in-Ok
-returns-in-Ok c =
+copy_raised : {E : Type 0} (copy : Result Term E) (Q : E → Type 0) (x : Value) (o : Option Cause) → MatchResult copy (λ t. value_of t ≡ x) Q → o ≡ Some (raised x)
+    → IfOk copy (λ t. o ≡ Some (raised (value_of t)))
+copy_raised (Ok t) Q x o same is = is ∙ ap (λ v. Some (raised v)) (sym same)
+copy_raised (Err e) Q x o same is = tt
+
+pub returns : goal.returns
+returns c =
     let one = one_member c.args.call.now.args.items (error_has_one (call_of c.args.call.now) c.requires) in
     let first : slice_get c.args.call.now.args.items 0 ≡ Some one.0 = ap (λ (ts : List Term). slice_get ts 0) one.1 in
     let same : c.in-Some.term.now ≡ one.0 = cc (c.in-Some.ensures.value ∙ (ap (λ (ts : List Term). slice_get ts 0) c.deref.ensures.value ∙ first)) in
-    ap error_cause (ap members_of one.1) ∙ ap (λ v. Some (raised v)) (ap value_of (sym same) ∙ sym c.in-Ok.ensures.cases)
+    copy_raised c.clone.result _ (value_of c.in-Some.term.now) _ c.clone.ensures.cases (ap error_cause (ap members_of one.1) ∙ ap (λ v. Some (raised v)) (ap value_of (sym same)))
