@@ -1,4 +1,5 @@
 mod NamesInOrder
 mod StaleLemmas
+mod ReachLemmas
 mod UpgradeLemmas
 pub mod RunLemmas

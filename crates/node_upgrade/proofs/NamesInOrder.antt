@@ -1,5 +1,6 @@
 -- Names in the order of their bytes, each once: there is one such list of the names for which a test holds.
 use Rattle.std.proofs.Common.{◌≡◌, ℕ, Bool, true, false, ◌||◌, List, [], ◌∷◌, map, Ordering, Less, Equal, Greater, refl, sym, ap, subst, ◌∙◌}
+use Rattle.std.specs.BTreeMap.{insert_entry}
 use Rattle.std.specs.Cmp.Lexicographic.{slice_cmp}
 use Rattle.std.specs.List.{AllByRecursion, list_any}
 use Rattle.std.specs.List.Sorted.{IsStrictlySortedBy}
@@ -107,11 +108,15 @@ ordered_with name (e ∷ es) ordered = by (slice_cmp nat_cmp name e.0) refl (ord
     by Equal is later = ordered
     by Greater is later = (all_with (λ y. slice_cmp nat_cmp e.0 y ≡ Less) name es (turned name e.0 Greater is) ordered.0, later)
 
-among_with : (name q : List ℕ) (es : List (List ℕ × Unit {0})) → is_among q (names_of (with_name name es)) ≡ (bytes_eq q name || is_among q (names_of es))
-unfolding names_of
-among_with name q [] = refl
-among_with name q (e ∷ es) = by (slice_cmp nat_cmp name e.0) refl (among_with name q es)
+-- a name is among those where one was put in if it was, or if it is that one
+pub among_inserted : {X : Type 0} (name q : List ℕ) (v : X) (es : List (List ℕ × X))
+    → is_among q (map (λ (e : List ℕ × X). e.0) (insert_entry (slice_cmp nat_cmp) es name v)) ≡ (bytes_eq q name || is_among q (map (λ (e : List ℕ × X). e.0) es))
+among_inserted {X} name q v [] = refl
+among_inserted {X} name q v (e ∷ es) = by (slice_cmp nat_cmp name e.0) refl (among_inserted name q v es)
   where
+    names : List (List ℕ × X) → List (List ℕ)
+    names = map (λ (e : List ℕ × X). e.0)
+
     twice : (b c : Bool) → (b || c) ≡ (b || (b || c))
     twice true c = refl
     twice false c = refl
@@ -121,11 +126,11 @@ among_with name q (e ∷ es) = by (slice_cmp nat_cmp name e.0) refl (among_with 
     swapped true false c = refl
     swapped false b c = refl
 
-    by : (r : Ordering) → slice_cmp nat_cmp name e.0 ≡ r → is_among q (names_of (with_name name es)) ≡ (bytes_eq q name || is_among q (names_of es))
-        → is_among q (names_of (match_ordering r ((name, tt) ∷ e ∷ es) ((e.0, tt) ∷ es) (e ∷ with_name name es))) ≡ (bytes_eq q name || (bytes_eq q e.0 || is_among q (names_of es)))
+    by : (r : Ordering) → slice_cmp nat_cmp name e.0 ≡ r → is_among q (names (insert_entry (slice_cmp nat_cmp) es name v)) ≡ (bytes_eq q name || is_among q (names es))
+        → is_among q (names (match_ordering r ((name, v) ∷ e ∷ es) ((e.0, v) ∷ es) (e ∷ insert_entry (slice_cmp nat_cmp) es name v))) ≡ (bytes_eq q name || (bytes_eq q e.0 || is_among q (names es)))
     by Less is later = refl
-    by Equal is later = twice (bytes_eq q e.0) (is_among q (names_of es)) ∙ ap (λ n. bytes_eq q n || (bytes_eq q e.0 || is_among q (names_of es))) (sym (same_name name e.0 is))
-    by Greater is later = ap (λ b. bytes_eq q e.0 || b) later ∙ swapped (bytes_eq q e.0) (bytes_eq q name) (is_among q (names_of es))
+    by Equal is later = twice (bytes_eq q e.0) (is_among q (names es)) ∙ ap (λ n. bytes_eq q n || (bytes_eq q e.0 || is_among q (names es))) (sym (same_name name e.0 is))
+    by Greater is later = ap (λ b. bytes_eq q e.0 || b) later ∙ swapped (bytes_eq q e.0) (bytes_eq q name) (is_among q (names es))
 
 in_order : (ns : List (List ℕ)) → IsStrictlySortedBy (slice_cmp nat_cmp) (names_of (names_in_order ns))
 unfolding IsStrictlySortedBy names_of
@@ -135,7 +140,7 @@ in_order (n ∷ ns) = ordered_with n (names_in_order ns) (in_order ns)
 among_sorted : (q : List ℕ) (ns : List (List ℕ)) → is_among q (names_of (names_in_order ns)) ≡ is_among q ns
 unfolding names_of
 among_sorted q [] = refl
-among_sorted q (n ∷ ns) = among_with n q (names_in_order ns) ∙ ap (λ b. bytes_eq q n || b) (among_sorted q ns)
+among_sorted q (n ∷ ns) = among_inserted n q tt (names_in_order ns) ∙ ap (λ b. bytes_eq q n || b) (among_sorted q ns)
 
 pub sorted_are_names : (ns : List (List ℕ)) → AreNamesWith (λ m. is_among m ns) (sorted_names ns)
 unfolding names_of

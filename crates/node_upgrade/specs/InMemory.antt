@@ -1,15 +1,13 @@
 -- An upgrade, and names that are noted, as they lie in memory.
-use Rattle.std.specs.Prelude.{◌≡◌, ℕ, Bool, ◌||◌, ◌&&◌, List, map, is_some}
+use Rattle.std.specs.Prelude.{◌≡◌, ℕ, Bool, ◌||◌, List, map, is_some}
 use Rattle.std.specs.Borrow.{Bor}
 use Rattle.std.specs.BTreeMap.{BTreeMap, get_by}
 use Rattle.std.specs.Cmp.Lexicographic.{slice_cmp}
 use Rattle.std.specs.Ordering.{nat_cmp}
 use Rattle.library.specs.InMemory.{shared_of}
 use Rattle.relup_script.specs.Search.{found_of}
-use Rattle.loaded_modules.specs.Loaded.{NamedModules}
 use Rattle.node_upgrade.specs.Names.{is_among}
 use Rattle.node_upgrade.specs.declared.upgrade.Upgrade.{Upgrade}
-use Rattle.node_upgrade.specs.Stale.{is_stale}
 use Rattle.node_upgrade.specs.Upgrade.{UpgradeForm}
 
 abbrev pub upgrade_of : Upgrade → UpgradeForm
@@ -18,6 +16,6 @@ upgrade_of u = record { found = found_of u.found; releases = u.list.now; target 
 abbrev pub is_noted : BTreeMap (Bor (List ℕ)) (Unit {0}) → List ℕ → Bool
 is_noted noted name = is_some (get_by (λ k. slice_cmp nat_cmp name k.now) noted)
 
--- Those of these names whose modules are stale are noted beside those that were.
-abbrev pub NotesStale : NamedModules → NamedModules → List (List ℕ) → BTreeMap (Bor (List ℕ)) (Unit {0}) → BTreeMap (Bor (List ℕ)) (Unit {0}) → Type 0
-NotesStale loaded target names old new = (q : List ℕ) → is_noted new q ≡ (is_noted old q || (is_among q names && is_stale loaded target q))
+-- These names are noted beside those that were.
+abbrev pub NotesNames : List (List ℕ) → BTreeMap (Bor (List ℕ)) (Unit {0}) → BTreeMap (Bor (List ℕ)) (Unit {0}) → Type 0
+NotesNames names old new = (q : List ℕ) → is_noted new q ≡ (is_noted old q || is_among q names)

@@ -1,5 +1,5 @@
 -- What a script makes of the processes of a node, and of what is loaded and started there.
-use Rattle.std.specs.Prelude.{◌≡◌, ◌≢◌, ◌⊎◌, ℕ, ◌+◌, List, length, string_bytes}
+use Rattle.std.specs.Prelude.{◌≡◌, ◌≢◌, ◌⊎◌, ℕ, List, string_bytes}
 use Rattle.erl_term.specs.Value.{value_of}
 use Rattle.proc_table.specs.declared.view.View.{View}
 use Rattle.relup_exec.specs.Following.{AreUntouched}
@@ -46,13 +46,18 @@ pub record IsInstalled (u : UpgradeForm) (old : NodeState) (i : Installed) (new 
   pub descr : value_of i.descr ≡ u.found.descr
   pub stale : i.stale.items ≡ stale_modules new.modules u.target
 
--- An instruction after the point of no return is the first that fails, and the applications that are started are as they were; or
--- the script has ended, and no memory was left for the answer. What is loaded is as it was.
+-- An instruction after the point of no return is the first that fails. What is loaded and which applications are started is as it
+-- was.
 pub record BreaksOff (u : UpgradeForm) (old : NodeState) (n : ℕ) (c : Cause) (new : NodeState) : Type 0 where
+  pub broken : IsBroken (site_for u old.modules) (start_in old) u.found.script n c new.view
+  pub apps : new.apps ≡ old.apps
   pub modules : new.modules ≡ old.modules
-  pub stopped : (IsBroken (site_for u old.modules) (start_in old) u.found.script n c new.view × (new.apps ≡ old.apps))
-      ⊎ ((c ≡ no_memory) × (n ≡ length u.found.script + 1)
-      × ((modules : NamedModules) × IsCarriedOut u old (state new.view new.apps modules)))
+
+-- Memory was refused before anything was tried, or to an instruction before the point of no return that asks for memory, after those
+-- in front of it were carried out.
+abbrev pub LacksMemory : UpgradeForm → NodeState → NodeState → Type 0
+LacksMemory u old new =
+    (new.view ≡ old.view) ⊎ ((n : ℕ) × IsRefused (site_for u old.modules) (start_in old) u.found.script n no_memory new.view)
 
 -- What is reported of an instruction before the point of no return that fails. Out of memory is reported as `NoMemory`.
 abbrev pub ReportsRefusal : ℕ → Cause → InstallError → Type 0
@@ -63,7 +68,7 @@ ReportsRefusal n c (MustReboot f) = ⊥
 
 -- Why a script that has begun isn't carried out to its end, and what it leaves.
 abbrev pub RunRefused : UpgradeForm → NodeState → NodeState → InstallError → Type 0
-RunRefused u old new (Command command.NoMemory) = IsUntouched old new
+RunRefused u old new (Command command.NoMemory) = LacksMemory u old new × IsUntouched old new
 RunRefused u old new (Command why) = ⊥
 RunRefused u old new (Refused f) =
     (c : Cause) × (c ≢ no_memory) × (failure_of f ≡ failure f.instr (fails c))

@@ -26,8 +26,7 @@ pub enum Why {
 /// A script that isn't carried out to its end.
 #[derive(Drop)]
 pub struct ScriptFailure {
-    /// The number of the instruction, counted from 1: 0 where no instruction is at fault, one past the last where the script has
-    /// ended and no memory is left for the answer.
+    /// The number of the instruction, counted from 1: 0 where no instruction is at fault.
     pub instr: usize,
     pub why: Why,
 }
@@ -40,8 +39,7 @@ pub enum InstallError {
     Command(HandlerError),
     /// The script isn't run, or an instruction before its point of no return fails. Nothing has changed.
     Refused(ScriptFailure),
-    /// An instruction after the point of no return fails, or no memory is left after it. What was done stays, and the node has
-    /// to boot.
+    /// An instruction after the point of no return fails. What was done stays, and the node has to boot.
     MustReboot(ScriptFailure),
 }
 

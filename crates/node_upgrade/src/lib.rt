@@ -5,7 +5,8 @@
 //! the version of the runtime system that runs, and whether each instruction stands where it may. [`Upgrade::run`] carries it out:
 //! at `Ok` the whole script is done, what is loaded is what it says, and the stale modules are reported (`installed`); a script
 //! that is refused before its point of no return has added nothing to any history, and one that fails after it did what it did
-//! until then (`refused`). It waits for processes that clients have.
+//! until then (`refused`). The memory for what is reported is taken before the script begins. It waits for processes that clients
+//! have.
 //!
 //! Only tested: that a script is carried out where memory is there. Trusted: the toolchain,
 //! with what the crates below trust.

@@ -1,53 +1,68 @@
 //! Modules that are loaded in another version than a release has.
-ghost use Rattle.std.specs.Prelude.{◌≡◌, IfOk, OnOk, map};
-ghost use Rattle.library.specs.InMemory.{shared_of};
-ghost use Rattle.node_upgrade.specs.InMemory.{NotesStale, is_noted};
-ghost use Rattle.node_upgrade.specs.Stale.{is_stale, names_in, stale_modules};
+ghost use Rattle.std.specs.Prelude.{◌≡◌, IfOk, OnOk, filter};
 ghost use Rattle.loaded_modules.specs.Loaded.{listed_in};
-ghost use Rattle.node_upgrade.specs.Names.{AreNamesWith};
+ghost use Rattle.node_upgrade.specs.InMemory.{NotesNames, is_noted};
+ghost use Rattle.node_upgrade.specs.Names.{AreNamesWith, sorted_names};
+ghost use Rattle.node_upgrade.specs.Stale.{is_stale, names_concerned, names_in, names_loaded};
+ghost use Rattle.relup_instruction.specs.Instruction.{script_of};
 
-use library::Library;
 use loaded_modules::Loaded;
 use proc_table::Name;
+use relup_instruction::Instr;
 use std::alloc::{AllocError, Global};
 use std::collections::BTreeMap;
-use std::rc::Rc;
 
 // Names that are noted.
 type Noted<'a> = BTreeMap<&'a str, ()>;
 
-/// The modules that are loaded in another version than the release of these libraries has, or that only one of the two has: each
-/// once, by the bytes of their names.
-pub(crate) fn stale_modules(
+/// The names of the modules that may be stale once the script has ended: those of what is loaded before it, of what the release
+/// has, and of what the script loads. Each once, by their bytes.
+pub(crate) fn names_concerned(
     alloc: Global,
-    loaded: &Loaded,
-    target: &[Rc<Library>],
-) -> Result<Vec<Name>, AllocError>
-    ensures { IfOk result (λ names. names.items
-        ≡ stale_modules (listed_in loaded.now) (map shared_of target.now)) }
-{
-    let target = Loaded::of(alloc, target)?;
-    let mut stale = BTreeMap::new(alloc);
-    note_stale(alloc, loaded, loaded, &target, &mut stale)?;
-    note_stale(alloc, &target, loaded, &target, &mut stale)?;
-    names_of(alloc, &stale)
-}
-
-// Notes those of these modules that are stale.
-fn note_stale<'a>(
-    alloc: Global,
-    modules: &'a Loaded,
     loaded: &Loaded,
     target: &Loaded,
-    stale: &mut Noted<'a>,
+    script: &[Instr],
+) -> Result<Vec<Name>, AllocError>
+    ensures { IfOk result (λ names. names.items ≡ sorted_names (names_concerned
+        (listed_in loaded.now) (listed_in target.now) (script_of script.now))) }
+{
+    let mut noted = BTreeMap::new(alloc);
+    note_modules(alloc, loaded, &mut noted)?;
+    note_modules(alloc, target, &mut noted)?;
+    note_loads(script, &mut noted)?;
+    names_of(alloc, &noted)
+}
+
+/// Leaves those of the names whose modules are stale. It takes no memory.
+pub(crate) fn keep_stale(names: &mut Vec<Name>, loaded: &Loaded, target: &Loaded)
+    ensures { names.new.items
+        ≡ filter (is_stale (listed_in loaded.now) (listed_in target.now)) names.old.items }
+{
+    names.retain(|name| is_stale(loaded, target, name.as_str()));
+}
+
+// Notes the names of these modules.
+fn note_modules<'a>(
+    alloc: Global,
+    modules: &'a Loaded,
+    noted: &mut Noted<'a>,
 ) -> Result<(), AllocError>
-    ensures { OnOk result (NotesStale (listed_in loaded.now) (listed_in target.now)
-        (names_in (listed_in modules.now)) stale.old stale.new) }
+    ensures { OnOk result (NotesNames (names_in (listed_in modules.now)) noted.old noted.new) }
 {
     let versions = modules.versions(alloc)?;
     for (name, _) in versions.as_slice() {
-        if is_stale(loaded, target, name) {
-            stale.insert(name, ())?;
+        noted.insert(name, ())?;
+    }
+    Ok(())
+}
+
+// Notes the names of the modules that the script loads.
+fn note_loads<'a>(script: &'a [Instr], noted: &mut Noted<'a>) -> Result<(), AllocError>
+    ensures { OnOk result (NotesNames (names_loaded (script_of script.now)) noted.old noted.new) }
+{
+    for instr in script {
+        if let Instr::Load(purging) = instr {
+            noted.insert(purging.name.as_str(), ())?;
         }
     }
     Ok(())

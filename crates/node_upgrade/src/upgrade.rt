@@ -14,7 +14,7 @@ ghost use Rattle.relup_exec.specs.InMemory.{cause_of};
 ghost use Rattle.loaded_modules.specs.Loaded.{listed_in};
 
 use crate::error::{InstallError, ScriptFailure, Why};
-use crate::stale::stale_modules;
+use crate::stale::{keep_stale, names_concerned};
 use erl_term::Term;
 use library::Library;
 use loaded_modules::Loaded;
@@ -108,7 +108,8 @@ impl Upgrade<'_> {
         restarts(self.found.script)
     }
 
-    /// Carries the script out on these processes. What is loaded is replaced at its end.
+    /// Carries the script out on these processes. What is loaded is replaced at its end. The memory for the answer is taken before
+    /// the script begins, so none is refused once it has ended.
     pub fn run<R: Wait>(
         self,
         rt: &R,
@@ -133,21 +134,16 @@ impl Upgrade<'_> {
     {
         let other = String::from_str(alloc, self.found.other)?;
         let descr = self.found.descr.clone()?;
+        let target = Loaded::of(alloc, self.target)?;
+        let mut stale = names_concerned(alloc, loaded, &target, self.found.script)?;
         let next = self.carry_out(rt, alloc, table, seat, tree, loaded)?;
-        match stale_modules(alloc, &next, self.target) {
-            Ok(stale) => {
-                *loaded = next;
-                Ok(Installed {
-                    other,
-                    descr,
-                    stale,
-                })
-            }
-            Err(_) => Err(InstallError::MustReboot(ScriptFailure {
-                instr: self.found.script.len() + 1,
-                why: Why::Fails(Cause::NoMemory),
-            })),
-        }
+        keep_stale(&mut stale, &next, &target);
+        *loaded = next;
+        Ok(Installed {
+            other,
+            descr,
+            stale,
+        })
     }
 
     // Carries the script out, and answers what is loaded then. What the handler had seen and what was started at first is known

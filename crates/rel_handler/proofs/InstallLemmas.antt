@@ -127,7 +127,7 @@ module _ {D : Type 0} (failures : D → ℕ) (vsn : List ℕ) (h : NodeStore D) 
       by_why Dead of is = absurd of
       by_why Full of is = absurd of
       by_why Device of is = absurd of
-      by_why NoMemory of is = (alive, (all_same h, same))
+      by_why NoMemory of is = (alive, inl refl, (all_same h, same))
       by_why why of is = (alive, is, (all_same h, same))
   no_upgrade n (Refused f) same barred = (alive, inl barred, (all_same h, same))
   no_upgrade n (MustReboot f) same barred = absurd barred
@@ -136,13 +136,14 @@ module _ {D : Type 0} (failures : D → ℕ) (vsn : List ℕ) (h : NodeStore D) 
     -- there is no room for its record
     pub no_room_for : (n : NodeState) (why : HandlerError) → IsUntouched n n → HasNoRoom (extent_in h) (install_room vsn (list_in h)) why → InstallRefused failures vsn h mid n n (Command why)
     no_room_for n Full untouched lacks = (alive, (u, is), lacks, (same, untouched))
-    no_room_for n NoMemory untouched lacks = (alive, (same, untouched))
+    no_room_for n NoMemory untouched lacks = (alive, inl refl, (same, untouched))
     no_room_for n why untouched lacks = absurd lacks
 
     -- it isn't carried out to its end
     pub not_run : (old new : NodeState) (error : InstallError) → HasSpace (extent_in h) (install_room vsn (list_in h)) → RunRefused u old new error
         → InstallRefused failures vsn h (record { store = mid.store; list = mid.list; dead = must_boot error }) old new error
-    not_run old new (Command NoMemory) space r = (alive, (record { disk = same.disk; list = same.list; dead = sym alive; extent = same.extent }, r))
+    not_run old new (Command NoMemory) space (lacks, untouched) =
+        (alive, inr (u, (is, space), lacks), (record { disk = same.disk; list = same.list; dead = sym alive; extent = same.extent }, untouched))
     not_run old new (Command why) space r = absurd r
     not_run old new (Refused f) space r = (alive, inr (u, (is, space), r), (record { disk = same.disk; list = same.list; dead = sym alive; extent = same.extent }, r.4))
     not_run old new (MustReboot f) space r = (alive, (u, (is, space), r), record { disk = same.disk; list = same.list; extent = same.extent; dead = refl })

@@ -13,7 +13,7 @@ use Rattle.node_command.specs.declared.error.HandlerError.TheVariants.{Dead, Dev
 use Rattle.node_upgrade.specs.declared.error.InstallError.{InstallError}
 use Rattle.node_upgrade.specs.declared.error.InstallError.TheVariants.{Command, Refused, MustReboot}
 use Rattle.node_upgrade.specs.declared.upgrade.Installed.{Installed}
-use Rattle.node_upgrade.specs.Running.{NodeState, IsCarriedOut, IsInstalled, IsUntouched, RunRefused}
+use Rattle.node_upgrade.specs.Running.{NodeState, IsCarriedOut, IsInstalled, IsUntouched, LacksMemory, RunRefused}
 use Rattle.node_upgrade.specs.Upgrade.{IsNoUpgrade, IsUpgrade, UpgradeForm}
 use Rattle.node_store.specs.Image.{boot_size, HasSpace}
 use Rattle.node_store.specs.State.{disk_in, extent_in, list_in, is_dead, IsSame}
@@ -75,6 +75,10 @@ NothingChanged h h' old new = IsSame h h' × IsUntouched old new
 abbrev pub MayBegin : {D : Type 0} → List ℕ → NodeStore D → UpgradeForm → Type 0
 MayBegin vsn h u = IsUpgrade vsn (list_in h) u × HasSpace (extent_in h) (install_room vsn (list_in h))
 
+-- Memory was refused before the script was begun, so that the handler has tried nothing; or the script lacked it.
+abbrev pub InstallLacksMemory : {D : Type 0} → List ℕ → NodeStore D → NodeState → NodeState → Type 0
+InstallLacksMemory vsn h old new = (new.view ≡ old.view) ⊎ ((u : UpgradeForm) × MayBegin vsn h u × LacksMemory u old new)
+
 -- Why a release isn't installed, and what stands then. A script that fails after its point of no return, and a device that fails
 -- after the script, leave the handler dead; else nothing has changed.
 abbrev pub InstallRefused : {D : Type 0} → (D → ℕ) → List ℕ → NodeStore D → NodeStore D → NodeState → NodeState → InstallError → Type 0
@@ -82,7 +86,8 @@ InstallRefused failures vsn h h' old new (Command Dead) = (is_dead h ≡ true) �
 InstallRefused failures vsn h h' old new (Command Full) =
     (is_dead h ≡ false) × ((u : UpgradeForm) × IsUpgrade vsn (list_in h) u)
     × (HasSpace (extent_in h) (install_room vsn (list_in h)) → ⊥) × NothingChanged h h' old new
-InstallRefused failures vsn h h' old new (Command NoMemory) = (is_dead h ≡ false) × NothingChanged h h' old new
+InstallRefused failures vsn h h' old new (Command NoMemory) =
+    (is_dead h ≡ false) × InstallLacksMemory vsn h old new × NothingChanged h h' old new
 InstallRefused failures vsn h h' old new (Command Device) =
     (is_dead h ≡ false)
     × ((u : UpgradeForm) × MayBegin vsn h u × IsCarriedOut u old new)

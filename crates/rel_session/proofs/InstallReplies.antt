@@ -258,8 +258,7 @@ module _ {D : Type 0} (v : Device D) (laws : IsDevice v) (vsn : List ℕ) (n new
   broken_replies : (f : ScriptFailure) (u : UpgradeForm) → MayBegin vsn n.handler u → RunRefused u (state_in n) (state_in new) (install_error.MustReboot f) → (failure_of f).why ≢ fails no_memory → IsLost n.handler new.handler
       → Replies (refusal_line (must_reboot (failure_of f)))
   broken_replies f u (is, fits) (c, reported, broke) known lost =
-      ⊎_elim (λ (broken, apps). where_it_runs (RepliesAt (refusal_line (must_reboot (failure_of f)))) (there broken))
-      (λ (memory, at_its_end, finished). absurd (known (ap (λ (g : Failure). g.why) reported ∙ ap fails memory))) broke.stopped
+      where_it_runs (RepliesAt (refusal_line (must_reboot (failure_of f)))) (there broke.broken)
     where
       there : IsBroken (site_for u ps.modules) (start_in (state_in n)) u.found.script f.instr c new.processes.seat.view
           → (events : Events) (extent : Extent) → IsAt v (memory.Made n) (running events extent ps) → RepliesAt (refusal_line (must_reboot (failure_of f))) (running events extent ps)
@@ -333,7 +332,7 @@ module _ {D : Type 0} (v : Device D) (laws : IsDevice v) (vsn : List ℕ) (n new
   command_refused : (why : HandlerError) → InstallRefused v.failures vsn n.handler new.handler (state_in n) (state_in new) (install_error.Command why) → Answers v Does (Err why) (memory.Made n) (memory.Made new)
   command_refused handler_error.Dead (gone, same) = never (sym alive ∙ gone)
   command_refused handler_error.Full (living, (u, is), over, same) = λ p at. inl (full_replies same u is over p at)
-  command_refused handler_error.NoMemory (living, same) = λ p at. inr (refl, inr (leaves_all v laws p (memory.Made n) (memory.Made new) same.0.disk (same_at v laws n new p same.0 (kept_on same) at)))
+  command_refused handler_error.NoMemory (living, lacks, same) = λ p at. inr (refl, inr (leaves_all v laws p (memory.Made n) (memory.Made new) same.0.disk (same_at v laws n new p same.0 (kept_on same) at)))
   command_refused handler_error.Device (living, (u, may, finished), cause, gone) = λ p at. inl (device_replies u may finished cause gone p at)
   command_refused handler_error.NoSuchRelease (living, found, same) = by_list same handler_error.NoSuchRelease found
   command_refused handler_error.ExistingRelease (living, found, same) = by_list same handler_error.ExistingRelease found

@@ -1,4 +1,4 @@
-use Rattle.std.proofs.Common.{inl, refl, subst}
+use Rattle.std.proofs.Common.{refl, subst}
 use Rattle.loaded_modules.specs.Loaded.{listed_in}
 use Rattle.relup_exec.specs.Outcome.{IsBroken, Start}
 use Rattle.relup_exec.specs.InMemory.{cause_of}
@@ -14,11 +14,9 @@ returns-in-Err-run_after-clause-refused g c =
       cause_of failed.cause,
       refl,
       record {
+        broken = subst (λ (start : Start). IsBroken (site_for u (listed_in c.args.loaded.now)) start u.found.script failed.instr (cause_of failed.cause) c.run_after.new.seat.view) c.requires.1.0
+            c.in-Err-run_after.ensures.broken.broken;
+        apps = c.in-Err-run_after.ensures.kept;
         modules = refl {a = listed_in c.args.loaded.now};
-        stopped = inl (
-          subst (λ (start : Start). IsBroken (site_for u (listed_in c.args.loaded.now)) start u.found.script failed.instr (cause_of failed.cause) c.run_after.new.seat.view) c.requires.1.0
-              c.in-Err-run_after.ensures.broken.broken,
-          c.in-Err-run_after.ensures.kept,
-        );
       },
     )

@@ -1,4 +1,4 @@
-use Rattle.std.proofs.Common.{◌≡◌, ◌+◌, Ok, length, sym, ap, subst, ◌∙◌}
+use Rattle.std.proofs.Common.{◌≡◌, ◌+◌, Ok, inl, length, refl, sym, ap, subst, ◌∙◌}
 use Rattle.rel_disk.specs.Moments.{HasFailed}
 use Rattle.rel_list.specs.Event.Event.{installed}
 use Rattle.rel_list.specs.Laws.{leaves_permanent}
@@ -52,7 +52,7 @@ returns-in_err-event-clause-refused g c =
     (let h = c.self.inside.node in
     let n : NodeState = state c.args.seat.now.view c.args.tree.now (listed_in c.args.loaded.now) in
     refuses_with (InstallRefused g.D.Disk.failures c.args.vsn.now h h n n) c.from_residual-in_err-event.result (Command NoMemory) c.from_residual-in_err-event.ensures
-    (c.if-self.false, (all_same h, nothing_done n c.requires.free)))
+    (c.if-self.false, inl refl, (all_same h, nothing_done n c.requires.free)))
 
 pub of-requires-clause-allowed : goal.of-requires-clause-allowed
 of-requires-clause-allowed g c = script_allows c.args.vsn.now (list_in c.self.inside.node) (upgrade_of c.in_ok-upgrade.upgrade).found c.in_ok-upgrade.ensures.found.found
