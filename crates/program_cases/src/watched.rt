@@ -31,7 +31,6 @@ pub(crate) fn push_watched(host: &HostRuntime, words: &str, answer: &mut Answer)
         }
         Err(error) => answered.push_debug(&error),
     }
-    push_calls(watch, answer);
     push_whole(watch.calls.into_inner(), answer);
     answer.push("then ");
     push_whole(answered, answer);
