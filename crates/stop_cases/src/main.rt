@@ -11,7 +11,6 @@ mod commands;
 mod expected;
 mod faults;
 mod lines;
-mod release_table;
 mod running;
 mod runs;
 mod stops;
