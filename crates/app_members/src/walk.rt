@@ -2,7 +2,7 @@
 ghost use Rattle.std.specs.Prelude.{◌≡◌, ℕ, ◌+◌, ◌≤◌, List, [], ◌∷◌, ◌++◌, OnOk, Some, cond, false, length, map, nat_le};
 ghost use Rattle.std.specs.Str.{bytes_eq};
 ghost use Rattle.std.specs.Option.{option_and_then, option_map, option_map_or};
-ghost use Rattle.app_file.specs.InMemory.{specification_of};
+ghost use Rattle.rel_files.specs.AppInMemory.{specification_of};
 ghost use Rattle.mod_table.specs.InMemory.{child_of};
 ghost use Rattle.mod_table.specs.Table.{ChildSpec};
 ghost use Rattle.mod_table.specs.Tables.{child_table, of_kind};
@@ -11,9 +11,9 @@ ghost use Rattle.loaded_modules.specs.Loaded.{modules_in, tables_of};
 ghost use Rattle.app_members.specs.Walk.{child_as_member, child_fault, children_fault, children_members, fault_from, fault_with, members_below, members_from, members_with, starts_among};
 
 use crate::MembersError;
-use app_file::App;
 use loaded_modules::Loaded;
 use mod_table::{Child, ChildKind, Restart, Table};
+use rel_files::App;
 use std::alloc::{AllocError, Global};
 use std::collections::BTreeMap;
 

@@ -1,6 +1,6 @@
 //! Applications that start and stop while processes are held.
 ghost use Rattle.std.specs.Prelude.{◌≡◌, ◌<◌, length, slice_index_or};
-ghost use Rattle.app_file.specs.InMemory.{specification_of};
+ghost use Rattle.rel_files.specs.AppInMemory.{specification_of};
 ghost use Rattle.held_processes.specs.Applications.{StartsIn, held_ended, scene_at, state_ended, with_stopped};
 ghost use Rattle.held_processes.specs.Following.{AllFollow, AreLonger, Followed};
 ghost use Rattle.sup_tree.specs.Loaded.{modules_in, tables_of};
@@ -8,8 +8,8 @@ ghost use Rattle.started_members.specs.Members.{pids_of, process_in, processes_a
 ghost use Rattle.started_members.specs.declared.member.Member.{Member as Part};
 
 use crate::{AppName, HeldProcesses};
-use app_file::App;
 use proc_table::{HandlerSeat, ProcTable};
+use rel_files::App;
 use std::alloc::Global;
 use std::sync::Wait;
 use sup_tree::{Loaded, Member, StartError, Tree};

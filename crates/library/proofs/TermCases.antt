@@ -6,7 +6,7 @@ use Rattle.erl_term.specs.Value.Values.{no_values, value}
 use Rattle.rel_files.specs.Kind.{Kind, TermSays}
 use Rattle.rel_files.specs.Name.{AreDistinct, IsFirstTwice}
 use Rattle.rel_files.proofs.Distinct.{distinct_or_twice, never_both}
-use Rattle.app_file.specs.File.{Specification, IsAppTerm, app_files}
+use Rattle.rel_files.specs.AppFile.{Specification, IsAppTerm, app_files}
 use Rattle.mod_table.specs.File.{mod_files}
 use Rattle.library.specs.Library.{Library, TableTerm, IsLibrary, term_parts}
 use Rattle.library.specs.Reading.{AreTables, AreOfLibraries, SaysLibrary, SaysTableTerm, placed}

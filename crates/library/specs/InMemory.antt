@@ -4,7 +4,7 @@ use Rattle.std.specs.declared.alloc.Global.{Global}
 use Rattle.std.specs.declared.rc.Rc.{Rc}
 use Rattle.std.specs.Option.{option_map}
 use Rattle.erl_term.specs.Value.{value_of}
-use Rattle.app_file.specs.InMemory.{specification_of}
+use Rattle.rel_files.specs.AppInMemory.{specification_of}
 use Rattle.mod_table.specs.declared.reader.ModFile.{ModFile}
 use Rattle.library.specs.declared.library.Library as declared
 use Rattle.library.specs.Library.{Library, TableTerm}

@@ -6,8 +6,8 @@ use Rattle.erl_term.specs.Value.{Value, Values}
 use Rattle.erl_term.specs.Value.Value.{atom}
 use Rattle.rel_files.specs.Parts.{list_in, triple_in, is_word}
 use Rattle.rel_files.specs.Release.{Application}
-pub use Rattle.app_file.specs.File.{Specification}
-use Rattle.app_file.specs.File.{IsAppTerm}
+pub use Rattle.rel_files.specs.AppFile.{Specification}
+use Rattle.rel_files.specs.AppFile.{IsAppTerm}
 use Rattle.mod_table.specs.declared.table.Table.{Table}
 pub use Rattle.mod_table.specs.File.{vsn_of}
 use Rattle.mod_table.specs.File.{IsTableTerm, name_of}

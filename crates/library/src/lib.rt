@@ -17,7 +17,7 @@ mod library;
 mod record;
 mod tables;
 
-pub use app_file::App;
 pub use library::Library;
 pub use mod_table::Table;
 pub use record::{libraries_of_terms, library_of_term};
+pub use rel_files::App;

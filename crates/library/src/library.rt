@@ -4,8 +4,8 @@ ghost use Rattle.std.specs.Option.{option_map};
 ghost use Rattle.library.specs.InMemory.{library_of, table_term_of};
 ghost use Rattle.library.specs.Library.{is_at, is_same_library, is_same_table, are_same_tables};
 
-use app_file::App;
 use mod_table::{ModFile, is_same};
+use rel_files::App;
 
 /// An application with its modules: what the files of its folder say.
 pub struct Library {

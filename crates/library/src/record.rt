@@ -2,19 +2,19 @@
 ghost use Rattle.std.specs.Prelude.{◌≡◌, IfOk, List, MatchOption, map};
 ghost use Rattle.std.specs.Option.{option_map};
 ghost use Rattle.erl_term.specs.Value.{members_of, value_of};
-ghost use Rattle.app_file.specs.File.{Specification, IsAppTerm};
-ghost use Rattle.app_file.specs.InMemory.{specification_of};
+ghost use Rattle.rel_files.specs.AppFile.{Specification, IsAppTerm};
+ghost use Rattle.rel_files.specs.AppInMemory.{specification_of};
 ghost use Rattle.library.specs.InMemory.{library_of, shared_of, table_term_of};
 ghost use Rattle.library.specs.Library.{Library as LibraryInSpecs, library_term, term_parts, tables_there};
 ghost use Rattle.library.specs.Reading.{AreOfLibraries, SaysLibrary};
 
 use crate::Library;
 use crate::tables::{had_memory, placed_in};
-use app_file::{App, app_of_term};
 use erl_term::Term;
 use mod_table::ModFile;
 use rel_files::parts::{is_word, list_in, triple_in};
 use rel_files::terms::{atom_term, list_term, triple_term};
+use rel_files::{App, app_of_term};
 use std::alloc::{AllocError, Global};
 use std::rc::Rc;
 

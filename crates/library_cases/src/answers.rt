@@ -1,7 +1,6 @@
 //! The answer to a case.
 use crate::{apps, checks, kept, libraries, lists, records, release_files, relups, terms};
-use app_file::read_app;
-use rel_files::read_rel;
+use rel_files::{read_app, read_rel};
 use std::alloc::{AllocError, Global};
 use text_cases::Answer;
 

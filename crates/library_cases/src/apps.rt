@@ -1,8 +1,7 @@
-//! Files of applications, as `app_file` reads them.
+//! Files of applications, as `rel_files` reads them.
 use crate::release_files::{push_fault, push_names};
-use app_file::{App, app_of_term, read_app};
 use erl_term::print;
-use rel_files::FileFault;
+use rel_files::{App, FileFault, app_of_term, read_app};
 use std::alloc::Global;
 use text_cases::Answer;
 

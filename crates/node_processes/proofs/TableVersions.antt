@@ -9,7 +9,7 @@ use Rattle.std.specs.Str.{bytes_eq}
 use Rattle.std.proofs.lemmas.Bool.{and_parts}
 use Rattle.rel_files.specs.Name.{IsVersion, is_text}
 use Rattle.rel_list.specs.Releases.{Releases, Entry}
-use Rattle.app_file.specs.File.{Specification}
+use Rattle.rel_files.specs.AppFile.{Specification}
 use Rattle.mod_table.specs.declared.child.ChildKind.{ChildKind}
 use Rattle.mod_table.specs.declared.child.ChildKind.TheVariants as kind
 use Rattle.mod_table.specs.declared.table.Table.{Table}

@@ -13,7 +13,7 @@ use Rattle.proc_table.specs.declared.view.View.{View}
 use Rattle.proc_table.specs.Free.{free_count, BeganLowest}
 use Rattle.proc_table.proofs.CountLemmas.{begins_take_one}
 use Rattle.proc_table.proofs.WaitLemmas.{since, elsewhere_left}
-use Rattle.app_file.specs.InMemory.{specification_of}
+use Rattle.rel_files.specs.AppInMemory.{specification_of}
 use Rattle.rel_files.specs.declared.release.RelApp.{RelApp}
 use Rattle.rel_files.specs.Release.{Application, application_of}
 use Rattle.library.specs.declared.library.Library as declared

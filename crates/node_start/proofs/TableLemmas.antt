@@ -4,7 +4,7 @@ use Rattle.std.specs.Option.{option_map, option_or, option_and_then}
 use Rattle.std.specs.Str.{bytes_eq}
 use Rattle.std.proofs.lemmas.Slice.Eq.{bytes_eq-Decides}
 use Rattle.mod_table.specs.declared.table.Table.{Table}
-use Rattle.app_file.specs.File.{Specification}
+use Rattle.rel_files.specs.AppFile.{Specification}
 use Rattle.library.specs.Library.{Library, TableTerm, AreLibrariesOf}
 use Rattle.rel_files.specs.Name.{AreDistinct}
 use Rattle.rel_files.specs.Release.{Application}

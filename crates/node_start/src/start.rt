@@ -2,7 +2,7 @@
 ghost use Rattle.std.specs.Prelude.{◌≡◌, ◌≤◌, false, None, IfOk, OnOk, length, map};
 ghost use Rattle.std.specs.List.{find};
 ghost use Rattle.std.specs.Option.{option_copied, option_or};
-ghost use Rattle.app_file.specs.InMemory.{specification_of};
+ghost use Rattle.rel_files.specs.AppInMemory.{specification_of};
 ghost use Rattle.library.specs.InMemory.{shared_of};
 ghost use Rattle.library.specs.Library.{AreLibrariesOf};
 ghost use Rattle.node_processes.specs.Fresh.{fresh_processes, fresh_release, started_parts};
@@ -24,12 +24,11 @@ ghost use Rattle.sup_tree.specs.Starts.{AppStarted};
 ghost use Rattle.sup_tree.specs.Tree.{app_named};
 ghost use Rattle.app_members.specs.Walk.{app_fault, app_starts};
 
-use app_file::App;
 use library::Library;
 use loaded_modules::Loaded;
 use proc_table::{HandlerSeat, ProcTable};
 use rel_disk::Disk;
-use rel_files::{RelApp, StartType};
+use rel_files::{App, RelApp, StartType};
 use rel_handler::Handler;
 use rel_list::ListedRelease;
 use std::alloc::{AllocError, Global};

@@ -16,3 +16,6 @@ pub mod OneFault
 pub mod Either
 pub mod KindFiles
 pub mod Limits
+pub mod AppPairLemmas
+pub mod AppReadings
+pub mod AppFormLemmas

@@ -10,3 +10,8 @@ pub mod Sketch
 pub mod Sketched
 pub mod Kind
 pub mod Laws
+pub mod AppParts
+pub mod AppFile
+pub mod AppForm
+pub mod AppInMemory
+pub mod AppLaws

@@ -10,8 +10,8 @@ use Rattle.erl_term.specs.Value.{values_of}
 use Rattle.erl_term.specs.Within.{HaveShortNames, IsShortName, IsWithin, brackets, most_brackets}
 use Rattle.rel_files.specs.Release.{Application}
 use Rattle.rel_files.proofs.Options.{mapped}
-use Rattle.app_file.specs.File.{Specification, IsAppTerm, with_term}
-use Rattle.app_file.specs.Parts.{contents_in}
+use Rattle.rel_files.specs.AppFile.{Specification, IsAppTerm, with_term}
+use Rattle.rel_files.specs.AppParts.{contents_in}
 use Rattle.mod_table.specs.File.{IsTableTerm, name_of}
 use Rattle.library.specs.Library.{AreLibrariesOf, HaveTables, IsLibrary, Library, TableTerm, is_at, library_term, tables_there}
 use Rattle.rel_check.specs.Fault.{Fault, release_fault}

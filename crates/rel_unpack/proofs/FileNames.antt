@@ -12,8 +12,8 @@ use Rattle.rel_files.specs.Parts.{list_in, pair_in, three, word_in}
 use Rattle.rel_files.specs.Sketch.{name_in, names_of, version_or_empty}
 use Rattle.rel_files.proofs.Options.{mapped, chained}
 use Rattle.rel_files.proofs.Texts.{from_names}
-use Rattle.app_file.specs.File.{Specification, specification_in, with_term}
-use Rattle.app_file.specs.Parts.{Entries, Contents, contents, contents_in, entries_in, modules_at, module_in, names_none, top_at, value_at, vsn_in}
+use Rattle.rel_files.specs.AppFile.{Specification, specification_in, with_term}
+use Rattle.rel_files.specs.AppParts.{Entries, Contents, contents, contents_in, entries_in, modules_at, module_in, names_none, top_at, value_at, vsn_in}
 use Rattle.mod_table.specs.declared.child.ChildKind.{ChildKind}
 use Rattle.mod_table.specs.declared.child.Restart.{Restart}
 use Rattle.mod_table.specs.declared.table.Table.TheVariants.{Worker, Super}

@@ -9,7 +9,7 @@ use Rattle.erl_term.specs.Value.{Value}
 use Rattle.erl_term.proofs.Lines.{append_line}
 use Rattle.rel_files.specs.Name.{IsName}
 use Rattle.rel_files.specs.Release.{Application}
-use Rattle.app_file.specs.File.{Specification}
+use Rattle.rel_files.specs.AppFile.{Specification}
 use Rattle.mod_table.specs.declared.table.Table.{Table}
 use Rattle.mod_table.specs.declared.table.Table.TheVariants.{Worker, Super}
 use Rattle.mod_table.specs.File.{table_in}

@@ -14,7 +14,7 @@ use Rattle.rel_files.specs.File.{HasVersions}
 use Rattle.rel_files.specs.Form.{AreAppSpecs, app_form_of}
 use Rattle.rel_files.specs.Name.{IsName, IsVersion, is_name_byte}
 use Rattle.rel_files.specs.Release.{Application, Release}
-use Rattle.app_file.specs.File.{Specification}
+use Rattle.rel_files.specs.AppFile.{Specification}
 use Rattle.rel_unpack.specs.Applications.{AppAt, app_form, is_named}
 use Rattle.rel_unpack.specs.Order.{Outcome, Then, Each}
 use Rattle.rel_unpack.specs.Paths.{app_path}

@@ -9,7 +9,7 @@ use Rattle.rel_files.proofs.OneTermFile.{one_value as one_file_value}
 use Rattle.rel_files.proofs.KindFiles as kind
 use Rattle.rel_files.specs.Fault.{Fault}
 use Rattle.rel_files.specs.Release.{Application}
-use Rattle.app_file.specs.File.{app_files}
+use Rattle.rel_files.specs.AppFile.{app_files}
 use Rattle.library.specs.Library.{Library}
 use Rattle.mod_table.specs.File.{mod_files}
 use Rattle.rel_check.specs.Fault.{release_fault}

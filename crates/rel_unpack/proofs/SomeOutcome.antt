@@ -9,7 +9,7 @@ use Rattle.rel_files.specs.Fault.{Fault}
 use Rattle.rel_files.specs.File.{SaysRelease, HasReleaseFault}
 use Rattle.rel_files.specs.Kind.{Says, HasFault}
 use Rattle.rel_files.specs.Release.{Release, Application}
-use Rattle.app_file.specs.File.{Specification, app_files}
+use Rattle.rel_files.specs.AppFile.{Specification, app_files}
 use Rattle.library.specs.Library.{Library, TableTerm}
 use Rattle.mod_table.specs.declared.table.Table.{Table}
 use Rattle.mod_table.specs.File.{mod_files}

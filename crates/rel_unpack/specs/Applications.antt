@@ -3,7 +3,7 @@ use Rattle.std.specs.Prelude.{◌≡◌, ℕ, Bool, ◌&&◌, List, [], ◌∷�
 use Rattle.std.specs.Str.{bytes_eq}
 use Rattle.rel_files.specs.Kind.{HasFault}
 use Rattle.rel_files.specs.Release.{Application}
-use Rattle.app_file.specs.File.{Specification, SaysApp, app_files}
+use Rattle.rel_files.specs.AppFile.{Specification, SaysApp, app_files}
 use Rattle.mod_table.specs.File.{SaysWith, name_of, mod_files}
 use Rattle.library.specs.Library.{Library, TableTerm}
 use Rattle.rel_unpack.specs.Refusal.{Refusal, IsFault}

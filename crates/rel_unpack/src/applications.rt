@@ -1,6 +1,6 @@
 //! The libraries of a release's applications.
 ghost use Rattle.std.specs.Prelude.{◌≡◌, map, IfOk};
-ghost use Rattle.app_file.specs.InMemory.{specification_of};
+ghost use Rattle.rel_files.specs.AppInMemory.{specification_of};
 ghost use Rattle.library.specs.InMemory.{library_of};
 ghost use Rattle.rel_files.specs.Release.{application_of};
 ghost use Rattle.rel_unpack.specs.Applications.{AppAt, LibrariesAt, LibraryAt, app_form, is_named};
@@ -12,10 +12,9 @@ use crate::error::UnpackError;
 use crate::paths::app_path;
 use crate::source::{read_bytes, refusal_for};
 use crate::tables::read_tables;
-use app_file::{App, read_app};
 use file_source::Files;
 use library::Library;
-use rel_files::RelApp;
+use rel_files::{App, RelApp, read_app};
 use std::alloc::{AllocError, Global};
 use std::rc::Rc;
 

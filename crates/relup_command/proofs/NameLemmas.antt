@@ -9,7 +9,7 @@ use Rattle.erl_term.specs.Value.{Value}
 use Rattle.rel_files.specs.Form.{AreAppSpecs, app_form_of}
 use Rattle.rel_files.specs.Name.{IsName, IsVersion}
 use Rattle.rel_files.specs.Release.{Application}
-use Rattle.app_file.specs.File.{Specification, has_few_modules}
+use Rattle.rel_files.specs.AppFile.{Specification, has_few_modules}
 use Rattle.appup_file.proofs.TermLemmas.{says_its_term}
 use Rattle.rel_unpack.specs.Applications.{AppAt, app_form, is_named}
 use Rattle.rel_unpack.specs.Order.{Outcome, Then, Each}

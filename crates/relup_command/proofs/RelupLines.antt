@@ -7,7 +7,7 @@ use Rattle.std.specs.Str.{bytes_eq}
 use Rattle.erl_term.specs.Lines.{is_one_line}
 use Rattle.erl_term.specs.Value.{Value}
 use Rattle.rel_files.specs.Release.{Application}
-use Rattle.app_file.specs.File.{Specification, has_few_modules}
+use Rattle.rel_files.specs.AppFile.{Specification, has_few_modules}
 use Rattle.relup_instruction.specs.declared.instruction.Direction.{Direction}
 use Rattle.relup_instruction.specs.declared.instruction.Direction.TheVariants.{Up, Down}
 use Rattle.relup_instruction.specs.Instruction.{Instruction}

@@ -1,6 +1,6 @@
 -- The releases that a relup is made of, from their files.
 use Rattle.std.specs.Prelude.{◌≡◌, ℕ, List, map, None, Ok, Err, if◌then◌else◌}
-use Rattle.app_file.specs.File.{Specification, has_few_modules}
+use Rattle.rel_files.specs.AppFile.{Specification, has_few_modules}
 use Rattle.rel_files.specs.Release.{Application, Release}
 use Rattle.rel_files.specs.declared.release.StartType.{StartType}
 use Rattle.rel_unpack.specs.Applications.{AppAt}

@@ -1,15 +1,14 @@
 //! The releases that a relup is made of, from their files.
 ghost use Rattle.std.specs.Prelude.{◌≡◌, IfOk, map, string_bytes};
-ghost use Rattle.app_file.specs.InMemory.{specification_of};
+ghost use Rattle.rel_files.specs.AppInMemory.{specification_of};
 ghost use Rattle.rel_files.specs.Release.{application_of, release_of};
 ghost use Rattle.rel_unpack.specs.Order.{Answers, Each};
 ghost use Rattle.relup_row.specs.Release.{relup_app_of, relup_release_of};
 ghost use Rattle.relup_command.specs.Releases.{RelupAppAt, RelupReleaseAt, ReleasesAt, WithAppups, releases_of, relup_app, relup_release};
 
 use crate::appups::read_appups;
-use app_file::App;
 use file_source::Files;
-use rel_files::{Rel, RelApp, StartType};
+use rel_files::{App, Rel, RelApp, StartType};
 use rel_unpack::{UnpackError, read_application, read_release};
 use relup_translate::{ModuleNames, RelupApp, RelupRelease};
 use std::alloc::{AllocError, Global};

@@ -4,10 +4,10 @@ ghost use Rattle.held_processes.specs.Following.{AllFollow, Followed, HoldsNothi
 ghost use Rattle.sup_tree.specs.Tree.{App as Application};
 
 use crate::node::push_call;
-use app_file::App;
 use held_processes::{AppName, HeldProcesses, Users};
 use loaded_modules::Loaded;
 use proc_table::{HandlerSeat, Pass, Pid, ProcTable};
+use rel_files::App;
 use std::alloc::Global;
 use std::sync::Wait;
 use sup_tree::Tree;

@@ -1,13 +1,13 @@
 //! The start of an application.
 ghost use Rattle.std.specs.Prelude.{◌≡◌};
-ghost use Rattle.app_file.specs.InMemory.{specification_of};
+ghost use Rattle.rel_files.specs.AppInMemory.{specification_of};
 ghost use Rattle.app_members.specs.Loaded.{modules_in, tables_of};
 ghost use Rattle.sup_tree.specs.Starts.{AnswersMembers, StartsApp};
 
 use crate::{StartError, StartedApp, Tree};
-use app_file::App;
 use app_members::{Loaded, NewMember, members_of_app, process_count};
 use proc_table::{HandlerSeat, ProcTable};
+use rel_files::App;
 use started_members::{begin_all, name_of, prepare_all};
 use std::alloc::Global;
 use std::sync::Wait;

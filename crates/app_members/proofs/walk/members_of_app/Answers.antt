@@ -1,5 +1,5 @@
 use Rattle.std.proofs.Common.{ap, sym, subst₂, ◌∙◌}
-use Rattle.app_file.specs.InMemory.{specification_of}
+use Rattle.rel_files.specs.AppInMemory.{specification_of}
 use Rattle.app_members.specs.InMemory.{AreUnlessFault, new_member_of, new_members_of}
 use Rattle.loaded_modules.specs.Loaded.{modules_in, tables_of}
 use Rattle.app_members.proofs.AppLemmas.{top_fault, top_members, without_top}

@@ -1,6 +1,6 @@
 use Rattle.std.proofs.Common.{◌≡◌, Some, rules}
 use Rattle.erl_term.specs.Value.{value_of, members_of}
-use Rattle.app_file.specs.InMemory.{specification_of}
+use Rattle.rel_files.specs.AppInMemory.{specification_of}
 use Rattle.library.specs.Library.{term_parts}
 use Rattle.library.proofs.Terms.{is_library, not_placed}
 use Rattle.library.proofs.record.library_of_term.Goals as goal

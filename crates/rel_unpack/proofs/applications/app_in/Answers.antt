@@ -1,6 +1,6 @@
 use Rattle.std.proofs.Common.{inl}
 use Rattle.rel_unpack.specs.Source.{FileSays}
-use Rattle.app_file.specs.InMemory.{specification_of}
+use Rattle.rel_files.specs.AppInMemory.{specification_of}
 use Rattle.rel_files.specs.Fault.{fault_of}
 use Rattle.rel_unpack.specs.Applications.{app_form}
 use Rattle.rel_unpack.specs.Refusal.Trouble.{faulty}

@@ -1,7 +1,7 @@
 use Rattle.rel_unpack.specs.Refusal.{refusal_of}
 use Rattle.std.proofs.Common.{string_bytes, sym, ap, subst, ◌∙◌, Ok, Err, inl}
 use Rattle.rel_files.specs.Release.{application_of}
-use Rattle.app_file.specs.InMemory.{specification_of}
+use Rattle.rel_files.specs.AppInMemory.{specification_of}
 use Rattle.rel_unpack.specs.Refusal.Refusal.{vsn_mismatch}
 use Rattle.rel_unpack.specs.Source.{FileSays}
 use Rattle.rel_unpack.specs.Paths.{app_path}

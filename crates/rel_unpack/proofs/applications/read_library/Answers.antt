@@ -1,7 +1,7 @@
 use Rattle.std.proofs.Common.{map, inl, inr, refl}
 use Rattle.std.specs.Option.{option_map}
 use Rattle.rel_files.specs.Release.{application_of}
-use Rattle.app_file.specs.InMemory.{specification_of}
+use Rattle.rel_files.specs.AppInMemory.{specification_of}
 use Rattle.library.specs.InMemory.{table_term_of, library_of}
 use Rattle.rel_unpack.specs.Applications.{LibraryAt}
 use Rattle.rel_unpack.proofs.Steps.{passed_on}

@@ -1,6 +1,6 @@
 use Rattle.std.proofs.Common.{Bool, Ok, Err, inl, inr, sym, ap, ◌∙◌}
 use Rattle.std.specs.Prelude.{if◌then◌else◌}
-use Rattle.app_file.specs.InMemory.{specification_of}
+use Rattle.rel_files.specs.AppInMemory.{specification_of}
 use Rattle.rel_files.specs.Release.{application_of}
 use Rattle.rel_unpack.specs.Refusal.Refusal.{too_many}
 use Rattle.rel_unpack.proofs.Steps.{passed_on}

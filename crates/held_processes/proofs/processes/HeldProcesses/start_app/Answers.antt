@@ -1,4 +1,4 @@
-use Rattle.app_file.specs.InMemory.{specification_of}
+use Rattle.rel_files.specs.AppInMemory.{specification_of}
 use Rattle.sup_tree.specs.Loaded.{modules_in, tables_of}
 use Rattle.held_processes.proofs.ApplicationLemmas.{starts_in}
 use Rattle.held_processes.proofs.LongerLemmas.{start_longer}

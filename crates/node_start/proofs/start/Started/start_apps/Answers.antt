@@ -3,7 +3,7 @@ use Rattle.std.proofs.lemmas.List.{length-map}
 use Rattle.library.specs.InMemory.{shared_of}
 use Rattle.rel_files.specs.declared.release.RelApp.{RelApp}
 use Rattle.rel_files.specs.Release.{application_of}
-use Rattle.app_file.specs.InMemory.{specification_of}
+use Rattle.rel_files.specs.AppInMemory.{specification_of}
 use Rattle.proc_table.specs.Free.{free_count}
 use Rattle.rel_check.specs.Walk.{is_started}
 use Rattle.loaded_modules.specs.Loaded.{modules_in, tables_of}

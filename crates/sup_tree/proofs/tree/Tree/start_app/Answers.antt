@@ -1,5 +1,5 @@
 use Rattle.std.proofs.Common.{◌≡◌, length, is_some, map, string_bytes, ap, sym, subst, ◌∙◌, arith}
-use Rattle.app_file.specs.InMemory.{specification_of}
+use Rattle.rel_files.specs.AppInMemory.{specification_of}
 use Rattle.started_members.specs.Preparations.{AllBegan, preparation_of, to_begin}
 use Rattle.app_members.specs.InMemory.{new_members_of}
 use Rattle.app_members.specs.Loaded.{modules_in, tables_of}

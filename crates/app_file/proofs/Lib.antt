@@ -1,3 +1,0 @@
-pub mod PairLemmas
-pub mod Readings
-pub mod FormLemmas

@@ -1,6 +1,0 @@
-use Rattle.rel_files.proofs.KindFiles.{never_says_and_fails}
-use Rattle.app_file.specs.File.{app_files}
-use Rattle.app_file.proofs.laws.no_file_says_an_application_and_has_a_fault.Goals as goal
-
-pub returns : goal.returns
-returns c = never_says_and_fails app_files

@@ -1,5 +1,0 @@
-pub mod Parts
-pub mod File
-pub mod Form
-pub mod InMemory
-pub mod Laws
