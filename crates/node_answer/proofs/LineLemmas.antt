@@ -7,7 +7,7 @@ use Rattle.std.proofs.lemmas.List.{map-append, map_more}
 use Rattle.erl_term.specs.Printing.{text_of}
 use Rattle.erl_term.specs.Value.{Value, value_of}
 use Rattle.erl_term.specs.declared.term.Term.{Term}
-use Rattle.relup_script.specs.Search.{FoundForm}
+use Rattle.relup_file.specs.Search.{FoundForm}
 use Rattle.node_answer.specs.Lines.{checked_line, ok_line}
 use Rattle.rel_files.specs.Terms.{text_term}
 

@@ -5,7 +5,7 @@ use Rattle.erl_term.specs.Value.{Value}
 use Rattle.node_command.specs.Installing.{installation}
 use Rattle.node_command.specs.declared.error.HandlerError.{HandlerError}
 use Rattle.rel_list.specs.Releases.{Releases}
-use Rattle.relup_script.specs.Search.{FoundForm}
+use Rattle.relup_file.specs.Search.{FoundForm}
 use Rattle.node_answer.specs.Refusals.{refusal_line, refusal_of}
 use Rattle.rel_files.specs.Terms.{text_term, atoms_term}
 

@@ -5,7 +5,7 @@ ghost use Rattle.erl_term.specs.Value.Value.{atom};
 ghost use Rattle.node_upgrade.specs.Failure.{failure_of};
 ghost use Rattle.node_upgrade.specs.Failure.Why.{fails};
 ghost use Rattle.rel_files.specs.Terms.{atoms_term};
-ghost use Rattle.relup_script.specs.Search.{found_of};
+ghost use Rattle.relup_file.specs.Search.{found_of};
 ghost use Rattle.node_upgrade.specs.Fault.Cause.{no_memory};
 ghost use Rattle.node_answer.specs.Lines.{checked_line, installed_text};
 ghost use Rattle.node_answer.specs.Refusals.{refusal_line};
@@ -15,7 +15,7 @@ use erl_term::{Term, print};
 use node_upgrade::{Cause, Installed, ScriptFailure, Why};
 use proc_history::Name;
 use rel_files::terms::{atom_term, text_term};
-use relup_script::Found;
+use relup_file::Found;
 use std::alloc::{AllocError, Global};
 
 /// The line of a script that is found: the version and the description of its entry.

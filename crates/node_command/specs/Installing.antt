@@ -6,7 +6,7 @@ use Rattle.rel_list.specs.declared.fault.ListError.{ListError}
 use Rattle.rel_list.specs.Releases.{Releases, relup_at, running}
 use Rattle.rel_list.specs.Event.Event.{installed}
 use Rattle.rel_list.specs.Refusal.{refusal}
-use Rattle.relup_script.specs.Search.{FoundForm, script_between}
+use Rattle.relup_file.specs.Search.{FoundForm, script_between}
 use Rattle.node_command.specs.Taking.{list_refusal}
 use Rattle.node_command.specs.declared.error.HandlerError.{HandlerError}
 use Rattle.node_command.specs.declared.error.HandlerError.TheVariants.{NoMatchingRelup}

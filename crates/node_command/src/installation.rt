@@ -2,11 +2,11 @@
 ghost use Rattle.std.specs.Prelude.{◌≡◌, Ok, Err, MatchResult};
 ghost use Rattle.std.specs.Option.{option_map};
 ghost use Rattle.node_command.specs.Installing.{installation, script_to};
-ghost use Rattle.relup_script.specs.Search.{found_of};
+ghost use Rattle.relup_file.specs.Search.{found_of};
 
 use crate::HandlerError;
 use rel_list::ReleaseList;
-use relup_script::{Found, find_script};
+use relup_file::{Found, find_script};
 
 /// The script by which the release of this version is installed: the upgrade from the running version in its relup, or else the
 /// downgrade to it in the relup of the release that runs (OTP: release_handler:check_install_release/1). It takes no memory.

@@ -27,7 +27,7 @@ use Rattle.node_processes.specs.ModuleVersions.{HasModuleVersion, HaveModuleVers
 use Rattle.relup_instruction.specs.declared.instruction.Direction.{Direction}
 use Rattle.relup_instruction.specs.Instruction.{CallForm, ChangeForm, Instruction}
 use Rattle.relup_instruction.specs.Instruction as relup
-use Rattle.relup_script.specs.Script.{is_point}
+use Rattle.relup_file.specs.Script.{is_point}
 use Rattle.started_members.specs.Places.{Place}
 use Rattle.sup_tree.specs.Children.{child_members, child_place}
 use Rattle.sup_tree.specs.Restarts.{super_app}

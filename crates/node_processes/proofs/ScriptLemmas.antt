@@ -21,7 +21,7 @@ use Rattle.relup_instruction.specs.declared.instruction.Direction.{Direction}
 use Rattle.relup_instruction.specs.declared.instruction.Direction.TheVariants.{Up, Down}
 use Rattle.relup_instruction.specs.Instruction.{CallForm, ChangeForm, Instruction}
 use Rattle.relup_instruction.specs.Instruction.Instruction.{apply, code_change, remove}
-use Rattle.relup_script.specs.Script.{is_error, is_point}
+use Rattle.relup_file.specs.Script.{is_error, is_point}
 use Rattle.mod_table.specs.Tables.{Tables}
 use Rattle.loaded_modules.specs.Loaded.{NamedModules}
 use Rattle.started_members.specs.declared.looks.Stay.TheVariants as stay

@@ -3,10 +3,10 @@ use Rattle.std.proofs.Common.{◌≡◌, ℕ, Bool, true, false, List, Option, S
 use Rattle.std.specs.Prelude.{if◌then◌else◌}
 use Rattle.std.specs.Option.{option_map}
 use Rattle.rel_list.specs.Releases.{Releases}
-use Rattle.relup_script.specs.declared.fault.ScriptFault.{ScriptFault}
-use Rattle.relup_script.specs.Script.{IsRunnable, script_fault}
-use Rattle.relup_script.specs.Search.{FoundForm}
-use Rattle.relup_script.proofs.ScriptLemmas.{runnable}
+use Rattle.relup_file.specs.declared.script_fault.ScriptFault.{ScriptFault}
+use Rattle.relup_file.specs.Script.{IsRunnable, script_fault}
+use Rattle.relup_file.specs.Search.{FoundForm}
+use Rattle.relup_file.proofs.ScriptLemmas.{runnable}
 use Rattle.node_upgrade.specs.Failure.{failure, fault_failure}
 use Rattle.node_upgrade.specs.Failure.Why.{new_emulator}
 use Rattle.node_upgrade.specs.Upgrade.{changes_emulator, script_failure}

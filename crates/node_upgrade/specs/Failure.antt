@@ -1,7 +1,7 @@
 -- Why a script isn't carried out to its end.
 use Rattle.std.specs.Prelude.{ℕ, List, ◌++◌, codes, decimal}
-use Rattle.relup_script.specs.declared.fault.ScriptFault.{ScriptFault}
-use Rattle.relup_script.specs.declared.fault.ScriptFault.TheVariants.{NoPoint, TwoPoints, Misplaced, Unsupported}
+use Rattle.relup_file.specs.declared.script_fault.ScriptFault.{ScriptFault}
+use Rattle.relup_file.specs.declared.script_fault.ScriptFault.TheVariants.{NoPoint, TwoPoints, Misplaced, Unsupported}
 use Rattle.relup_exec.specs.Fault.{Cause, cause_text}
 use Rattle.relup_exec.specs.Fault.Cause.{unsupported}
 use Rattle.relup_exec.specs.InMemory.{cause_of}

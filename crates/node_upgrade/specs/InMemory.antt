@@ -5,7 +5,7 @@ use Rattle.std.specs.BTreeMap.{BTreeMap, get_by}
 use Rattle.std.specs.Cmp.Lexicographic.{slice_cmp}
 use Rattle.std.specs.Ordering.{nat_cmp}
 use Rattle.library.specs.InMemory.{shared_of}
-use Rattle.relup_script.specs.Search.{found_of}
+use Rattle.relup_file.specs.Search.{found_of}
 use Rattle.node_upgrade.specs.Names.{is_among}
 use Rattle.node_upgrade.specs.declared.upgrade.Upgrade.{Upgrade}
 use Rattle.node_upgrade.specs.Upgrade.{UpgradeForm}

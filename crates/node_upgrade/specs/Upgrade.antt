@@ -5,8 +5,8 @@ use Rattle.std.specs.Str.{bytes_eq}
 use Rattle.library.specs.Library.{Library}
 use Rattle.rel_files.specs.Release.{Release}
 use Rattle.rel_list.specs.Releases.{Releases, release_at, running, libraries_at}
-use Rattle.relup_script.specs.Script.{IsRunnable, script_fault}
-use Rattle.relup_script.specs.Search.{FoundForm}
+use Rattle.relup_file.specs.Script.{IsRunnable, script_fault}
+use Rattle.relup_file.specs.Search.{FoundForm}
 use Rattle.node_command.specs.Installing.{installation}
 use Rattle.relup_exec.specs.Script.{Site}
 use Rattle.loaded_modules.specs.Loaded.{NamedModules}

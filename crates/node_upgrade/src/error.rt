@@ -5,7 +5,7 @@ ghost use Rattle.node_upgrade.specs.declared.error.InstallError.TheVariants.{Com
 
 use node_command::HandlerError;
 use relup_exec::Cause;
-use relup_script::ScriptFault;
+use relup_file::ScriptFault;
 use std::alloc::{AllocError, Global};
 
 /// Why a script isn't carried out to its end.

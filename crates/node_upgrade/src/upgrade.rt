@@ -8,8 +8,8 @@ ghost use Rattle.node_upgrade.specs.Running.{IsInstalled, RunRefused, ReportsRef
 ghost use Rattle.node_upgrade.specs.Upgrade.{IsNoUpgrade, IsUpgrade, changes_emulator, erts_of, script_failure, site_for};
 ghost use Rattle.rel_files.specs.Release.{release_of};
 ghost use Rattle.relup_exec.specs.Outcome.{IsFinished, Start};
-ghost use Rattle.relup_script.specs.Script.{IsRunnable, restarts};
-ghost use Rattle.relup_script.specs.Search.{found_of};
+ghost use Rattle.relup_file.specs.Script.{IsRunnable, restarts};
+ghost use Rattle.relup_file.specs.Search.{found_of};
 ghost use Rattle.relup_exec.specs.InMemory.{cause_of};
 ghost use Rattle.loaded_modules.specs.Loaded.{listed_in};
 
@@ -23,7 +23,7 @@ use proc_table::{HandlerSeat, Name, ProcTable};
 use rel_files::Rel;
 use rel_list::ReleaseList;
 use relup_exec::{Cause, Failed, Refused, Site, Tree, run_before};
-use relup_script::{Found, check, restarts};
+use relup_file::{Found, check, restarts};
 use std::alloc::Global;
 use std::rc::Rc;
 use std::sync::Wait;

@@ -10,8 +10,8 @@ use Rattle.rel_list.specs.Refusal.{brings_release, refusal}
 use Rattle.rel_list.specs.Releases.{Releases, has_current, has_one_shot, status_of}
 use Rattle.rel_list.proofs.OwnRules.{own_of_step}
 use Rattle.rel_records.specs.Writing.{IsOfListed}
-use Rattle.relup_script.specs.Script.{restarts}
-use Rattle.relup_script.specs.Search.{FoundForm}
+use Rattle.relup_file.specs.Script.{restarts}
+use Rattle.relup_file.specs.Search.{FoundForm}
 use Rattle.node_command.specs.Installing.{installation, script_to, unless_listed_refusal}
 use Rattle.node_command.specs.Taking.{change_size, commanded}
 use Rattle.node_command.specs.declared.error.HandlerError.{HandlerError}

@@ -3,7 +3,7 @@ use Rattle.std.specs.Prelude.{ℕ, List, if◌then◌else◌, Result, Err}
 use Rattle.node_command.specs.Installing.{installation}
 use Rattle.node_command.specs.declared.error.HandlerError.{HandlerError}
 use Rattle.node_command.specs.declared.error.HandlerError.TheVariants.{Dead}
-use Rattle.relup_script.specs.Search.{FoundForm}
+use Rattle.relup_file.specs.Search.{FoundForm}
 use Rattle.node_store.specs.State.{list_in, is_dead}
 use Rattle.node_store.specs.declared.node_store.NodeStore.{NodeStore}
 

@@ -4,8 +4,8 @@ use Rattle.rel_disk.specs.Moments.{HasFailed}
 use Rattle.rel_list.specs.Releases.{Releases, has_one_shot}
 use Rattle.rel_list.specs.Event.{Event, list_restarted}
 use Rattle.rel_list.specs.Event.Event.{installed, restart_installed}
-use Rattle.relup_script.specs.Script.{restarts}
-use Rattle.relup_script.specs.Search.{FoundForm}
+use Rattle.relup_file.specs.Script.{restarts}
+use Rattle.relup_file.specs.Search.{FoundForm}
 use Rattle.node_command.specs.Installing.{installation}
 use Rattle.node_command.specs.Taking.{change_size}
 use Rattle.node_command.specs.declared.error.HandlerError.{HandlerError}

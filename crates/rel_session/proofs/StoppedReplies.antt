@@ -13,7 +13,7 @@ use Rattle.node_store.specs.Image.{Extent}
 use Rattle.rel_handler.specs.Installing.{needs_restart}
 use Rattle.relup_exec.specs.Alone.{Outcome}
 use Rattle.relup_exec.specs.Alone.Outcome.{ends, refuses, breaks}
-use Rattle.relup_script.specs.Search.{FoundForm}
+use Rattle.relup_file.specs.Search.{FoundForm}
 use Rattle.rel_session.specs.Booting.{BootsStore}
 use Rattle.rel_session.specs.Installation.{Installs, IsInstallationReply, RepliesTo, RunsUnless, upgrade_outcome}
 use Rattle.rel_session.specs.Node.{Place, Reply, releases_after}

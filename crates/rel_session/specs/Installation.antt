@@ -16,7 +16,7 @@ use Rattle.node_store.specs.Image.{Extent, extent_behind, HasSpace}
 use Rattle.relup_exec.specs.Alone as script
 use Rattle.relup_exec.specs.Alone.{outcome}
 use Rattle.relup_exec.specs.Alone.Outcome.{ends, refuses, breaks}
-use Rattle.relup_script.specs.Search.{FoundForm}
+use Rattle.relup_file.specs.Search.{FoundForm}
 use Rattle.rel_session.specs.Booting.{store_behind}
 use Rattle.rel_session.specs.Node.{Reply, releases_after, reply, refused, failed, done, behind, with_text}
 use Rattle.rel_session.specs.Node.Place.{running, dead}

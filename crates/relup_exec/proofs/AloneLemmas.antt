@@ -11,7 +11,7 @@ use Rattle.proc_table.specs.Views.{seen}
 use Rattle.relup_instruction.specs.declared.instruction.Direction.{Direction}
 use Rattle.relup_instruction.specs.Instruction.{ChangeForm, Instruction}
 use Rattle.relup_instruction.specs.Instruction.Instruction.{apply, code_change, point_of_no_return, remove}
-use Rattle.relup_script.specs.Script.{is_error, is_point}
+use Rattle.relup_file.specs.Script.{is_error, is_point}
 use Rattle.started_members.specs.declared.looks.Stay.{Stay}
 use Rattle.started_members.specs.declared.looks.Stay.TheVariants.{Up, UpOrTemporary}
 use Rattle.started_members.specs.declared.member.MemberState.{MemberState}

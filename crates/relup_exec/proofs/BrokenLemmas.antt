@@ -24,7 +24,7 @@ use Rattle.script_progress.specs.Script.{Run, Site, call_within, change_within, 
 use Rattle.script_progress.specs.Steps.{HasNoFaultAt, IsFault}
 use Rattle.script_progress.specs.Stops.{CallStops, StopsAt, StopsIn, UnlessMemory, child_count, child_goes, is_first_stuck, is_stuck_at}
 use Rattle.script_progress.proofs.CallLemmas.{left_true, right_true}
-use Rattle.relup_script.specs.Script.{is_point}
+use Rattle.relup_file.specs.Script.{is_point}
 use Rattle.relup_exec.specs.Alone.{LeavesOneHistory, values_alone}
 use Rattle.relup_exec.specs.Outcome.{IsBroken, Ran, RanAll, Start, began_at, run_behind}
 use Rattle.relup_exec.proofs.AloneLemmas.{Alike, child_alike, fault_is, row_alike, seen_alone, stays_alike, stuck_alike}

@@ -12,7 +12,7 @@ use Rattle.held_processes.specs.Operations.{Values, values_seen}
 use Rattle.held_processes.proofs.CourseLemmas.{no_block_is_nothing}
 use Rattle.relup_instruction.specs.Instruction.{Instruction}
 use Rattle.relup_instruction.specs.Instruction.Instruction.{apply, point_of_no_return, remove}
-use Rattle.relup_script.specs.Script.{IsRunnable, is_error, is_supported_call}
+use Rattle.relup_file.specs.Script.{IsRunnable, is_error, is_supported_call}
 use Rattle.sup_tree.specs.Tree.{App}
 use Rattle.script_progress.specs.Script.{Run, Site, courses_within}
 use Rattle.script_progress.specs.Fault.{Cause, fault}

@@ -8,7 +8,7 @@ use Rattle.held_processes.proofs.CourseLemmas.{module_adds_no_block}
 use Rattle.relup_instruction.specs.declared.instruction.Direction.{Direction}
 use Rattle.relup_instruction.specs.Instruction as instruction
 use Rattle.relup_instruction.specs.Instruction.{CallForm, ChangeForm, Instruction}
-use Rattle.relup_script.specs.Script.{has_one, is_error, is_supported_call}
+use Rattle.relup_file.specs.Script.{has_one, is_error, is_supported_call}
 use Rattle.loaded_modules.specs.Loaded.{module_named}
 use Rattle.std.specs.Str.{bytes_eq}
 use Rattle.std.proofs.lemmas.Slice.Eq.{bytes_eq-Decides}

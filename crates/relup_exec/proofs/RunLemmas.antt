@@ -4,8 +4,8 @@ use Rattle.std.specs.List.{AllByRecursion}
 use Rattle.proc_table.specs.declared.view.View.{View}
 use Rattle.relup_instruction.specs.Instruction.{CallForm, ChangeForm, Instruction}
 use Rattle.relup_instruction.specs.Instruction.Instruction.{apply, code_change, point_of_no_return}
-use Rattle.relup_script.specs.Script.{IsRunnable, is_point}
-use Rattle.relup_script.proofs.ScriptLemmas.{are_early}
+use Rattle.relup_file.specs.Script.{IsRunnable, is_point}
+use Rattle.relup_file.proofs.ScriptLemmas.{are_early}
 use Rattle.library.specs.Library.{Library}
 use Rattle.loaded_modules.specs.Loaded.{NamedModules}
 use Rattle.relup_instruction.specs.declared.instruction.Direction.{Direction}

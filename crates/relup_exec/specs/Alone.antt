@@ -5,7 +5,7 @@ use Rattle.proc_table.specs.declared.view.View.{View}
 use Rattle.proc_table.specs.Agrees.{slots}
 use Rattle.proc_table.specs.Views.{seen}
 use Rattle.relup_instruction.specs.Instruction.{Instruction}
-use Rattle.relup_script.specs.Script.{is_point}
+use Rattle.relup_file.specs.Script.{is_point}
 use Rattle.loaded_modules.specs.Loaded.{NamedModules}
 use Rattle.sup_tree.specs.Tree.{App}
 use Rattle.held_processes.specs.Course.{added}

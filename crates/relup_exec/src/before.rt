@@ -8,12 +8,12 @@ ghost use Rattle.relup_exec.specs.InMemory.{armed_of};
 ghost use Rattle.relup_exec.specs.Stepwise.{HasBegun, RunsAll, start_at};
 ghost use Rattle.script_progress.specs.Steps.{IsEarly, progress_of};
 ghost use Rattle.relup_instruction.specs.Instruction.{script_of};
-ghost use Rattle.relup_script.specs.Script.{IsRunnable};
+ghost use Rattle.relup_file.specs.Script.{IsRunnable};
 
 use crate::armed::Armed;
 use proc_table::HandlerSeat;
+use relup_file::is_point;
 use relup_instruction::Instr;
-use relup_script::is_point;
 use script_steps::{Cause, Failure, Progress, Site, carry_out_early};
 use std::alloc::Global;
 use std::sync::Wait;

@@ -3,3 +3,4 @@ pub mod EntryLemmas
 pub mod RelupLemmas
 pub mod Printed
 pub mod FileLemmas
+pub mod ScriptLemmas

@@ -5,3 +5,7 @@ pub mod Parts
 pub mod Outline
 pub mod File
 pub mod Laws
+pub mod ScriptFault
+pub mod Script
+pub mod Search
+pub mod ScriptLaws

@@ -7,8 +7,8 @@ use Rattle.relup_instruction.specs.declared.instruction.Direction.TheVariants.{U
 use Rattle.relup_instruction.specs.Instruction.{Instruction}
 use Rattle.relup_instruction.specs.Instruction.Instruction.{load_object_code, point_of_no_return, restart_emulator}
 use Rattle.relup_file.specs.Relup.{EntryForm, RelupForm}
-use Rattle.relup_script.specs.Script.{is_point, is_restart, is_end, is_supported, may_precede, may_follow}
-use Rattle.relup_script.proofs.ScriptLemmas.{MayFollow, only_unsupported}
+use Rattle.relup_file.specs.Script.{is_point, is_restart, is_end, is_supported, may_precede, may_follow}
+use Rattle.relup_file.proofs.ScriptLemmas.{MayFollow, only_unsupported}
 use Rattle.appup_file.specs.Instruction.{AppupInstruction}
 use Rattle.appup_file.specs.Instruction.AppupInstruction.{low_level}
 use Rattle.relup_row.specs.Release.{RelupAppForm, RelupReleaseForm, WayForm, way_between}

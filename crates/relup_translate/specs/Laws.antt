@@ -9,9 +9,9 @@ use Rattle.relup_instruction.specs.Instruction.{FetchForm, Instruction}
 use Rattle.relup_instruction.specs.Instruction.Instruction.{load_object_code, point_of_no_return, load}
 use Rattle.relup_file.specs.Form.{IsRelup}
 use Rattle.relup_file.specs.Relup.{EntryForm, RelupForm}
-use Rattle.relup_script.specs.declared.fault.ScriptFault.{ScriptFault}
-use Rattle.relup_script.specs.declared.fault.ScriptFault.TheVariants.{Unsupported}
-use Rattle.relup_script.specs.Script.{may_follow, is_restart, is_end, IsScriptFault}
+use Rattle.relup_file.specs.declared.script_fault.ScriptFault.{ScriptFault}
+use Rattle.relup_file.specs.declared.script_fault.ScriptFault.TheVariants.{Unsupported}
+use Rattle.relup_file.specs.Script.{may_follow, is_restart, is_end, IsScriptFault}
 use Rattle.appup_file.specs.Instruction.{AppupInstruction, AppupEntryForm, AppupForm}
 use Rattle.appup_file.specs.Instruction.AppupInstruction.{add_application, remove_application, low_level}
 use Rattle.appup_file.specs.Search.{entries_of, entry_for}

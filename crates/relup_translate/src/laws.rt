@@ -42,7 +42,7 @@ pub fn made_scripts_fetch_what_they_load()
     ensures { FetchesLoads }
 {}
 
-/// `check` of `relup_script` finds no fault in a script that is made but an instruction that can't be run anywhere.
+/// `check` of `relup_file` finds no fault in a script that is made but an instruction that can't be run anywhere.
 pub fn made_scripts_have_only_unsupported_instructions()
     ensures { StandsRight }
 {}

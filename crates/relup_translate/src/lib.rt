@@ -8,7 +8,7 @@
 //! and that a refusal is the first fault; that a way has none exactly where each application of another version has an entry
 //! without a fault; that a script has all that its changes become, and a relup an entry for each release; that each script that
 //! is made has one point of no return, and fetches what it loads, where no appup has a `load` of its own; that `check` of
-//! `relup_script` finds nothing in it but instructions that can't be run anywhere; that a relup that is made has names and
+//! `check` of `relup_file` finds nothing in it but instructions that can't be run anywhere; that a relup that is made has names and
 //! versions, where its releases have; and that a relup from a release to itself changes nothing.
 //!
 //! Only tested: that a relup is made where memory is there. Trusted: the toolchain alone.

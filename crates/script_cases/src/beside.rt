@@ -2,7 +2,7 @@
 ghost use Rattle.std.specs.Prelude.{◌≡◌};
 ghost use Rattle.held_processes.specs.Following.{HoldsNothing};
 ghost use Rattle.relup_instruction.specs.Instruction.{script_of};
-ghost use Rattle.relup_script.specs.Script.{IsRunnable};
+ghost use Rattle.relup_file.specs.Script.{IsRunnable};
 
 use crate::cases::push_stopped;
 use crate::node::{
@@ -11,8 +11,8 @@ use crate::node::{
 use loaded_modules::Loaded;
 use proc_table::{HandlerSeat, Pass, Pid, ProcTable, Tried};
 use relup_exec::{Refused, Site, run_before};
+use relup_file::check;
 use relup_instruction::Instr;
-use relup_script::check;
 use std::alloc::Global;
 use std::sync::{Barrier, Wait};
 use std::thread;

@@ -3,7 +3,7 @@ ghost use Rattle.std.specs.Prelude.{◌≡◌};
 ghost use Rattle.held_processes.specs.Following.{HoldsNothing};
 ghost use Rattle.relup_instruction.specs.Instruction.{script_of};
 ghost use Rattle.relup_exec.specs.Outcome.{Start};
-ghost use Rattle.relup_script.specs.Script.{IsRunnable};
+ghost use Rattle.relup_file.specs.Script.{IsRunnable};
 
 use crate::beside::push_beside;
 use crate::held::push_way;
@@ -14,8 +14,8 @@ use loaded_modules::Loaded;
 use proc_table::{HandlerSeat, Pass, Pid, ProcTable};
 use rel_list::ReleaseList;
 use relup_exec::{Cause, Site, run_before};
+use relup_file::check;
 use relup_instruction::Instr;
-use relup_script::check;
 use std::alloc::{AllocError, Global};
 use std::sync::Wait;
 use std::thread::Threads;

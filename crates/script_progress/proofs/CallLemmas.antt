@@ -12,7 +12,7 @@ use Rattle.held_processes.specs.Following.{AllFollow, AreLonger}
 use Rattle.held_processes.specs.Operations.{Values, values_seen}
 use Rattle.relup_instruction.specs.Instruction.{CallForm}
 use Rattle.relup_instruction.specs.Instruction.Instruction.{apply}
-use Rattle.relup_script.specs.Script.{has_one, is_app, is_application, is_child, is_child_call, is_child_word, is_error, is_one_app_word, is_supported, is_supported_call, is_typed_app}
+use Rattle.relup_file.specs.Script.{has_one, is_app, is_application, is_child, is_child_call, is_child_word, is_error, is_one_app_word, is_supported, is_supported_call, is_typed_app}
 use Rattle.sup_tree.specs.Tree.{App}
 use Rattle.script_progress.specs.declared.cause.Failure.{Failure}
 use Rattle.script_progress.specs.Apps.{CallsApp}

@@ -10,7 +10,7 @@ use Rattle.mod_table.specs.Tables.{Tables}
 use Rattle.relup_instruction.specs.declared.instruction.Direction.{Direction}
 use Rattle.relup_instruction.specs.Instruction.{ChangeForm, CallForm, Instruction}
 use Rattle.relup_instruction.specs.Instruction.Instruction.{load_object_code, load, code_change, remove, apply}
-use Rattle.relup_script.specs.Script.{is_error}
+use Rattle.relup_file.specs.Script.{is_error}
 use Rattle.loaded_modules.specs.Loaded.{Module, library_modules, module_named}
 use Rattle.sup_tree.specs.Places.{Place}
 use Rattle.sup_tree.specs.Children.{child_place, has_one_supervisor}

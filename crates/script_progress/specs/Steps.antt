@@ -3,7 +3,7 @@ use Rattle.std.specs.Prelude.{◌≡◌, ◌≢◌, ℕ, Bool, true, false, ◌&
 use Rattle.proc_table.specs.declared.view.View.{View}
 use Rattle.relup_instruction.specs.Instruction.{Instruction}
 use Rattle.relup_instruction.specs.Instruction.Instruction.{apply, remove}
-use Rattle.relup_script.specs.Script.{is_supported, may_follow, may_precede}
+use Rattle.relup_file.specs.Script.{is_supported, may_follow, may_precede}
 use Rattle.loaded_modules.specs.Loaded.{NamedModules, listed_in}
 use Rattle.sup_tree.specs.Children.{child_place}
 use Rattle.sup_tree.specs.Tree.{App, supervises}

@@ -12,7 +12,7 @@ use Rattle.proc_table.specs.Agrees.{slots}
 use Rattle.relup_instruction.specs.declared.instruction.Direction.{Direction}
 use Rattle.relup_instruction.specs.Instruction.{CallForm, ChangeForm, Instruction}
 use Rattle.relup_instruction.specs.Instruction.Instruction.{load_object_code, suspend, load, code_change, apply}
-use Rattle.relup_script.specs.Script.{is_error}
+use Rattle.relup_file.specs.Script.{is_error}
 use Rattle.sup_tree.specs.Children.{child_place, has_one_supervisor}
 use Rattle.sup_tree.specs.Tree.{app_named}
 use Rattle.sup_tree.specs.Places.{Place}

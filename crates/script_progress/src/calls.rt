@@ -6,7 +6,7 @@ ghost use Rattle.erl_term.specs.Value.{members_of};
 ghost use Rattle.library.specs.InMemory.{library_of, shared_of};
 ghost use Rattle.relup_instruction.specs.Instruction.{call_of};
 ghost use Rattle.relup_instruction.specs.Instruction.Instruction.{apply};
-ghost use Rattle.relup_script.specs.Script.{is_supported_call};
+ghost use Rattle.relup_file.specs.Script.{is_supported_call};
 ghost use Rattle.script_progress.specs.Apps.{CallsApp, StartsFrom, app_call_of, start_cause};
 ghost use Rattle.script_progress.specs.InMemory.{cause_of, site_of};
 ghost use Rattle.script_progress.specs.Calls.AppCall.{stops};

@@ -1,7 +1,7 @@
 //! Errors that a script raises.
 ghost use Rattle.erl_term.specs.Value.{value_of};
 ghost use Rattle.relup_instruction.specs.Instruction.{call_of};
-ghost use Rattle.relup_script.specs.Script.{is_error};
+ghost use Rattle.relup_file.specs.Script.{is_error};
 ghost use Rattle.script_progress.specs.Fault.Cause.{no_memory, raised};
 ghost use Rattle.script_progress.specs.Fault.{error_cause};
 ghost use Rattle.script_progress.specs.InMemory.{cause_of};

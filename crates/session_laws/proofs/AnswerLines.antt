@@ -37,7 +37,7 @@ use Rattle.rel_list.specs.declared.fault.ListError.{ListError}
 use Rattle.rel_list.specs.declared.fault.ListError.TheVariants as list_error
 use Rattle.rel_list.specs.Event.Event.{installed}
 use Rattle.rel_list.specs.Refusal.{refusal}
-use Rattle.relup_script.specs.Search.{FoundForm}
+use Rattle.relup_file.specs.Search.{FoundForm}
 use Rattle.node_command.specs.Installing.{script_to, unless_listed_refusal}
 use Rattle.node_command.specs.Taking.{list_refusal}
 use Rattle.node_answer.specs.Refusals.{NodeRefusal, refusal_of, refusal_line}

@@ -40,7 +40,7 @@ use Rattle.node_command.specs.Installing.{installation}
 use Rattle.node_upgrade.specs.Failure.{Failure}
 use Rattle.node_upgrade.specs.Upgrade.{script_failure}
 use Rattle.relup_exec.specs.Alone as script
-use Rattle.relup_script.specs.Search.{FoundForm}
+use Rattle.relup_file.specs.Search.{FoundForm}
 use Rattle.rel_session.specs.Installation.{RunsUnless, Installs, IsInstallationReply, RepliesTo, restarted_reply, upgrade_outcome}
 use Rattle.node_processes.specs.Scripts.{behind_run}
 use Rattle.script_progress.specs.Script.{Run}

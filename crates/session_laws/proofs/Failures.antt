@@ -19,7 +19,7 @@ use Rattle.rel_session.specs.Files.{files_behind, source_of}
 use Rattle.node_processes.specs.Processes.{Processes}
 use Rattle.node_processes.specs.Scripts.{behind_run}
 use Rattle.node_upgrade.specs.Stale.{stale_modules}
-use Rattle.relup_script.specs.Search.{FoundForm}
+use Rattle.relup_file.specs.Search.{FoundForm}
 use Rattle.rel_session.specs.Installation.{restarted, restarted_reply}
 use Rattle.rel_session.specs.Node.{Place, Reply, releases_after}
 use Rattle.rel_session.specs.Node.Place.{raw, closed, running, dead}

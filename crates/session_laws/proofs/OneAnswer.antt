@@ -49,7 +49,7 @@ use Rattle.node_processes.specs.Scripts.{behind_run}
 use Rattle.node_upgrade.specs.Failure.{Failure}
 use Rattle.node_upgrade.specs.Upgrade.{script_failure}
 use Rattle.relup_exec.specs.Alone as script
-use Rattle.relup_script.specs.Search.{FoundForm}
+use Rattle.relup_file.specs.Search.{FoundForm}
 use Rattle.node_upgrade.specs.Stale.{stale_modules}
 use Rattle.rel_list.specs.Releases.{libraries_at}
 use Rattle.node_answer.specs.Lines.{installed_line}

@@ -18,7 +18,7 @@ use Rattle.rel_unpack.specs.Source.{Source}
 use Rattle.node_processes.specs.Processes.{Processes}
 use Rattle.node_processes.specs.Scripts.{behind_run}
 use Rattle.node_upgrade.specs.Stale.{stale_modules}
-use Rattle.relup_script.specs.Search.{FoundForm}
+use Rattle.relup_file.specs.Search.{FoundForm}
 use Rattle.node_answer.specs.Lines.{installed_line}
 use Rattle.rel_session.specs.Installation.{restarted, restarted_reply}
 use Rattle.rel_session.specs.Node.{Place, at_rest, Reply, reply, nothing, releases_after, behind, with_text}

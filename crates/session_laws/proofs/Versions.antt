@@ -48,7 +48,7 @@ use Rattle.session_laws.proofs.Transitions.{may_have}
 use Rattle.session_laws.proofs.AnswerLines.{IsWhole, ok_whole, done_whole, installed_whole, listed_whole, refusal_whole, boot_line_whole}
 use Rattle.node_processes.specs.Scripts.{behind_run}
 use Rattle.node_upgrade.specs.Stale.{stale_modules}
-use Rattle.relup_script.specs.Search.{FoundForm}
+use Rattle.relup_file.specs.Search.{FoundForm}
 use Rattle.rel_handler.specs.Installing.{install_size, installation_event}
 use Rattle.node_answer.specs.Lines.{installed_line}
 use Rattle.rel_session.specs.Installation.{restarted, restarted_reply}

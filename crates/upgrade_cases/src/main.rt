@@ -1,5 +1,5 @@
 //! The program `upgrade_cases`: what the libraries of upgrades make of the texts on its input, a case a line. [`answer`] has the
-//! modes: tables of modules that `mod_table` reads, relups that `relup_file` reads and `relup_script` searches, appups that
+//! modes: tables of modules that `mod_table` reads, relups that `relup_file` reads and `relup_file` searches, appups that
 //! `appup_file` reads, and relups that `relup_translate` makes of releases, and `relup_command` of files.
 #![tactic(auto)]
 

@@ -1,8 +1,7 @@
 //! Relups, and the scripts in them.
 use erl_term::print;
-use relup_file::{Relup, RelupFault, read_relup};
+use relup_file::{Found, Relup, RelupFault, ScriptFault, check, find_script, read_relup};
 use relup_instruction::Direction;
-use relup_script::{Found, ScriptFault, check, find_script};
 use std::alloc::Global;
 use text_cases::{Answer, enclosed, first_word};
 

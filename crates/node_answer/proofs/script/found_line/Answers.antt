@@ -1,5 +1,5 @@
 use Rattle.std.proofs.Common.{string_bytes, rules}
-use Rattle.relup_script.specs.Search.{found_of}
+use Rattle.relup_file.specs.Search.{found_of}
 use Rattle.node_answer.proofs.LineLemmas.{reports_found}
 use Rattle.node_answer.proofs.script.found_line.Goals as goal
 

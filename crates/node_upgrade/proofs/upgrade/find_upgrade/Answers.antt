@@ -1,5 +1,5 @@
 use Rattle.std.proofs.Common.{sym}
-use Rattle.relup_script.specs.Search.{found_of}
+use Rattle.relup_file.specs.Search.{found_of}
 use Rattle.node_upgrade.proofs.UpgradeLemmas.{begins_runnable}
 use Rattle.node_upgrade.proofs.upgrade.find_upgrade.Goals as goal
 

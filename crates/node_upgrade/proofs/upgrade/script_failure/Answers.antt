@@ -1,6 +1,6 @@
 use Rattle.std.proofs.Common.{Some, None, refl, sym, ap, ◌∙◌}
-use Rattle.relup_script.specs.Search.{found_of}
-use Rattle.relup_script.proofs.ScriptLemmas.{is_fault, is_runnable}
+use Rattle.relup_file.specs.Search.{found_of}
+use Rattle.relup_file.proofs.ScriptLemmas.{is_fault, is_runnable}
 use Rattle.node_upgrade.proofs.UpgradeLemmas.{reported_wrong}
 use Rattle.node_upgrade.proofs.upgrade.script_failure.Goals as goal
 

@@ -6,7 +6,7 @@ use Rattle.std.specs.Str.{bytes_eq}
 use Rattle.erl_term.specs.declared.term.Term.{Term}
 use Rattle.erl_term.specs.Value.{Value, members_of, value_of}
 use Rattle.relup_instruction.specs.Instruction.{CallForm, call_of}
-use Rattle.relup_script.specs.Script.{has_one, is_error}
+use Rattle.relup_file.specs.Script.{has_one, is_error}
 use Rattle.script_progress.specs.Fault.{Cause, error_cause}
 use Rattle.script_progress.specs.Fault.Cause.{raised}
 use Rattle.script_progress.proofs.CallLemmas.{right_true}

@@ -1,7 +1,7 @@
 use Rattle.std.proofs.Common.{◌≡◌, ◌+◌, ◌<◌, ◌≤◌, ◌∙◌, ◌∷◌, ◌&&◌, not, [], Bool, true, false, Ok, List, ℕ, length, length-append, take, drop, sym, ap, subst, subst₂, arith}
 use Rattle.std.proofs.lemmas.List.{length-map, length-take-le, take_all}
 use Rattle.relup_instruction.specs.Instruction.{Instruction, instruction_of, script_of}
-use Rattle.relup_script.specs.Script.{is_point}
+use Rattle.relup_file.specs.Script.{is_point}
 use Rattle.held_processes.specs.Course.{on_all}
 use Rattle.held_processes.specs.Course.Operation.{finish, pass_point}
 use Rattle.held_processes.specs.Following.{AllFollow, AreLeft}

@@ -1,7 +1,7 @@
 -- The fault of a script.
 use Rattle.std.specs.Prelude.{ℕ, List, codes}
-use Rattle.relup_script.specs.declared.fault.ScriptFault.{ScriptFault}
-use Rattle.relup_script.specs.declared.fault.ScriptFault.TheVariants.{NoPoint, TwoPoints, Misplaced, Unsupported}
+use Rattle.relup_file.specs.declared.script_fault.ScriptFault.{ScriptFault}
+use Rattle.relup_file.specs.declared.script_fault.ScriptFault.TheVariants.{NoPoint, TwoPoints, Misplaced, Unsupported}
 
 -- how a script's fault is shown: by its name alone
 abbrev pub script_fault_text : ScriptFault → List ℕ

@@ -1,8 +1,8 @@
 -- Laws of the fault of a script, whatever finds it.
 use Rattle.std.specs.Prelude.{◌≡◌, ◌↔◌, List, Option, None, Some}
 use Rattle.relup_instruction.specs.Instruction.{Instruction}
-use Rattle.relup_script.specs.declared.fault.ScriptFault.{ScriptFault}
-use Rattle.relup_script.specs.Script.{IsRunnable, IsScriptFault, script_fault}
+use Rattle.relup_file.specs.declared.script_fault.ScriptFault.{ScriptFault}
+use Rattle.relup_file.specs.Script.{IsRunnable, IsScriptFault, script_fault}
 
 -- What is found of a script is its fault, and no other.
 abbrev pub FindsItsFault : Type 0

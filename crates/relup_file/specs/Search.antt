@@ -6,7 +6,7 @@ use Rattle.std.specs.Str.{bytes_eq}
 use Rattle.erl_term.specs.Value.{Value, value_of}
 use Rattle.relup_instruction.specs.declared.instruction.Direction.{Direction}
 use Rattle.relup_instruction.specs.declared.instruction.Direction.TheVariants.{Up, Down}
-use Rattle.relup_script.specs.declared.search.Found.{Found}
+use Rattle.relup_file.specs.declared.search.Found.{Found}
 use Rattle.relup_instruction.specs.Instruction.{Instruction, script_of}
 use Rattle.relup_file.specs.Relup.{EntryForm, RelupForm}
 

@@ -1,8 +1,8 @@
 use Rattle.std.proofs.Common.{◌≡◌, ◌++◌, take, drop}
 use Rattle.std.specs.Option.{option_map}
 use Rattle.relup_instruction.specs.Instruction.{script_of}
-use Rattle.relup_script.specs.Script.{split_point}
-use Rattle.relup_script.proofs.script.split_point.Given as goal
+use Rattle.relup_file.specs.Script.{split_point}
+use Rattle.relup_file.proofs.script.split_point.Given as goal
 
 abbrev pub invariant-loop-i : goal.invariant-loop-i
 invariant-loop-i l =

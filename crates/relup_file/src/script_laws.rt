@@ -1,5 +1,5 @@
 //! Laws of the fault of a script. Each function does nothing: its contract is the law.
-ghost use Rattle.relup_script.specs.Laws.{FindsItsFault, FindsNone};
+ghost use Rattle.relup_file.specs.ScriptLaws.{FindsItsFault, FindsNone};
 
 /// What is found of a script is the fault that it has.
 pub fn the_fault_of_a_script_is_found()

@@ -5,13 +5,13 @@ use Rattle.std.proofs.lemmas.Bool.Decides.{nat_tests}
 use Rattle.std.specs.List.{AllByRecursion}
 use Rattle.std.specs.Option.{option_map, option_or}
 use Rattle.rel_files.proofs.Options.{mapped, both, both_true}
-use Rattle.relup_script.specs.declared.fault.ScriptFault.{ScriptFault}
-use Rattle.relup_script.specs.declared.fault.ScriptFault.TheVariants.{NoPoint, TwoPoints, Misplaced, Unsupported}
-use Rattle.relup_script.specs.declared.script.Side.{Side}
-use Rattle.relup_script.specs.declared.script.Side.TheVariants.{Early, Late}
+use Rattle.relup_file.specs.declared.script_fault.ScriptFault.{ScriptFault}
+use Rattle.relup_file.specs.declared.script_fault.ScriptFault.TheVariants.{NoPoint, TwoPoints, Misplaced, Unsupported}
+use Rattle.relup_file.specs.declared.script.Side.{Side}
+use Rattle.relup_file.specs.declared.script.Side.TheVariants.{Early, Late}
 use Rattle.relup_instruction.specs.Instruction.{Instruction}
 use Rattle.relup_instruction.specs.Instruction.Instruction.{point_of_no_return}
-use Rattle.relup_script.specs.Script.{is_point, is_supported, may_precede, may_follow, is_restart, may_stand, IsRight, AreRight, is_end, points, IsRunnable, fault_at, IsFirstFault, HasWrong, IsScriptFault, split_point, part_fault, split_fault, script_fault}
+use Rattle.relup_file.specs.Script.{is_point, is_supported, may_precede, may_follow, is_restart, may_stand, IsRight, AreRight, is_end, points, IsRunnable, fault_at, IsFirstFault, HasWrong, IsScriptFault, split_point, part_fault, split_fault, script_fault}
 
 -- The faults of one side.
 right_none : (side : Side) (is_last : Bool) (n : ℕ) (i : Instruction) → IsRight side is_last i → fault_at side is_last n i ≡ None

@@ -2,7 +2,7 @@
 ghost use Rattle.std.specs.Prelude.{◌≡◌};
 ghost use Rattle.erl_term.specs.Value.{members_of};
 ghost use Rattle.relup_instruction.specs.Instruction.{call_of};
-ghost use Rattle.relup_script.specs.Script.{is_app, is_start_word, is_typed_app, has_one, is_error, is_one_app_word, is_application, is_child, is_child_call, is_child_word, is_supported_call};
+ghost use Rattle.relup_file.specs.Script.{is_app, is_start_word, is_typed_app, has_one, is_error, is_one_app_word, is_application, is_child, is_child_call, is_child_word, is_supported_call};
 
 use erl_term::Term;
 use relup_instruction::Call;

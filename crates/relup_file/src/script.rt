@@ -2,7 +2,7 @@
 ghost use Rattle.std.specs.Prelude.{◌≡◌, ◌+◌, ◌<◌, ◌^◌, ◌↔◌, length, IsOk, None, Ok, Err};
 ghost use Rattle.std.specs.Option.{option_map};
 ghost use Rattle.relup_instruction.specs.Instruction.{instruction_of, script_of};
-ghost use Rattle.relup_script.specs.Script.{is_point, is_supported, may_precede, may_follow, is_restart, restarts, may_stand, fault_at, part_fault, split_point, script_fault, IsRunnable, IsScriptFault};
+ghost use Rattle.relup_file.specs.Script.{is_point, is_supported, may_precede, may_follow, is_restart, restarts, may_stand, fault_at, part_fault, split_point, script_fault, IsRunnable, IsScriptFault};
 
 use crate::ScriptFault;
 use crate::calls::{is_error, is_supported_call};

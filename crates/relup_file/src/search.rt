@@ -3,10 +3,10 @@ ghost use Rattle.std.specs.Prelude.{◌≡◌, map};
 ghost use Rattle.std.specs.Option.{option_map};
 ghost use Rattle.std.specs.Result.{result_ok};
 ghost use Rattle.relup_file.specs.Relup.{entry_of, relup_of};
-ghost use Rattle.relup_script.specs.Search.{found_of, entry_for, of_entry, upgrade, downgrade, script_between};
+ghost use Rattle.relup_file.specs.Search.{found_of, entry_for, of_entry, upgrade, downgrade, script_between};
 
+use crate::{Relup, RelupEntry};
 use erl_term::Term;
-use relup_file::{Relup, RelupEntry};
 use relup_instruction::{Direction, Instr};
 use std::fmt::{self, Display, Formatter};
 

@@ -6,10 +6,10 @@ use Rattle.std.specs.Str.{bytes_eq}
 use Rattle.erl_term.specs.Value.{Values}
 use Rattle.erl_term.specs.Value.Value.{atom}
 use Rattle.erl_term.specs.Value.Values.{no_values, value}
-use Rattle.relup_script.specs.declared.fault.ScriptFault.{ScriptFault}
-use Rattle.relup_script.specs.declared.fault.ScriptFault.TheVariants.{NoPoint, TwoPoints, Misplaced, Unsupported}
-use Rattle.relup_script.specs.declared.script.Side.{Side}
-use Rattle.relup_script.specs.declared.script.Side.TheVariants.{Early, Late}
+use Rattle.relup_file.specs.declared.script_fault.ScriptFault.{ScriptFault}
+use Rattle.relup_file.specs.declared.script_fault.ScriptFault.TheVariants.{NoPoint, TwoPoints, Misplaced, Unsupported}
+use Rattle.relup_file.specs.declared.script.Side.{Side}
+use Rattle.relup_file.specs.declared.script.Side.TheVariants.{Early, Late}
 use Rattle.relup_instruction.specs.Instruction.{CallForm, Instruction}
 use Rattle.relup_instruction.specs.Instruction.Instruction.{load_object_code, point_of_no_return, suspend, load, code_change, apply, sync_nodes, restart_new_emulator, restart_emulator}
 

@@ -1,7 +1,7 @@
 use Rattle.std.proofs.Common.{Err, ap, refl, sym}
 use Rattle.relup_instruction.specs.Instruction.{script_of}
-use Rattle.relup_script.proofs.ScriptLemmas.{runnable, not_runnable, reports_one, reports_none}
-use Rattle.relup_script.proofs.script.check.Goals as goal
+use Rattle.relup_file.proofs.ScriptLemmas.{runnable, not_runnable, reports_one, reports_none}
+use Rattle.relup_file.proofs.script.check.Goals as goal
 
 pub returns-in-Some-clause-runnable : goal.returns-in-Some-clause-runnable
 returns-in-Some-clause-runnable c = (λ e. absurd cc, λ h. absurd (not_runnable (script_of c.args.script.now) c.in-Some.fault c.in-Some.ensures h))

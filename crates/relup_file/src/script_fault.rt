@@ -17,7 +17,7 @@ pub enum ScriptFault {
 
 impl Display for ScriptFault {
     ghost use Rattle.std.specs.Prelude.{Some};
-    ghost use Rattle.relup_script.specs.Fault.{script_fault_text};
+    ghost use Rattle.relup_file.specs.ScriptFault.{script_fault_text};
 
     ghost output = { λ f. Some (script_fault_text f) };
 

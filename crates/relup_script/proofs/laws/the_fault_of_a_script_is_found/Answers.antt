@@ -1,5 +1,0 @@
-use Rattle.relup_script.proofs.ScriptLemmas.{fault_is, is_fault}
-use Rattle.relup_script.proofs.laws.the_fault_of_a_script_is_found.Goals as goal
-
-pub returns : goal.returns
-returns c = λ script f. (fault_is script f, is_fault script f)

@@ -1,4 +1,0 @@
-pub mod Fault
-pub mod Script
-pub mod Search
-pub mod Laws
