@@ -5,8 +5,8 @@ use Rattle.std.proofs.lemmas.List.{get_or-map, length-map}
 use Rattle.std.specs.List.{find, position_from}
 use Rattle.std.specs.Option.{is_some}
 use Rattle.std.proofs.lemmas.Bool.Decides.{nat_tests}
-use Rattle.row_index.specs.Keys.{Pair, number_at}
-use Rattle.row_index.proofs.SearchLemmas.{same_pair}
+use Rattle.worker_table.specs.Keys.{Pair, number_at}
+use Rattle.worker_table.proofs.SearchLemmas.{same_pair}
 use Rattle.worker_table.specs.declared.keyed.Keyed.{Keyed}
 use Rattle.worker_table.specs.declared.keyed.Keyed.TheVariants.{ByState, ByInput}
 use Rattle.worker_table.specs.declared.row.Row as row

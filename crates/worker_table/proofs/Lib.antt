@@ -4,3 +4,5 @@ pub mod IndexLemmas
 pub mod HeadedLemmas
 pub mod FormLemmas
 pub mod ThreadLemmas
+pub mod FirstLemmas
+pub mod SearchLemmas

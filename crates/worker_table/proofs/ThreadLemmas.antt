@@ -3,9 +3,9 @@ use denote.Param.Send.{IsSend, view_send, sendable}
 use denote.Param.SendFields.{declared_send, variants_send}
 use Rattle.std.proofs.Crossing.{Vec-send}
 use Rattle.erl_term.proofs.ThreadLemmas.{text_send, term_send}
-use Rattle.row_index.proofs.index.Index.TheSendSync as index
-use Rattle.row_index.proofs.key.Key.TheSendSync as key
-use Rattle.row_index.specs.contracts.ticks.Counted as Counted
+use Rattle.worker_table.proofs.index.Index.TheSendSync as index
+use Rattle.worker_table.proofs.key.Key.TheSendSync as key
+use Rattle.worker_table.specs.contracts.key.ticks.Counted as Counted
 use Rattle.worker_table.specs.contracts.keyed_row.KeyedRow as KeyedRow
 use Rattle.worker_table.specs.contracts.rows.Rows as Rows
 use Rattle.worker_table.specs.contracts.rows.Rows.TheInside as TheRows

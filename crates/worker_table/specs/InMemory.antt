@@ -7,7 +7,7 @@ use Rattle.worker_table.specs.declared.row.Row.{Row}
 use Rattle.worker_table.specs.declared.row.Row.TheVariants.{On, Add, Stop, Change}
 use Rattle.worker_table.specs.declared.keyed_row.KeyedRow.{KeyedRow}
 use Rattle.worker_table.specs.declared.keyed_row.KeyedRow.TheVariants as keyed
-use Rattle.row_index.specs.Stored.{pair_of}
+use Rattle.worker_table.specs.Stored.{pair_of}
 use Rattle.worker_table.specs.Table as table
 use Rattle.worker_table.specs.Table.OldVersion.{up, down}
 use Rattle.worker_table.specs.Table.Row.{on, add, stop, change}

@@ -2,7 +2,7 @@
 use Rattle.std.specs.Prelude.{◌≡◌, ◌≤◌, ◌==◌, ℕ, ◌+◌, Bool, false, ◌&&◌, if◌then◌else◌, List, length, min, Option, Some, None}
 use Rattle.std.specs.List.{list_any, position_from}
 use Rattle.std.specs.Option.{is_some}
-use Rattle.row_index.specs.Keys.{Pair, number_at}
+use Rattle.worker_table.specs.Keys.{Pair, number_at}
 use Rattle.worker_table.specs.declared.keyed.Keyed.{Keyed}
 use Rattle.worker_table.specs.declared.keyed.Keyed.TheVariants.{ByState, ByInput}
 use Rattle.worker_table.specs.Table.{Row}

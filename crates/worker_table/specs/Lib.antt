@@ -8,3 +8,5 @@ pub mod Rows
 pub mod Headed
 pub mod Form
 pub mod InMemory
+pub mod Keys
+pub mod Stored

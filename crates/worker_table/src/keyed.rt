@@ -3,8 +3,8 @@ ghost use Rattle.std.specs.Prelude.{◌≡◌, IfOk, map};
 ghost use Rattle.worker_table.specs.InMemory.{row_of};
 ghost use Rattle.worker_table.specs.Indexed.{IsIndexOf, key_of};
 
+use crate::Index;
 use crate::row::Row;
-use row_index::Index;
 use std::alloc::{AllocError, Global};
 
 // The rows of an index: `on` and `stop`, by their state and input, or `add`, by its input.

@@ -7,10 +7,9 @@ ghost use Rattle.worker_table.specs.InMemory.{keyed_row_of, old_of};
 ghost use Rattle.worker_table.specs.Table.Row.{change};
 
 use crate::same::is_same;
-use crate::{Old, Step};
+use crate::{Key, Old, Step};
 use erl_term::Term;
 use rel_files::text::is_version;
-use row_index::Key;
 use std::alloc::{AllocError, Global};
 
 pub(crate) enum KeyedRow<B> {

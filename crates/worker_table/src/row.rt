@@ -2,10 +2,9 @@
 ghost use Rattle.std.specs.Prelude.{◌≡◌};
 ghost use Rattle.worker_table.specs.InMemory.{keyed_row_of, row_of};
 
-use crate::Old;
 use crate::keyed_row::KeyedRow;
+use crate::{Key, Old};
 use erl_term::Term;
-use row_index::Key;
 
 pub(crate) enum Row {
     // In this state, at this input: the next state and the reply.

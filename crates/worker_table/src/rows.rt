@@ -10,9 +10,8 @@ ghost use Rattle.worker_table.specs.Indexed.{fewest_comparisons, lower};
 use crate::keyed::Keyed;
 use crate::keyed_row::KeyedRow;
 use crate::row::Row;
-use crate::{Old, Step, Ticks};
+use crate::{Index, Old, Step, Ticks};
 use erl_term::Term;
-use row_index::Index;
 use std::alloc::{AllocError, Global};
 use std::marker::Model;
 

@@ -9,11 +9,10 @@ ghost use Rattle.worker_table.specs.Indexed.{fewest_comparisons};
 use crate::parts::number_in;
 use crate::row_reader::rows_in;
 use crate::rows::Rows;
-use crate::{Old, Step, Ticks};
+use crate::{Counted, Old, Step, Ticks};
 use erl_term::Term;
 use rel_files::parts::{four, list_in};
 use rel_files::text::{is_version, name_in, version_or_empty};
-use row_index::Counted;
 use std::alloc::{AllocError, Global};
 use std::marker::Model;
 

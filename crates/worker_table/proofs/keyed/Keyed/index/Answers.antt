@@ -1,6 +1,6 @@
 use Rattle.std.proofs.Common.{◌≡◌, ◌+◌, ◌++◌, [], ℕ, List, map, drop, ap, sym, subst, append-nil, ◌∙◌}
 use Rattle.std.proofs.lemmas.List.{drop_all}
-use Rattle.row_index.specs.Keys.{Pair}
+use Rattle.worker_table.specs.Keys.{Pair}
 use Rattle.worker_table.specs.InMemory.{row_of}
 use Rattle.worker_table.proofs.IndexLemmas.{index_is, keyed, next_found, next_passed}
 use Rattle.worker_table.proofs.keyed.Keyed.index.Goals as goal

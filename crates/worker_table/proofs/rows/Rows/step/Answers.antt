@@ -1,6 +1,6 @@
 use Rattle.std.proofs.Common.{◌≡◌, ◌≤◌, ◌+◌, ◌-◌, Some, arith, rules, length, map, ap, sym, subst, ◌∙◌}
-use Rattle.row_index.specs.Keys.{number_at}
-use Rattle.row_index.proofs.SearchLemmas.{takes_few}
+use Rattle.worker_table.specs.Keys.{number_at}
+use Rattle.worker_table.proofs.SearchLemmas.{takes_few}
 use Rattle.worker_table.specs.InMemory.{keyed_row_of}
 use Rattle.worker_table.specs.Decide.{step_of}
 use Rattle.worker_table.specs.declared.keyed.Keyed.TheVariants.{ByState, ByInput}

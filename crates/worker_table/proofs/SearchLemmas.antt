@@ -16,9 +16,9 @@ use Rattle.std.specs.Map.{keys_of}
 use Rattle.std.specs.Option.{option_map}
 use Rattle.std.specs.Ordering.{is_eq, nat_cmp, ordering_reverse}
 use Rattle.std.specs.declared.cmp.Ordering.TheVariants.{Less, Equal, Greater}
-use Rattle.row_index.specs.declared.index.Entry.{Entry}
-use Rattle.row_index.specs.Stored.{row_of}
-use Rattle.row_index.specs.Keys.{Pair, compare_pairs, number_at, IsRising}
+use Rattle.worker_table.specs.declared.index.Entry.{Entry}
+use Rattle.worker_table.specs.Stored.{row_of}
+use Rattle.worker_table.specs.Keys.{Pair, compare_pairs, number_at, IsRising}
 
 -- The key stands among the rows from `low` up to `high`, if anywhere.
 pub record IsNarrowed (wanted : Pair) (rows : List (Pair × ℕ)) (low high : ℕ) : Type 0 where

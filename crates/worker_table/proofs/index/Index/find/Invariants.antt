@@ -1,7 +1,7 @@
 use Rattle.std.proofs.Common.{◌≡◌, ◌⊎◌, ◌<◌, ◌≤◌, ◌-◌, length, map}
-use Rattle.row_index.specs.Stored.{row_of}
-use Rattle.row_index.proofs.SearchLemmas.{IsHalved, IsNarrowed}
-use Rattle.row_index.proofs.index.Index.find.Given as goal
+use Rattle.worker_table.specs.Stored.{row_of}
+use Rattle.worker_table.proofs.SearchLemmas.{IsHalved, IsNarrowed}
+use Rattle.worker_table.proofs.index.Index.find.Given as goal
 
 -- where the key can still stand, and what that has cost
 abbrev pub invariant-loop-low : goal.invariant-loop-low

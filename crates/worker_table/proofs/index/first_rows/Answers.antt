@@ -1,10 +1,10 @@
 use Rattle.std.proofs.Common.{◌≡◌, ◌+◌, ◌++◌, ◌∷◌, [], Some, None, cond, rules, take, get_or, ap, sym, ◌∙◌}
 use Rattle.std.proofs.lemmas.List.{take_more}
 use Rattle.std.specs.BTreeMap.{is_at}
-use Rattle.row_index.specs.Keys.{compare_pairs, number_at}
-use Rattle.row_index.proofs.FirstLemmas.{kept, none_of, noted, some_of}
-use Rattle.row_index.proofs.index.first_rows.Goals as goal
-use Rattle.row_index.proofs.index.first_rows.Goals.{then-not-contains_key+in_ok-insert, else-not-contains_key}
+use Rattle.worker_table.specs.Keys.{compare_pairs, number_at}
+use Rattle.worker_table.proofs.FirstLemmas.{kept, none_of, noted, some_of}
+use Rattle.worker_table.proofs.index.first_rows.Goals as goal
+use Rattle.worker_table.proofs.index.first_rows.Goals.{then-not-contains_key+in_ok-insert, else-not-contains_key}
 
 pub loop-pair-preserved : goal.loop-pair-preserved
 loop-pair-preserved c =

@@ -1,6 +1,6 @@
 use Rattle.std.proofs.Common.{◌≡◌, ◌≤◌, length, take}
-use Rattle.row_index.specs.Keys.{Pair, number_at}
-use Rattle.row_index.proofs.index.first_rows.Given as goal
+use Rattle.worker_table.specs.Keys.{Pair, number_at}
+use Rattle.worker_table.proofs.index.first_rows.Given as goal
 
 -- the first of each key among the rows so far
 abbrev pub invariant-loop-pair : goal.invariant-loop-pair

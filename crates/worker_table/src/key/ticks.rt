@@ -44,7 +44,7 @@ impl<B> Ticks<B> {
     }
 
     // One more.
-    pub(crate) fn tick(&mut self)
+    pub(super) fn tick(&mut self)
         requires { self.old + 1 < 2 ^ 64 }
         ensures { self.new ≡ self.old + 1 }
     {

@@ -1,9 +1,9 @@
 use Rattle.std.proofs.Common.{rules, ◌≡◌, ◌<◌, ◌≤◌, ◌+◌, ◌-◌, ◌*◌, ◌^◌, suc, arith, length, map, inl, ⊎_elim, sym, ap, subst, ◌∙◌}
 use Rattle.std.proofs.lemmas.List.{length-map}
-use Rattle.row_index.specs.Keys.{IsRising, number_at}
-use Rattle.row_index.specs.Stored.{row_of}
-use Rattle.row_index.proofs.SearchLemmas.{IsHalved, IsNarrowed, entry_at, found, go_above, go_below, halve, missed, row_at, spares_one, spends_few}
-use Rattle.row_index.proofs.index.Index.find.Goals as goal
+use Rattle.worker_table.specs.Keys.{IsRising, number_at}
+use Rattle.worker_table.specs.Stored.{row_of}
+use Rattle.worker_table.proofs.SearchLemmas.{IsHalved, IsNarrowed, entry_at, found, go_above, go_below, halve, missed, row_at, spares_one, spends_few}
+use Rattle.worker_table.proofs.index.Index.find.Goals as goal
 
 pub order_of-requires : goal.order_of-requires
 order_of-requires g c =

@@ -1,6 +1,6 @@
 //! A sorted index of rows.
 ghost use Rattle.std.specs.Prelude.{◌≡◌, ◌<◌, ◌≤◌, ◌+◌, ◌-◌, ◌*◌, ◌/◌, ◌^◌, IfOk, length};
-ghost use Rattle.row_index.specs.Keys.{Pair, number_at};
+ghost use Rattle.worker_table.specs.Keys.{Pair, number_at};
 
 use crate::{Counted, Key, Ticks};
 use std::alloc::{AllocError, Global};
@@ -16,8 +16,8 @@ pub struct Index<B = Counted> {
 
 impl<B> Model for Index<B> {
     ghost use Rattle.std.specs.Prelude.{ℕ, List, map};
-    ghost use Rattle.row_index.specs.Keys.{Pair, IsRising};
-    ghost use Rattle.row_index.specs.Stored.{row_of};
+    ghost use Rattle.worker_table.specs.Keys.{Pair, IsRising};
+    ghost use Rattle.worker_table.specs.Stored.{row_of};
 
     ghost Value = { List (Pair × ℕ) };
 

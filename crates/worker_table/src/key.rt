@@ -1,11 +1,13 @@
 //! The keys of rows.
 ghost use Rattle.std.specs.Prelude.{◌≡◌, ◌+◌, ◌<◌, ◌^◌};
-ghost use Rattle.row_index.specs.Keys.{compare_pairs};
-ghost use Rattle.row_index.specs.Stored.{pair_of};
+ghost use Rattle.worker_table.specs.Keys.{compare_pairs};
+ghost use Rattle.worker_table.specs.Stored.{pair_of};
 
-use crate::Ticks;
+mod ticks;
+
 use std::cmp::Ordering;
 use std::marker::PhantomData;
+pub use ticks::{Counted, Ticks};
 
 /// The state and the input of a row. No other module reads them.
 #[derive_where(Clone, Copy)]

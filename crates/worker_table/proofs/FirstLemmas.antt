@@ -8,8 +8,8 @@ use Rattle.std.specs.Option.{is_some}
 use Rattle.std.specs.Ordering.{is_eq, nat_cmp}
 use Rattle.std.specs.declared.cmp.Ordering.{Ordering}
 use Rattle.std.specs.declared.cmp.Ordering.TheVariants.{Less, Equal, Greater}
-use Rattle.row_index.specs.Keys.{Pair, compare_pairs, number_at}
-use Rattle.row_index.proofs.SearchLemmas.{pairs_total}
+use Rattle.worker_table.specs.Keys.{Pair, compare_pairs, number_at}
+use Rattle.worker_table.proofs.SearchLemmas.{pairs_total}
 
 tied : (o : Ordering) → is_eq o ≡ true → o ≡ Equal
 tied Less is = absurd cc

@@ -1,2 +1,0 @@
-pub mod FirstLemmas
-pub mod SearchLemmas
