@@ -4,3 +4,9 @@ pub mod OutcomeLemmas
 pub mod AloneLemmas
 pub mod PointLemmas
 pub mod BrokenLemmas
+pub mod RowLemmas
+pub mod CourseLemmas
+pub mod StepLemmas
+pub mod PlainLemmas
+pub mod RemoveLemmas
+pub mod FailLemmas

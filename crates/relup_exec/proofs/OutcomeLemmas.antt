@@ -22,8 +22,8 @@ use Rattle.script_progress.specs.Steps.{GoesByLooks, HasDone, HasNoFault, IsCarr
 use Rattle.script_progress.specs.Stops.{takes_memory}
 use Rattle.relup_exec.specs.Stepwise.{IsStopped, start_at}
 use Rattle.script_progress.proofs.CallLemmas.{error_on_no_child, right_true}
-use Rattle.script_steps.proofs.RowLemmas.{all_front}
-use Rattle.script_steps.proofs.CourseLemmas.{within_adds_no_block}
+use Rattle.relup_exec.proofs.RowLemmas.{all_front}
+use Rattle.relup_exec.proofs.CourseLemmas.{within_adds_no_block}
 use Rattle.relup_exec.proofs.QuietLemmas.{early_quiet}
 use Rattle.held_processes.proofs.SlotLemmas.{longer_same, longer_still}
 use Rattle.relup_exec.proofs.RunLemmas.{ran_later, ran_push_early, ran_push_late, run_push_early, run_push_late, still_before, through_values}

@@ -19,7 +19,7 @@ use Rattle.relup_exec.specs.Outcome.{Start, began_at, run_behind, run_through}
 use Rattle.script_progress.specs.Steps.{IsEarly, SameBlocks}
 use Rattle.script_progress.proofs.CallLemmas.{left_true, right_true}
 use Rattle.relup_exec.proofs.RunLemmas.{not_the_point}
-use Rattle.script_steps.proofs.CourseLemmas.{change_same}
+use Rattle.relup_exec.proofs.CourseLemmas.{change_same}
 
 -- a call that raises an error does nothing
 errors_do_nothing : (s : Site) (c : CallForm) (b : Bool) (r : Run) → IsEarly (instruction.Instruction.apply c) → call_after s c b r ≡ r

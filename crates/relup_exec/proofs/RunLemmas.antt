@@ -23,7 +23,7 @@ use Rattle.script_progress.specs.Calls.ChildCall.{terminates, deletes, restarts,
 use Rattle.script_progress.specs.Script.{Run, Site, call_after, called_after, changed, changed_once, child_after, mode_of, restarted_at, run_after, scene_of, started_from, tables_among, target_library, with_scene}
 use Rattle.relup_exec.specs.Outcome.{RanAll, RanAllLate, RanOne, run_through, still_early}
 use Rattle.script_progress.specs.Steps.{IsEarly, IsLate}
-use Rattle.script_steps.proofs.RowLemmas.{all_middle}
+use Rattle.relup_exec.proofs.RowLemmas.{all_middle}
 
 -- after the point
 pub still_behind : (is : List Instruction) → still_early false is ≡ false

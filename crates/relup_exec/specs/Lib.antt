@@ -6,3 +6,5 @@ pub mod Outcome
 pub mod Alone
 pub mod InMemory
 pub mod Stepwise
+pub mod Steps
+pub mod Plain

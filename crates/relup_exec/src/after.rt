@@ -10,11 +10,11 @@ ghost use Rattle.relup_instruction.specs.Instruction.{script_of};
 ghost use Rattle.loaded_modules.specs.Loaded.{listed_in};
 
 use crate::armed::Armed;
+use crate::{Cause, Failure, Progress, Site, carry_out_late};
 use held_processes::HeldProcesses;
 use loaded_modules::Loaded;
 use proc_table::HandlerSeat;
 use relup_instruction::Instr;
-use script_steps::{Cause, Failure, Progress, Site, carry_out_late};
 use std::alloc::Global;
 use std::sync::Wait;
 use sup_tree::Tree;

@@ -5,8 +5,8 @@ ghost use Rattle.proc_table.specs.declared.view.View.{View};
 ghost use Rattle.relup_exec.specs.InMemory.{armed_of};
 ghost use Rattle.relup_exec.specs.Outcome.{CanGoBack};
 
+use crate::Progress;
 use proc_table::{HandlerSeat, ProcTable};
-use script_steps::Progress;
 
 /// A script that has come to its point of no return: all before the point was done, and nothing of it stands in a history yet.
 /// It ends in `roll_back` or `run_after`.

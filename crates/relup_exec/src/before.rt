@@ -11,10 +11,10 @@ ghost use Rattle.relup_instruction.specs.Instruction.{script_of};
 ghost use Rattle.relup_file.specs.Script.{IsRunnable};
 
 use crate::armed::Armed;
+use crate::{Cause, Failure, Progress, Site, carry_out_early};
 use proc_table::HandlerSeat;
 use relup_file::is_point;
 use relup_instruction::Instr;
-use script_steps::{Cause, Failure, Progress, Site, carry_out_early};
 use std::alloc::Global;
 use std::sync::Wait;
 use sup_tree::Tree;

@@ -4,7 +4,7 @@ use Rattle.std.specs.List.{AllByRecursion}
 use Rattle.relup_instruction.specs.Instruction.{Instruction, instruction_of, script_of}
 use Rattle.relup_instruction.specs.Instruction.Instruction.{point_of_no_return}
 use Rattle.script_progress.specs.Steps.{IsEarly}
-use Rattle.script_steps.proofs.RowLemmas.{all_push, more, parted}
+use Rattle.relup_exec.proofs.RowLemmas.{all_push, more, parted}
 use Rattle.relup_file.proofs.ScriptLemmas.{are_early, are_late, the_point}
 use Rattle.relup_exec.proofs.RunLemmas.{late_behind, next_is_early, not_all_early}
 use Rattle.relup_exec.proofs.before.point_in.Goals as goal

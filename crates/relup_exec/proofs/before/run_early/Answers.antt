@@ -7,7 +7,7 @@ use Rattle.relup_exec.specs.Outcome.{Ran, began_at, past_behind}
 use Rattle.script_progress.specs.Steps.{HasDone, IsEarly, progress_of}
 use Rattle.relup_exec.proofs.OutcomeLemmas.{run_more_early}
 use Rattle.relup_exec.proofs.RunLemmas.{ran_later, still_before}
-use Rattle.script_steps.proofs.RowLemmas.{all_front, all_middle, more, parted}
+use Rattle.relup_exec.proofs.RowLemmas.{all_front, all_middle, more, parted}
 use Rattle.relup_exec.proofs.before.run_early.Goals as goal
 
 pub carry_out_early-done-requires : goal.carry_out_early-done-requires

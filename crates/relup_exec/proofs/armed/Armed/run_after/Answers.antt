@@ -13,7 +13,7 @@ use Rattle.relup_exec.specs.InMemory.{armed_of}
 use Rattle.script_progress.specs.Steps.{FailsByLooks, GoesByLooks, HasDone, IsCarriedOut, IsFault, IsLate, ProgressForm, progress_of}
 use Rattle.relup_exec.proofs.PointLemmas.{front_is, point_is}
 use Rattle.relup_exec.proofs.OutcomeLemmas.{point_passed, run_more_late}
-use Rattle.script_steps.proofs.RowLemmas.{more, parted}
+use Rattle.relup_exec.proofs.RowLemmas.{more, parted}
 use Rattle.relup_exec.proofs.RunLemmas.{behind_point, late_at, late_at_first, late_later, late_push, ran_later, still_push}
 use Rattle.relup_exec.proofs.armed.Armed.run_after.Goals as goal
 

@@ -1,6 +1,0 @@
-pub mod RowLemmas
-pub mod CourseLemmas
-pub mod StepLemmas
-pub mod PlainLemmas
-pub mod RemoveLemmas
-pub mod FailLemmas

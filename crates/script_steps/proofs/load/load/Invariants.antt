@@ -1,4 +1,0 @@
-use Rattle.script_steps.proofs.load.load.Given as goal
-
-abbrev pub ghost-load_fetched : goal.ghost-load_fetched
-ghost-load_fetched g a = g.past

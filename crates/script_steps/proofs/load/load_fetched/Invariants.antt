@@ -1,4 +1,0 @@
-use Rattle.script_steps.proofs.load.load_fetched.Given as goal
-
-abbrev pub ghost-give_table : goal.ghost-give_table
-ghost-give_table g a = g.past

@@ -1,5 +1,0 @@
-use Rattle.script_progress.specs.Steps.{followed_in}
-use Rattle.script_steps.proofs.release.do_plain.Given as goal
-
-abbrev pub ghost-do_all : goal.ghost-do_all
-ghost-do_all g a = followed_in g.past

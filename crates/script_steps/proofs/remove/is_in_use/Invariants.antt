@@ -1,4 +1,0 @@
-use Rattle.script_steps.proofs.remove.is_in_use.Given as goal
-
-abbrev pub ghost-any_up : goal.ghost-any_up
-ghost-any_up g a = g.followed

@@ -1,5 +1,0 @@
-use Rattle.script_progress.specs.Steps.{followed_in}
-use Rattle.script_steps.proofs.suspend.suspend.Given as goal
-
-abbrev pub ghost-hold_all : goal.ghost-hold_all
-ghost-hold_all g a = followed_in g.past
