@@ -26,4 +26,5 @@ pub use appup::{Appup, AppupEntry, OtherVersion};
 pub use fault::AppupFault;
 pub use instruction::{AddedApp, AppupInstr, Dependent, ModType, ModuleLoad, StateChange, Update};
 pub use reader::{appup_of_term, read_appup};
+pub use relup_instruction::Direction;
 pub use search::EntryFault;

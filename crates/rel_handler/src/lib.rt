@@ -28,4 +28,8 @@ mod unpacking;
 
 pub use booting::boot;
 pub use error::BootError;
+pub use file_source::{Files, FilesError};
 pub use handler::Handler;
+pub use node_command::HandlerError;
+pub use node_upgrade::{InstallError, Installed, ScriptFailure, Why};
+pub use rel_unpack::FileTrouble;

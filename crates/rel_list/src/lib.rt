@@ -29,6 +29,7 @@ mod status;
 pub use bundle::Bundle;
 pub use event::Event;
 pub use fault::ListError;
+pub use library::Library;
 pub use list::ReleaseList;
 pub use listed::ListedRelease;
 pub use status::Status;

@@ -32,6 +32,9 @@ pub use fault::RelupFault;
 pub use printer::{print_relup, relup_term};
 pub use reader::{RelupFile, read_relup, read_relup_file, relup_of_term};
 pub use relup::{Relup, RelupEntry};
+pub use relup_instruction::{
+    Call, Change, Conversion, Direction, Fetch, Instr, PurgeMode, Purging, Suspension, Timeout,
+};
 pub use script::{check, is_point, restarts};
 pub use script_fault::ScriptFault;
 pub use search::{Found, NoMatchingRelup, find_script};
