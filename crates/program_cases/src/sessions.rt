@@ -86,6 +86,26 @@ pub(crate) fn push_input<H: Threads + Wait + Sync, R: Read + Drop>(
     }
 }
 
+/// Appends what a session of a text writes on this disk, and how it ended.
+pub(crate) fn push_session_on<H: Threads + Wait + Sync, D: Disk + Drop>(
+    rt: &H,
+    alloc: Global,
+    disk: D,
+    text: &str,
+    answer: &mut Answer,
+) {
+    let lines = lines_of(alloc, text, answer);
+    drop(follow(
+        rt,
+        alloc,
+        disk,
+        APPLICATIONS,
+        WIDE,
+        lines.as_bytes(),
+        answer,
+    ));
+}
+
 /// Appends that of one which gives a file of so many bytes, a line of blanks, and makes a node of it.
 pub(crate) fn push_blanks<H: Threads + Wait + Sync>(
     rt: &H,

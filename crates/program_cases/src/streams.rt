@@ -5,6 +5,7 @@ use crate::listings;
 use crate::listings::push_in_room;
 use crate::narrow_writers::Room;
 use crate::sessions::{APPLICATIONS, PLAIN, Setting, push_blanks, push_over_files, push_sessions};
+use crate::watched::push_session_over;
 use std::alloc::Global;
 use std::sync::Wait;
 use std::thread::Threads;
@@ -16,6 +17,7 @@ use text_cases::{Answer, first_word, number};
 /// - `bare`: so, and the source has no files.
 /// - `files`: the source has the files before the first ` || `, which are parted by ` | `: for each its path, a blank and its
 ///   bytes. After that are sessions.
+/// - `session_over`: as in [`push_session_over`].
 /// - `list_broken`: as in [`listings::push_broken`].
 pub(crate) fn push_of_text<H: Threads + Wait + Sync>(
     rt: &H,
@@ -29,6 +31,7 @@ pub(crate) fn push_of_text<H: Threads + Wait + Sync>(
         "session" => push_sessions(rt, alloc, APPLICATIONS, PLAIN, text, answer),
         "bare" => push_sessions(rt, alloc, "", PLAIN, text, answer),
         "files" => push_over_files(rt, alloc, text, answer),
+        "session_over" => push_session_over(rt, host, text, answer),
         "list_broken" => listings::push_broken(alloc, text, answer),
         _ => push_stream(rt, host, mode, text, answer),
     }

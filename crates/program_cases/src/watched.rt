@@ -1,5 +1,6 @@
 //! A host whose files note each call, and of which one call fails.
 use crate::faults::push_steps;
+use crate::sessions::push_session_on;
 use rel_disk::Disk;
 use rel_host::{FileDisk, FileLock};
 use std::alloc::{Allocator, Global};
@@ -8,6 +9,8 @@ use std::fs::{File, Files, Metadata, OpenFile, OpenOptions};
 use std::io;
 use std::io::{ErrorKind, Read, Seek, SeekFrom, Write};
 use std::os::unix::fs::FileExt;
+use std::sync::Wait;
+use std::thread::Threads;
 use text_cases::{Answer, first_word};
 
 /// Appends what comes of `CALL NAME STEPS`: a disk is opened over the file NAME and does the steps, and the call of this number
@@ -34,6 +37,27 @@ pub(crate) fn push_watched(host: &HostRuntime, words: &str, answer: &mut Answer)
     push_whole(watch.calls.into_inner(), answer);
     answer.push("then ");
     push_whole(answered, answer);
+}
+
+/// Appends what a session of `CALL NAME LINES` writes whose disk is over the file NAME, of which the call of this number fails, or
+/// none where it is 0. The lines are parted by ` | `.
+pub(crate) fn push_session_over<H: Threads + Wait + Sync>(
+    rt: &H,
+    host: &HostRuntime,
+    words: &str,
+    answer: &mut Answer,
+) {
+    let (call, words) = first_word(words);
+    let (name, lines) = first_word(words);
+    let watch = Watch::new(host.alloc(), call.parse().unwrap_or(0));
+    let watched = WatchedHost {
+        host,
+        watch: &watch,
+    };
+    match FileDisk::open(&watched, host.alloc(), name) {
+        Ok(disk) => push_session_on(rt, host.alloc(), disk, lines, answer),
+        Err(error) => answer.push_debug(&error),
+    }
 }
 
 fn push_whole(part: Answer, answer: &mut Answer) {

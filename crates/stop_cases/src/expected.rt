@@ -1,12 +1,14 @@
-//! What a session has acknowledged.
-use crate::runs::{BOOT, CAPACITY, LOG, REST, Session, run};
-use rel_disk::MemDisk;
+//! What a session has done up to each of its commands.
+use crate::release_table::ReleaseTable;
+use crate::runs::{CAPACITY, LOG, Session, run};
+use rel_disk::{FailDisk, MemDisk};
 use std::alloc::{AllocError, Global};
 use std::sync::Wait;
 use std::thread::Threads;
 
-/// After each command of a session on a disk that never fails, none of them first: what was written by then, and what a boot
-/// reports.
+/// After each command of a session on a disk that never fails, none of them first: what was written by then, how many calls of the disk
+/// were made, and what a boot has to report. What was written tells which commands were done; what they make of the releases is
+/// reckoned by a [`ReleaseTable`].
 #[derive(Drop)]
 pub(crate) struct Expected {
     steps: Vec<Step>,
@@ -15,8 +17,9 @@ pub(crate) struct Expected {
 #[derive(Drop)]
 struct Step {
     written: String,
+    calls: u64,
     reported: String,
-    // what a boot reports that comes in place of the one after a restart: none where the command has none
+    // what a boot reports where the last command has not booted yet
     within: String,
 }
 
@@ -26,34 +29,51 @@ impl Expected {
         alloc: Global,
         session: &Session,
     ) -> Result<Expected, AllocError> {
-        let mut expected = Expected {
-            steps: Vec::new(alloc),
-        };
-        for count in 0..=session.commands.len() {
-            expected.add(rt, alloc, session.lines(alloc, count)?)?;
+        let mut table = ReleaseTable::new(alloc);
+        let mut steps = Vec::new(alloc);
+        steps.push(first_step(rt, alloc, session, &table)?)?;
+        let mut expected = Expected { steps };
+        for (place, command) in session.commands.iter().enumerate() {
+            let lines = session.lines(alloc, place.saturating_add(1))?;
+            expected.add(rt, alloc, lines, command.as_str(), &mut table)?;
         }
         Ok(expected)
     }
 
-    // Notes what a session of these lines writes, and what a boot reports after it.
-    fn add<H: Threads + Wait + Sync>(
+    // Notes what a session of these lines writes, of which this command is the last.
+    fn add<'s, H: Threads + Wait + Sync>(
         &mut self,
         rt: &H,
         alloc: Global,
         lines: String,
+        command: &'s str,
+        table: &mut ReleaseTable<'s>,
     ) -> Result<(), AllocError> {
-        let disk = MemDisk::new(alloc, CAPACITY, LOG)?;
-        let (disk, written) = run(rt, alloc, disk, lines.as_str())?;
-        let (_, reported) = run(rt, alloc, disk, BOOT)?;
-        let before = self.steps.last().map_or("", |step| step.written.as_str());
-        let line = boot_line(written.as_str(), before);
-        let within = reported_within(rt, alloc, lines, written.as_str(), line)?;
+        let (written, calls) = written_by(rt, alloc, lines)?;
+        let answer = written
+            .strip_prefix(self.written(self.last()))
+            .unwrap_or("");
+        let restarts = command.starts_with("install ") && answer.lines().count() == 2;
+        if answer.starts_with("ok") {
+            table.accept(command, restarts)?;
+        }
+        let within = table.report_of_boot(alloc)?;
+        if restarts || command.starts_with("reboot_old ") {
+            table.boot();
+        }
+        let reported = table.report_of_boot(alloc)?;
         self.steps.push(Step {
             written,
+            calls,
             reported,
             within,
         })?;
         Ok(())
+    }
+
+    // The number of the last step.
+    fn last(&self) -> usize {
+        self.steps.len().saturating_sub(1)
     }
 
     /// How many commands a session had answered that has written this, before an answer was another one.
@@ -74,63 +94,62 @@ impl Expected {
             .map_or("", |step| step.written.as_str())
     }
 
-    /// Whether a boot may report this after so many answers: what it reports after these commands, or after one more, or within
-    /// that.
+    /// How many calls of the disk so many commands make.
+    pub(crate) fn calls(&self, commands: usize) -> u64 {
+        self.steps.get(commands).map_or(0, |step| step.calls)
+    }
+
+    /// How many calls of the disk the whole session makes.
+    pub(crate) fn all_calls(&self) -> u64 {
+        self.calls(self.last())
+    }
+
+    /// Which command makes the call of this number, both counted from 0.
+    pub(crate) fn command_of(&self, call: u64) -> usize {
+        let mut command = 0;
+        for (count, step) in self.steps.iter().enumerate() {
+            if step.calls <= call {
+                command = count;
+            }
+        }
+        command
+    }
+
+    /// Whether a boot may report this after so many answers: what is reported after these commands, or after one more, or after one
+    /// that hasn't booted yet.
     pub(crate) fn explains(&self, answered: usize, boot: &str) -> bool {
-        let next = answered.saturating_add(1);
-        self.reports(answered, boot) || self.reports(next, boot) || self.reports_within(next, boot)
-    }
-
-    fn reports_within(&self, count: usize, boot: &str) -> bool {
-        self.steps.get(count).is_some_and(|step| !step.within.is_empty()
-            && step.within.as_str() == boot)
-    }
-
-    fn reports(&self, count: usize, boot: &str) -> bool {
-        self.steps
-            .get(count)
-            .is_some_and(|step| step.reported.as_str() == boot)
+        let is_before = |step: &Step| step.reported.as_str() == boot;
+        let is_after = |step: &Step| is_before(step) || step.within.as_str() == boot;
+        self.steps.get(answered).is_some_and(is_before)
+            || self
+                .steps
+                .get(answered.saturating_add(1))
+                .is_some_and(is_after)
     }
 }
 
-// The line of the boot with which the last command of this text ended, after a line of its own; none where it has one line.
-fn boot_line<'a>(text: &'a str, before: &str) -> &'a str {
-    let answer = text.strip_prefix(before).unwrap_or("");
-    match answer.split_once('\n') {
-        Some((_, rest)) if rest.starts_with("ok ") && rest.lines().count() == 1 => rest,
-        _ => "",
-    }
+fn first_step<H: Threads + Wait + Sync>(
+    rt: &H,
+    alloc: Global,
+    session: &Session,
+    table: &ReleaseTable<'_>,
+) -> Result<Step, AllocError> {
+    let (written, calls) = written_by(rt, alloc, session.lines(alloc, 0)?)?;
+    Ok(Step {
+        written,
+        calls,
+        reported: table.report_of_boot(alloc)?,
+        within: table.report_of_boot(alloc)?,
+    })
 }
 
-// What a boot reports that comes in place of this one: its line, and what stands after it.
-fn reported_within<H: Threads + Wait + Sync>(
+// What a session of these lines writes, and how many calls of the disk it makes.
+fn written_by<H: Threads + Wait + Sync>(
     rt: &H,
     alloc: Global,
     lines: String,
-    text: &str,
-    line: &str,
-) -> Result<String, AllocError> {
-    if line.is_empty() {
-        return Ok(String::new(alloc));
-    }
-    let all = written_with_rest(rt, alloc, lines)?;
-    joined(alloc, line, all.strip_prefix(text).unwrap_or(""))
-}
-
-// What a session of these lines writes that asks for the releases and the start record at its end.
-fn written_with_rest<H: Threads + Wait + Sync>(
-    rt: &H,
-    alloc: Global,
-    mut lines: String,
-) -> Result<String, AllocError> {
-    lines.push_str(REST)?;
-    let disk = MemDisk::new(alloc, CAPACITY, LOG)?;
-    let (_, written) = run(rt, alloc, disk, lines.as_str())?;
-    Ok(written)
-}
-
-fn joined(alloc: Global, first: &str, second: &str) -> Result<String, AllocError> {
-    let mut text = String::from_str(alloc, first)?;
-    text.push_str(second)?;
-    Ok(text)
+) -> Result<(String, u64), AllocError> {
+    let disk = FailDisk::new(MemDisk::new(alloc, CAPACITY, LOG)?, u64::MAX);
+    let (disk, written) = run(rt, alloc, disk, lines.as_str())?;
+    Ok((written, u64::MAX - disk.fault.left))
 }

@@ -1,5 +1,6 @@
 //! Sessions in which one call of the disk fails.
 use crate::expected::Expected;
+use crate::lines::{push_call, push_lines};
 use crate::runs::{BOOT, CAPACITY, LOG, Session, run};
 use rel_disk::{FailDisk, MemDisk};
 use std::alloc::{AllocError, Global};
@@ -7,10 +8,10 @@ use std::sync::Wait;
 use std::thread::Threads;
 use text_cases::Answer;
 
-/// Appends for how many of the disk's calls it is so, up to the first for which it isn't, that where this call fails its command
-/// is answered Device, all after it Dead up to the next boot, and that a boot after the session reports what it had acknowledged,
-/// or that with the command which failed. The calls are those from the first that the command of number `from` makes, counted from
-/// 0.
+/// Appends for how many of the disk's calls it is so, up to the first for which it isn't, that where this call fails its command and no
+/// other is answered Device, all after it Dead up to the next boot, and that a boot after the session reports what it had
+/// acknowledged, or that with the command which failed. The calls are those from the first that the command of number `from`
+/// makes, counted from 0. Of the first call for which it isn't so, its command, and what the session wrote and a boot reports.
 pub(crate) fn push_faults<H: Threads + Wait + Sync>(
     rt: &H,
     alloc: Global,
@@ -20,34 +21,21 @@ pub(crate) fn push_faults<H: Threads + Wait + Sync>(
     in_part: bool,
     answer: &mut Answer,
 ) -> Result<(), AllocError> {
-    let first = calls_of(rt, alloc, session, from)?;
-    let all = calls_of(rt, alloc, session, session.commands.len())?;
-    let all = all.saturating_sub(first);
-    let explained = explained_from(rt, alloc, session, expected, in_part, first, all)?;
-    answer.push_number(explained);
-    answer.push(" of ");
-    answer.push_number(all);
-    answer.push(" faults");
-    Ok(())
-}
-
-// For how many of so many calls it is so, up to the first for which it isn't.
-fn explained_from<H: Threads + Wait + Sync>(
-    rt: &H,
-    alloc: Global,
-    session: &Session,
-    expected: &Expected,
-    in_part: bool,
-    first: u64,
-    all: u64,
-) -> Result<u64, AllocError> {
-    for count in 0..all {
-        let disk = failing(alloc, first.saturating_add(count), in_part)?;
-        if !is_explained(rt, alloc, session, expected, disk)? {
-            return Ok(count);
+    let first = expected.calls(from);
+    let all = expected.all_calls();
+    for call in first..all {
+        let disk = failing(alloc, call, in_part)?;
+        if let Some(report) = unexplained(rt, alloc, session, expected, call, disk)? {
+            answer.push_number(call.saturating_sub(first));
+            answer.push(" faults, but not ");
+            push_call(session, expected, call, answer);
+            push_lines(report.as_str(), answer);
+            return Ok(());
         }
     }
-    Ok(all)
+    answer.push_number(all.saturating_sub(first));
+    answer.push(" faults");
+    Ok(())
 }
 
 // A disk whose call of this number fails, counted from 0.
@@ -56,37 +44,30 @@ fn failing(alloc: Global, call: u64, in_part: bool) -> Result<FailDisk<MemDisk>,
     Ok(FailDisk::failing(disk, call.saturating_add(1), in_part))
 }
 
-// How many calls of the disk so many commands make.
-fn calls_of<H: Threads + Wait + Sync>(
-    rt: &H,
-    alloc: Global,
-    session: &Session,
-    count: usize,
-) -> Result<u64, AllocError> {
-    let disk = FailDisk::new(MemDisk::new(alloc, CAPACITY, LOG)?, u64::MAX);
-    let lines = session.lines(alloc, count)?;
-    let (disk, _) = run(rt, alloc, disk, lines.as_str())?;
-    Ok(u64::MAX - disk.fault.left)
-}
-
-fn is_explained<H: Threads + Wait + Sync>(
+// What a session on this disk, whose call of this number fails, has written and a boot then reports, where that isn't explained.
+fn unexplained<H: Threads + Wait + Sync>(
     rt: &H,
     alloc: Global,
     session: &Session,
     expected: &Expected,
+    call: u64,
     disk: FailDisk<MemDisk>,
-) -> Result<bool, AllocError> {
+) -> Result<Option<String>, AllocError> {
     let lines = session.lines(alloc, session.commands.len())?;
-    let (disk, text) = run(rt, alloc, disk, lines.as_str())?;
+    let (disk, mut text) = run(rt, alloc, disk, lines.as_str())?;
     let answered = expected.answered(text.as_str());
     let rest = text.strip_prefix(expected.written(answered)).unwrap_or("");
-    let commands = session.commands.as_slice();
-    let behind = commands.get(answered..).unwrap_or(&[]);
+    let left = session.commands.as_slice().get(answered..).unwrap_or(&[]);
+    let is_answered = answered == expected.command_of(call) && is_device_then_dead(rest, left);
     let (_, boot) = run(rt, alloc, disk, BOOT)?;
-    Ok(is_device_then_dead(rest, behind) && expected.explains(answered, boot.as_str()))
+    if is_answered && expected.explains(answered, boot.as_str()) {
+        return Ok(None);
+    }
+    text.push_str(boot.as_str())?;
+    Ok(Some(text))
 }
 
-// Whether the first of these commands is answered Device, and each after it Dead up to a boot.
+// Whether the first of these commands is answered Device and no other, and each after it Dead up to a boot.
 fn is_device_then_dead(text: &str, commands: &[String]) -> bool {
     let mut lines = text.lines();
     let mut first = lines.next().unwrap_or("");
@@ -94,18 +75,22 @@ fn is_device_then_dead(text: &str, commands: &[String]) -> bool {
         // its boot is answered after it
         first = lines.next().unwrap_or("");
     }
-    if first != "error handler 16 Device" && first != "error boot 3 Device" {
+    if !is_device(first) {
         return false;
     }
     for command in commands.get(1..).unwrap_or(&[]) {
         if command.as_str() == "boot" {
-            return true;
+            return !lines.any(is_device);
         }
         if lines.next().unwrap_or("") != "error handler 18 Dead" {
             return false;
         }
     }
     lines.next().is_none()
+}
+
+fn is_device(line: &str) -> bool {
+    line == "error handler 16 Device" || line == "error boot 3 Device"
 }
 
 // Whether the first of these commands is an installation, and this reports that it is done.

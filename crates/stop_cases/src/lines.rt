@@ -1,4 +1,6 @@
 //! The lines of an answer.
+use crate::expected::Expected;
+use crate::runs::Session;
 use std::alloc::AllocError;
 use text_cases::Answer;
 
@@ -21,4 +23,13 @@ pub(crate) fn push_made_lines(made: &Result<String, AllocError>, answer: &mut An
         Ok(lines) => push_lines(lines.as_str(), answer),
         Err(_) => answer.note_no_memory(),
     }
+}
+
+/// Appends which call of the disk it is, counted from 0, and in which command of the session.
+pub(crate) fn push_call(session: &Session, expected: &Expected, call: u64, answer: &mut Answer) {
+    answer.push_counted("call ", call);
+    answer.push(" in `");
+    let command = session.commands.get(expected.command_of(call));
+    answer.push(command.map_or("", |command| command.as_str()));
+    answer.push("`: ");
 }

@@ -11,6 +11,7 @@ mod commands;
 mod expected;
 mod faults;
 mod lines;
+mod release_table;
 mod running;
 mod runs;
 mod stops;

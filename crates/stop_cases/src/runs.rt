@@ -17,9 +17,6 @@ pub(crate) const LOG: usize = 4 * CAPACITY;
 /// What is asked after a session: a boot, the releases, the start record, and what runs.
 pub(crate) const BOOT: &str = "boot\nreleases\nstart\nprocs\nmodules\n";
 
-/// So after the boot.
-pub(crate) const REST: &str = "releases\nstart\nprocs\nmodules\n";
-
 /// The lines of a session.
 #[derive(Drop)]
 pub(crate) struct Session {
