@@ -12,9 +12,9 @@ use std::fmt::{self, Display, Formatter};
 /// and a fault of a term by its place too.
 #[derive(Clone, Copy, Debug)]
 pub enum AppupFault {
-    /// It is no row of terms.
+    /// The text is no row of terms.
     BadTerm(TermFault),
-    /// It has not one term, or one that says no appup.
+    /// The file has not one term, or one that says no appup.
     BadShape,
     /// No memory was left. It says nothing of the file.
     NoMemory,

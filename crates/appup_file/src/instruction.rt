@@ -7,9 +7,9 @@ use relup_instruction::{Instr, PurgeMode, Timeout};
 /// Whether the processes of a module go over to new code of it by themselves.
 #[derive(Clone, Copy)]
 pub enum ModType {
-    /// They don't. Code is loaded before states are changed, in both directions.
+    /// The processes don't. Code is loaded before states are changed, in both directions.
     Static,
-    /// They do. Going down, states are changed before code is loaded. The default.
+    /// The processes do. Going down, states are changed before code is loaded. The default.
     Dynamic,
 }
 

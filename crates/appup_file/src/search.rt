@@ -11,9 +11,9 @@ use std::fmt::{self, Display, Formatter};
 /// Why an appup has no instructions for a version. It is shown by its name.
 #[derive(Clone, Copy, Debug)]
 pub enum EntryFault {
-    /// It has no entry of the version, and none of a regular expression.
+    /// The appup has no entry of the version, and none of a regular expression.
     NoEntry,
-    /// It has an entry of a regular expression, and none of the version before it.
+    /// The appup has an entry of a regular expression, and none of the version before it.
     RegexVersion,
 }
 

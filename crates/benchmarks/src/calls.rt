@@ -16,7 +16,7 @@ use std::sync::{Mutex, Wait};
 use std::thread::{Threads, join};
 use std::time::{Clock, CpuClock};
 
-/// It counts its calls.
+/// A process that counts its calls.
 const COUNTER: &[u8] = b"{worker,counter,\"1\",0,[{add,1,1}]}.";
 
 fn name(alloc: Global, text: &str) -> Option<Name> {
@@ -147,7 +147,7 @@ fn calls_at<R: Threads + Wait + Sync + Clock + CpuClock + Eprint>(
     calls_by_four(rt, apart, table, seat, [8, 24, 40, 56])
 }
 
-// They are called at a new table.
+// Calls the processes of a new table.
 fn calls<R: Threads + Wait + Sync + Clock + CpuClock + Eprint>(
     rt: &R,
     alloc: Global,

@@ -12,7 +12,7 @@ use thiserror::Error;
 /// Why a text was not listed.
 #[derive(Clone, Copy, Debug, Error)]
 pub enum ConsultError {
-    /// It is no row of terms, or no memory was left.
+    /// The text is no row of terms, or no memory was left.
     #[error("{0}")]
     Fault(TermFault),
     /// A read failed. It isn't tried again.
@@ -21,7 +21,7 @@ pub enum ConsultError {
     /// A write failed, or took nothing. It isn't tried again.
     #[error("input or output failed")]
     Write,
-    /// It has more bytes than a text may have.
+    /// The input has more bytes than a text may have.
     #[error("input too long")]
     TooLong,
 }

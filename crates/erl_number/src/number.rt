@@ -20,7 +20,7 @@ const LARGEST: u64 = 9_223_372_036_854_775_807;
 pub enum Numeral {
     /// The number, or 2^63 + 1 where it is larger, and the place after it.
     Whole(u64, usize),
-    /// It has a fault.
+    /// The number has a fault.
     Faulty(TermFault),
     /// The text ends within it.
     CutOff,

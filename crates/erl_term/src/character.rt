@@ -19,7 +19,7 @@ pub fn characters(alloc: Global, text: &Content<'_>) -> Result<Vec<Term>, AllocE
 {
     match text {
         Content::Part(part) => {
-            // It has at most as many characters as bytes.
+            // A text has at most as many characters as bytes.
             let mut members = Vec::with_capacity(alloc, part.len())?;
             add_part(&mut members, part)?;
             Ok(members)

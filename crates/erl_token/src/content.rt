@@ -79,7 +79,7 @@ impl<'a> Content<'a> {
         }
     }
 
-    /// It has more characters than this.
+    /// Whether the content has more characters than this.
     pub(crate) fn is_longer_than(&self, limit: usize) -> bool
         ensures { result ≡ nat_lt limit (length (chars (content_bytes self.now))) }
     {

@@ -36,9 +36,9 @@ pub enum Token<'a> {
     Stray(u8),
     /// Bytes that are not UTF-8.
     NotUtf8,
-    /// It begins as another token does, and has a fault of its own.
+    /// What begins as another token does, and has a fault of its own.
     Broken(Like, TermFault),
-    /// It begins as another token does, and the end of the text cuts it off.
+    /// What begins as another token does, and is cut off by the end of the text.
     Cut(Like),
 }
 

@@ -10,10 +10,10 @@ pub enum FilesError {
     /// There is no file of this path.
     #[error("Missing")]
     Missing,
-    /// It has more than 1,048,576 bytes.
+    /// The file has more than 1,048,576 bytes.
     #[error("TooLarge")]
     TooLarge,
-    /// It is there, and can't be read.
+    /// The file is there, and can't be read.
     #[error("Unreadable")]
     Unreadable,
     /// No memory was left. It says nothing of the file.

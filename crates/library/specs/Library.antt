@@ -31,7 +31,7 @@ HaveTables (m ∷ ms) (None ∷ ts) = HaveTables ms ts
 HaveTables (m ∷ ms) (Some t ∷ ts) = IsTableTerm t.term t.table × (name_of t.table ≡ m) × HaveTables ms ts
 HaveTables ms ts = ⊥
 
--- It is what the files of an application say.
+-- The library is what the files of an application say.
 pub record IsLibrary (l : Library) : Type 0 where
   pub app : IsAppTerm l.app.whole l.app
   pub tables : HaveTables l.app.modules l.tables
@@ -73,7 +73,7 @@ is_at name vsn l = bytes_eq l.app.name name && bytes_eq l.app.vsn vsn
 abbrev pub library_at : List ℕ → List ℕ → List Library → Option Library
 library_at name vsn ls = find (is_at name vsn) ls
 
--- They are the libraries of these applications, in their order.
+-- These are the libraries of these applications, in their order.
 abbrev pub AreLibrariesOf : List Application → List Library → Type 0
 AreLibrariesOf [] [] = Unit {0}
 AreLibrariesOf (a ∷ as') (l ∷ ls) = IsLibrary l × (is_at a.name a.vsn l ≡ true) × AreLibrariesOf as' ls

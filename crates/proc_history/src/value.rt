@@ -10,11 +10,11 @@ use mod_table::{Restart, Step, Worker};
 /// What a process is at.
 #[derive(Clone, Copy)]
 pub enum Standing {
-    /// It answers calls.
+    /// The process answers calls.
     Up,
-    /// It ended, and isn't started again.
+    /// The process ended, and isn't started again.
     Down,
-    /// It was stopped for a change of code.
+    /// The process was stopped for a change of code.
     Stopped,
 }
 
@@ -126,7 +126,7 @@ impl Now {
         }
     }
 
-    // It is started again where its restart type says so (OTP: supervisor, restart()).
+    // A process that ends is started again where its restart type says so (OTP: supervisor, restart()).
     fn ends(&mut self, abnormal: bool)
         ensures { self.new ≡ ended self.old (starts_again self.old.restart abnormal) }
     {

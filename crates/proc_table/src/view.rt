@@ -21,7 +21,7 @@ pub struct View {
     pub ghost found: { List (ℕ × ℕ) } by { coded_list (coded× coded_ℕ coded_ℕ) },
     /// The pass that was joined last, until the table was asked about it.
     pub ghost guest: { Option Guest } by { coded_option guest_code },
-    /// It was joined to another.
+    /// Whether the view was joined to another.
     pub ghost spent: { Bool },
 }
 

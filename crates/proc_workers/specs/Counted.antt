@@ -35,7 +35,7 @@ pub record AreCounted (pid : Pid) (input times : ℕ) (answers : List Answer) (f
   pub are_of : AreOf pid input answers
   pub counts : Counts times (outcomes_in answers) f
 
--- So many answers were given one after another, each by a call of this process with this input.
+-- This many answers were given one after another, each by a call of this process with this input.
 pub record HasCounted (pid : Pid) (input n : ℕ) (v : View) (f : FloodCounts) (w : View) : Type 0 where
   pub answers : List Answer
   pub answered : HasAnswered pid v answers w

@@ -46,7 +46,7 @@ KeepsJobs d e = (e.kept ≡ d.kept) × (e.suspended ≡ d.suspended) × (vec_cap
 abbrev pub HandsBack : Desk → Inbox → EndCause → Ended → Type 0
 HandsBack d inbox cause e = (e.pass ≡ d.pass) × (e.inbox ≡ inbox) × (e.answers ≡ d.answers) × (e.left ≡ d.kept) × (e.cause ≡ cause)
 
--- So many of the jobs that were kept are answered.
+-- This many of the jobs that were kept are answered.
 pub record HasResumed (pid : Pid) (n : ℕ) (d e : Desk) : Type 0 where
   pub new : List Answer
   pub answers_is : e.answers.items ≡ d.answers.items ++ new

@@ -46,7 +46,7 @@ impl Desk {
         self.suspended = true;
     }
 
-    // Does the jobs that were kept.
+    // Answers the jobs that were kept.
     pub(crate) fn resume<G: Gate, R: Wait>(&mut self, rt: &R, table: &ProcTable, pid: Pid, gate: &G)
         requires table { self.old.pass.table ≡ table.now }
         requires room { HasRoomFor 1 self.old }
@@ -61,7 +61,7 @@ impl Desk {
         self.suspended = false;
     }
 
-    // Does the job, or keeps it while the worker is suspended.
+    // Answers the job, or keeps it while the worker is suspended.
     pub(crate) fn take_job<G: Gate, R: Wait>(
         &mut self,
         rt: &R,

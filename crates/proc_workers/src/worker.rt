@@ -11,7 +11,7 @@ use std::sync::Wait;
 /// Why a worker ended.
 #[derive(Clone, Copy, Debug, PartialEq, Eq)]
 pub enum EndCause {
-    /// It took `Stop`.
+    /// The worker took `Stop`.
     Stopped,
     /// All senders are gone, and no note waits.
     Closed,

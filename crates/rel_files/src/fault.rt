@@ -11,9 +11,9 @@ use std::fmt::{self, Display, Formatter};
 /// its place if it has one.
 #[derive(Debug, Drop)]
 pub enum FileFault {
-    /// It is no row of terms.
+    /// The text is no row of terms.
     BadTerm(TermFault),
-    /// It has not one term, or one of another shape. The place is that of its first term, 0 if it has none.
+    /// The file has not one term, or one of another shape. The place is that of its first term, 0 if it has none.
     BadShape(usize),
     /// This name stands twice.
     Duplicate(String),

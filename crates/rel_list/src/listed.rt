@@ -9,7 +9,7 @@ use std::rc::Rc;
 #[derive(Drop)]
 pub struct ListedRelease {
     pub release: Rel,
-    /// Those of its applications, in their order. Releases share a library that they all name.
+    /// The libraries of its applications, in their order. Releases share a library that they all name.
     pub libraries: Vec<Rc<Library>>,
     /// The scripts that lead to it and from it, if it has a relup.
     pub relup: Option<Relup>,

@@ -4,15 +4,15 @@ ghost use Rattle.std.specs.Prelude.{◌≡◌};
 /// The status of a release of the list.
 #[derive(Clone, Copy, Debug, PartialEq, Eq)]
 pub enum Status {
-    /// It is there to be installed.
+    /// The release is there to be installed.
     Unpacked,
-    /// It runs until the next boot.
+    /// The release runs until the next boot.
     Current,
-    /// It was current or permanent.
+    /// The release was current or permanent.
     Old,
     /// A boot starts it, unless the list has a one-shot.
     Permanent,
-    /// It was installed by a script that ends with a restart: the next boot starts it, once.
+    /// The release was installed by a script that ends with a restart: the next boot starts it, once.
     OneShot,
 }
 

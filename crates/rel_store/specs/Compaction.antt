@@ -19,11 +19,11 @@ image_end base end n = image_place base end n + (6 + n)
 abbrev pub FitsImage : ℕ → ℕ → ℕ → Type 0
 FitsImage base end n = (n ≤ 16777216) × (image_end base end n ≤ 67108864)
 
--- They are a store with these records, or with the image alone.
+-- The bytes are a store with these records, or with the image alone.
 abbrev pub StandsOrImage : List (List ℕ) → List ℕ → List ℕ → List ℕ → Type 0
 StandsOrImage bodies image text bytes = Stands bodies text bytes ⊎ Stands (image ∷ []) text bytes
 
--- They are a store with these records, which ends at the first of two places, or with the image alone, which ends at the
+-- The bytes are a store with these records, which ends at the first of two places, or with the image alone, which ends at the
 -- second.
 abbrev pub EndsEither : List (List ℕ) → ℕ → List ℕ → ℕ → List ℕ → List ℕ → Type 0
 EndsEither bodies end image ends text bytes = (Stands bodies text bytes × (end_of bytes ≡ end)) ⊎ (Stands (image ∷ []) text bytes × (end_of bytes ≡ ends))

@@ -57,11 +57,11 @@ pub record Stands (bodies : List (List ℕ)) (text : List ℕ) (bytes : List ℕ
   pub records : records_of bytes ≡ Ok bodies
   pub start : text_of bytes ≡ text
 
--- They are one with these records, or with this body after them.
+-- The bytes are a store with these records, or with this body after them.
 abbrev pub StandsEither : List (List ℕ) → List ℕ → List ℕ → List ℕ → Type 0
 StandsEither bodies body text bytes = Stands bodies text bytes ⊎ Stands (bodies ++ body ∷ []) text bytes
 
--- They are one with these records, and with the one start slot or the other.
+-- The bytes are a store with these records, and with the one start slot or the other.
 abbrev pub StandsWithEither : List (List ℕ) → List ℕ → List ℕ → List ℕ → Type 0
 StandsWithEither bodies text other bytes = Stands bodies text bytes ⊎ Stands bodies other bytes
 

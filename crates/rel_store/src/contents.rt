@@ -133,7 +133,7 @@ fn record_at<D: Disk>(disk: &mut D, gate: u64, len: u64) -> Result<Option<usize>
     Ok(Some(size))
 }
 
-// So many bytes from this place on.
+// Reads this many bytes from this place on.
 fn read_body<D: Disk>(
     alloc: Global,
     disk: &mut D,

@@ -86,7 +86,7 @@ pub fn read_application<F: Files>(
     }
 }
 
-// It is of the name and the version that the release says.
+// Whether the application has the name and the version that the release says.
 fn is_named(app: &RelApp, found: &App) -> bool
     ensures { result ≡ is_named (application_of app.now) (specification_of found.now) }
 {

@@ -11,13 +11,13 @@ use thiserror::Error;
 /// relup by the number of its entry.
 #[derive(Debug, Drop)]
 pub enum FileTrouble {
-    /// It can't be read.
+    /// The file can't be read.
     Unreadable,
     /// Its bytes have this fault.
     Fault(FileFault),
-    /// It hasn't one term, or one that isn't of its kind's shape. This fault has no place.
+    /// The file hasn't one term, or one that isn't of its kind's shape. This fault has no place.
     Misshapen,
-    /// It is a relup, whose bytes have this fault.
+    /// The file is a relup, whose bytes have this fault.
     Relup(RelupFault),
 }
 

@@ -68,7 +68,7 @@ fn read_table<F: Files>(
     }
 }
 
-// It is of the module that its path says.
+// Whether the table is of the module that its path says.
 fn is_of(name: &str, file: &ModFile) -> bool
     ensures { result ≡ is_of name.now (table_term_of file.now) }
 {

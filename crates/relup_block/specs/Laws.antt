@@ -84,7 +84,7 @@ abbrev pub OrdersDown : Type 0
 OrdersDown = (xs : List BlockItemForm)
     → GoesInOrders DependenciesFirst DependentsFirst (λ ls. filter (is_of_kind true) ls ++ filter (is_of_kind false) ls) xs (block Down xs)
 
--- Those that are suspended are resumed, the last first.
+-- The processes that a block suspends it resumes, the last first.
 abbrev pub ResumesSuspended : Type 0
 ResumesSuspended = (d : Direction) (xs : List BlockItemForm)
     → flat_map resumed_by (block d xs) ≡ reverse (map (λ (s : SuspensionForm). s.name) (flat_map suspended_by (block d xs)))

@@ -196,7 +196,7 @@ fn push_loads(items: &[BlockItem<'_>], out: &mut Vec<Instr>) -> Result<(), Alloc
     Ok(())
 }
 
-// Those of static modules, or the others.
+// Appends the loads of static modules, or those of the others.
 fn push_loads_that(
     wanted: bool,
     items: &[BlockItem<'_>],

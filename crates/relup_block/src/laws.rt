@@ -18,7 +18,7 @@ pub fn going_down_dependents_are_suspended_last_and_loaded_first()
     ensures { OrdersDown }
 {}
 
-/// Those that are suspended are resumed, the last first.
+/// The processes that a block suspends it resumes, the last first.
 pub fn the_suspended_are_resumed()
     ensures { ResumesSuspended }
 {}

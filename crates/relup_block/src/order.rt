@@ -138,7 +138,7 @@ fn has_deps(item: BlockItem<'_>) -> bool
     !item.deps().is_empty()
 }
 
-// Those that name dependencies.
+// The items that name dependencies.
 fn naming<'a>(alloc: Global, items: &[BlockItem<'a>]) -> Result<Vec<BlockItem<'a>>, AllocError>
     ensures { IfOk result (λ v.
         block_items_of v.items ≡ filter has_deps (block_items_of items.now)) }
@@ -195,7 +195,7 @@ fn first_idle(left: &[Waiting<'_>]) -> Option<usize>
     None
 }
 
-// It no longer waits for an item that has come.
+// What an item waits for, without one that has come.
 fn wait_without<'a>(rule: ChoiceRule, item: BlockItem<'_>, waiting: Waiting<'a>) -> Waiting<'a>
     ensures { waiting_of result
         ≡ after_item rule (block_item_of item.entry) (waiting_of waiting.entry) }

@@ -9,7 +9,7 @@ use Rattle.relup_command.specs.Releases.{Releases, ReleasesAt}
 use Rattle.relup_command.specs.declared.error.RelupError.{RelupError}
 use Rattle.relup_command.specs.declared.error.RelupError.TheVariants.{Files, Appups}
 
--- It is the translation of what the files say.
+-- The relup is the translation of what the files say.
 abbrev pub IsMadeOf : Source → List ℕ → List (List ℕ) → List (List ℕ) → RelupForm → Type 0
 IsMadeOf source new ups downs relup =
     (all : Releases) × ReleasesAt source new ups downs (Ok all) × (translation all.new all.ups all.downs ≡ Ok relup)

@@ -11,7 +11,7 @@ use std::fmt::{self, Display, Formatter};
 /// What is wrong with a relup file. It is shown by its name, and by its place or its entry.
 #[derive(Clone, Copy, Debug)]
 pub enum RelupFault {
-    /// It is no row of terms.
+    /// The text is no row of terms.
     BadTerm(TermFault),
     /// The first entry that is none, counted from 1, upgrades first. 0 where the file has not one term, or one of another
     /// shape.

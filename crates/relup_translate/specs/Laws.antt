@@ -81,7 +81,7 @@ pub record IsWhole (w : WayForm) : Type 0 where
   pub erts : w.left.erts ≡ w.target.erts
   pub each : AllByRecursion (λ (a : RelupAppForm). (b : RelupAppForm) → app_named a.name w.left ≡ Some b → (b.vsn ≡ a.vsn → ⊥) → GoesOver w b a) w.target.apps
 
--- Such ways have no fault, and no others.
+-- A way has no fault exactly where it is whole.
 abbrev pub SoundIsWhole : Type 0
 SoundIsWhole = (w : WayForm) → (way_fault w ≡ None) ↔ IsWhole w
 
@@ -124,7 +124,7 @@ pub record IsParted (script : List Instruction) : Type 0 where
   pub fetches : AllByRecursion Fetches before
   pub stands : (front rest : List Instruction) (i : Instruction) → after ≡ front ++ (i ∷ rest) → IsTrue (may_follow i && (is_end rest || not (is_restart i)))
 
--- So is each script of a relup that is made.
+-- Each script of a relup that is made is parted in this way.
 abbrev pub PartsScripts : Type 0
 PartsScripts = (new : RelupReleaseForm) (ups downs : List RelupReleaseForm) (r : RelupForm)
     → translation new ups downs ≡ Ok r

@@ -14,11 +14,11 @@ use std::alloc::{AllocError, Global};
 // What becomes of an application.
 #[derive(Clone, Copy)]
 pub(crate) enum AppChange<'a> {
-    // It is added, as the target has it.
+    // The application is added, as the target has it.
     Coming(&'a RelupApp),
-    // It goes over to another version by these instructions.
+    // The application goes over to another version by these instructions.
     Changing(&'a [AppupInstr]),
-    // It is removed.
+    // The application is removed.
     Going(&'a RelupApp),
 }
 

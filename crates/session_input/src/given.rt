@@ -12,7 +12,7 @@ pub const MOST_FILE: usize = 1_048_576;
 pub enum GivenFile {
     /// All its bytes.
     Bytes(Vec<u8>),
-    /// It has more bytes than a file may have, which aren't kept.
+    /// The file has more bytes than a file may have, which aren't kept.
     TooLarge,
 }
 

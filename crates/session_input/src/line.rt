@@ -7,7 +7,7 @@ use crate::error::SessionError;
 pub enum Line {
     /// All its bytes.
     Text(Vec<u8>),
-    /// It was longer than what was asked for, and isn't kept.
+    /// The line was longer than what was asked for, and isn't kept.
     Long,
 }
 

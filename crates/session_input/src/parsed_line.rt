@@ -17,7 +17,7 @@ pub const MOST_LINE: usize = 4_096;
 /// What a line says where a command may stand.
 #[derive(Drop)]
 pub enum ParsedLine {
-    /// It is blank.
+    /// The line is blank.
     Blank,
     /// The file of this path follows, up to its end.
     FileBegins(String),
