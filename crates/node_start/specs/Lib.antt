@@ -1,4 +1,5 @@
 pub mod Begun
 pub mod Starting
 pub mod Running
+pub mod Booting
 pub mod Laws

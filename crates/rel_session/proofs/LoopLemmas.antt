@@ -9,7 +9,7 @@ use Rattle.session_input.specs.declared.command.Command.{Command as CommandInMem
 use Rattle.session_input.specs.declared.error.SessionError.{SessionError}
 use Rattle.session_input.specs.declared.error.SessionError.TheVariants.{Read, Write, Limit, NoMemory}
 use Rattle.session_input.specs.declared.input.Input.{Input}
-use Rattle.rel_session.specs.declared.node.Node.{Node}
+use Rattle.rel_session.specs.declared.node.SessionNode.{SessionNode}
 use Rattle.rel_session.specs.declared.place.Place.TheVariants as memory
 use Rattle.session_input.specs.Commands.{Command, commands_of}
 use Rattle.session_input.specs.Commands.Command.{quit}
@@ -139,7 +139,7 @@ at_limit j n is le full = by_end j.ahead.is_over is
 module _ {D : Type 0} (v : Device D) (base : Source) where
   -- Where the node stands, what was written, and how a run of the commands that are left completes that of all, wherever from
   -- here on the reading may stop.
-  pub record Reached (start : Place) (all left : ℕ → Option (Feed Command)) (upto : ℕ) (disk : D) (node : Node D) (old now : Option (List ℕ)) : Type 0 where
+  pub record Reached (start : Place) (all left : ℕ → Option (Feed Command)) (upto : ℕ) (disk : D) (node : SessionNode D) (old now : Option (List ℕ)) : Type 0 where
     pub here : Place
     pub at : IsAt v node.place here
     pub written : List ℕ
@@ -148,7 +148,7 @@ module _ {D : Type 0} (v : Device D) (base : Source) where
         → Replies base (files_of node.files) here rest ending replies → Executes v here replies (disk_of node) new → IsTextOf ending replies text
         → (commands : Feed Command) × AreLeft (all most) commands × IsRun v base no_files start commands ending disk new (written ++ text)
 
-  abbrev pub Goes : (ℕ → Option (Feed Command)) → (ℕ → Option (Feed Command)) → ℕ → D → Node D → Option (List ℕ) → Option (List ℕ) → Type 0
+  abbrev pub Goes : (ℕ → Option (Feed Command)) → (ℕ → Option (Feed Command)) → ℕ → D → SessionNode D → Option (List ℕ) → Option (List ℕ) → Type 0
   Goes all left upto disk node old now = (start : Place) → Starts v start disk → Reached start all left upto disk node old now
 
   -- A session has ended so, if so many bytes are read at most, on this disk, and this was written.
@@ -165,7 +165,7 @@ module _ {D : Type 0} (v : Device D) (laws : IsDevice v) (base : Source) where
   starts_at (dead s) disk starts = absurd starts
 
   -- before the first command
-  pub begins : (all left : ℕ → Option (Feed Command)) (upto : ℕ) (disk : D) (node : Node D) (old : Option (List ℕ)) → ((most : ℕ) → left most ≡ all most) → node.place ≡ memory.Idle disk → files_of node.files ≡ no_files
+  pub begins : (all left : ℕ → Option (Feed Command)) (upto : ℕ) (disk : D) (node : SessionNode D) (old : Option (List ℕ)) → ((most : ℕ) → left most ≡ all most) → node.place ≡ memory.Idle disk → files_of node.files ≡ no_files
       → Goes v base all left upto disk node old old
   begins all left upto disk node old same place files start starts = record {
     here = start;
@@ -185,16 +185,16 @@ module _ {D : Type 0} (v : Device D) (laws : IsDevice v) (base : Source) where
   }
 
   -- calls that leave nothing new
-  nothing_more : (p : Place) (node : Node D) → IsAt v node.place p → Executes v p [] (disk_of node) (disk_of node)
+  nothing_more : (p : Place) (node : SessionNode D) → IsAt v node.place p → Executes v p [] (disk_of node) (disk_of node)
   nothing_more p node at = (still v laws (disk_of node), held v laws node.place p at, omega arith)
 
-  module _ (all now new : ℕ → Option (Feed Command)) (upto further : ℕ) (before : upto ≤ further) (disk : D) (node : Node D) (old mid : Option (List ℕ)) (goes : Goes v base all now upto disk node old mid) where
+  module _ (all now new : ℕ → Option (Feed Command)) (upto further : ℕ) (before : upto ≤ further) (disk : D) (node : SessionNode D) (old mid : Option (List ℕ)) (goes : Goes v base all now upto disk node old mid) where
     -- the next command is this one
     abbrev pub Takes : Command → Type 0
     Takes c = (most : ℕ) → further ≤ most → Gives (now most) (new most) (λ d. c ≡ d)
 
     -- a command was followed, and its answer was written
-    pub goes_on : (c : Command) (text : String Global) (later : Node D) (mid' : Option (List ℕ)) → Takes c → FollowsCommand v base c (Ok (Some text)) node later → Appends mid mid' (string_bytes text)
+    pub goes_on : (c : Command) (text : String Global) (later : SessionNode D) (mid' : Option (List ℕ)) → Takes c → FollowsCommand v base c (Ok (Some text)) node later → Appends mid mid' (string_bytes text)
         → Goes v base all new further disk later old mid'
     goes_on c text later mid' gives (files, follows) appended start starts =
         let r = goes start starts in
@@ -245,13 +245,13 @@ module _ {D : Type 0} (v : Device D) (laws : IsDevice v) (base : Source) where
     ends_for Shows NoMemory i j final le is same cause gone = ends_without_memory most_bytes final le same
 
     -- at `quit`
-    pub quits : (most : ℕ) (c : Command) (later : Node D) (final : D) → further ≤ most → final ≡ disk_of later → Takes c → FollowsCommand v base c (Ok None) node later → EndsSo v base all ended most disk final old mid
+    pub quits : (most : ℕ) (c : Command) (later : SessionNode D) (final : D) → further ≤ most → final ≡ disk_of later → Takes c → FollowsCommand v base c (Ok None) node later → EndsSo v base all ended most disk final old mid
     quits most c later final le is gives (quitting, same) =
         ends_with ended most (next quit (some_left (new most))) final (omega arith)
         (subst (λ d. AreLeft (now most) (next d (some_left (new most)))) quitting (are_next (now most) (new most) c (some_left (new most)) (gives most le) (are_some (new most)))) (is ∙ ap disk_at same) (λ files p. (refl, refl)) refl
 
     -- a command's answer was not written whole
-    pub stops_within : (most : ℕ) (c : Command) (text : String Global) (later : Node D) (final : D) (mid' : Option (List ℕ)) → further ≤ most → final ≡ disk_of later → Takes c → FollowsCommand v base c (Ok (Some text)) node later
+    pub stops_within : (most : ℕ) (c : Command) (text : String Global) (later : SessionNode D) (final : D) (mid' : Option (List ℕ)) → further ≤ most → final ≡ disk_of later → Takes c → FollowsCommand v base c (Ok (Some text)) node later
         → AppendsPrefix mid mid' (string_bytes text) → EndsSo v base all unwritten most disk final old mid'
     stops_within most c text later final mid' le is gives (files, follows) (part, left, parts, appended) start starts =
         let r = goes start starts in
@@ -263,7 +263,7 @@ module _ {D : Type 0} (v : Device D) (laws : IsDevice v) (base : Source) where
         (whole.0, whole.1, (r.written ++ part, Appends-twice old mid mid' r.written part r.appended appended, subst (λ d. IsRun v base no_files start whole.0 unwritten disk d (r.written ++ part)) (sym is) whole.2))
 
     -- or not at all, since memory was refused
-    pub stops_before : (most : ℕ) (c : Command) (e : SessionError) (later : Node D) (final : D) → further ≤ most → final ≡ disk_of later → Takes c → FollowsCommand v base c (Err e) node later → EndsSo v base all out_of_memory most disk final old mid
+    pub stops_before : (most : ℕ) (c : Command) (e : SessionError) (later : SessionNode D) (final : D) → further ≤ most → final ≡ disk_of later → Takes c → FollowsCommand v base c (Err e) node later → EndsSo v base all out_of_memory most disk final old mid
     stops_before most c e later final le is gives follows start starts = by_outcome (follows r.here r.at)
       where
         r : Reached v base start all now upto disk node old mid
@@ -291,9 +291,9 @@ module _ {D : Type 0} (v : Device D) (laws : IsDevice v) (base : Source) where
       (commands, are_all known (bytes_followed ending taken) commands are, text)
 
   -- an answer may be written after its command, on the disk to which that has led
-  pub may_write : (known : Option (List ℕ)) (now new : ℕ → Option (Feed Command)) (upto further : ℕ) (disk : D) (node : Node D) (old mid : Option (List ℕ)) → upto ≤ further → further ≤ most_bytes
+  pub may_write : (known : Option (List ℕ)) (now new : ℕ → Option (Feed Command)) (upto further : ℕ) (disk : D) (node : SessionNode D) (old mid : Option (List ℕ)) → upto ≤ further → further ≤ most_bytes
       → Goes v base (within known) now upto disk node old mid
-      → (c : Command) (text : String Global) (later : Node D) → ((most : ℕ) → further ≤ most → Gives (now most) (new most) (λ d. c ≡ d)) → FollowsCommand v base c (Ok (Some text)) node later
+      → (c : Command) (text : String Global) (later : SessionNode D) → ((most : ℕ) → further ≤ most → Gives (now most) (new most) (λ d. c ≡ d)) → FollowsCommand v base c (Ok (Some text)) node later
       → (Allowed : D → Option (List ℕ) → Type 0) → AllowsItsAnswers v base known disk old Allowed → MayAdd (Allowed (disk_of later)) mid (string_bytes text)
   may_write known now new upto further disk node old mid before bound goes c text later gives follows Allowed allowed added appended =
       let behind = goes_on (within known) now new upto further before disk node old mid goes c text later added gives follows appended in

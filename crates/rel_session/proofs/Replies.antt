@@ -24,6 +24,7 @@ use Rattle.node_processes.specs.Calls.Calls.{once, often}
 use Rattle.node_processes.specs.Fresh.{fresh_processes}
 use Rattle.node_processes.specs.InMemory.{processes_in}
 use Rattle.node_processes.specs.Processes.{Processes}
+use Rattle.node_start.specs.Booting.{HasStopped, IsBootedFrom, IsLack}
 use Rattle.rel_session.specs.declared.booted_node.BootedNode.{BootedNode}
 use Rattle.rel_session.specs.declared.place.Place.{Place as PlaceInMemory}
 use Rattle.rel_session.specs.declared.place.Place.TheVariants as memory
@@ -389,6 +390,30 @@ module _ {D : Type 0} (v : Device D) (laws : IsDevice v) where
   pub line_never_stops : (P Q : Place → Reply → Type 0) (line : Result (String Global) AllocError) (old new : PlaceInMemory D) → ReportsReply v P line old new → ReportsOrStops v P Q line old new
   line_never_stops P Q (Ok text) old new reported = reported
   line_never_stops P Q (Err e) old new reported = λ p at. ⊎_elim (λ (r : Replied v p (P p) old new). inl (record { given = r.given; right = inl r.right; happens = r.happens })) (λ lapsed. inr lapsed) (reported p at)
+
+  -- A boot that is refused has written nothing, or all that a boot writes, where memory was refused to its processes; or the device
+  -- failed in it.
+  module _ (old : PlaceInMemory D) (disk new : D) (taken : disk ≡ disk_at old) (leaves : LeavesOnly v disk new (λ c. v.may_leave disk c ⊎ IsLeftByBoot (v.seen disk) c))
+      (stored_all : (s : Stored) → ((c : List ℕ) → v.may_leave disk c → IsStoredAs s c) → KeepsStore v s disk new) (counted : v.failures disk ≤ v.failures new)
+      (why : BootError) (is : BootRefused (v.seen disk) (v.failures disk) (v.failures new) why) (only : (es : Releases) → IsImageOf (v.seen disk) es → IsLack why)
+      (line : Result (String Global) AllocError) (reported : IfOk line (λ text. string_bytes text ≡ boot_line why)) (wanting : why ≡ boot_error.NoMemory → IsErr line) where
+    abbrev Stops : Place → Reply → Type 0
+    Stops p a = Transition.StopsWithin p boots_node a
+
+    without_its_processes : (h : NodeStore D) → IsBootedFrom v disk h → new ≡ disk_in h → (l : Result (String Global) AllocError) → IsErr l → ReportsOrStops v Transition.Boots Stops l old (memory.Idle new)
+    without_its_processes h b same (Ok text) never_so = absurd never_so
+    without_its_processes h b same (Err e) lapsed =
+        boots old disk taken h b.works b.image b.acknowledged (b.sound.started b.works) b.list
+        (subst (λ d. LeavesOnly v disk d (λ c. v.may_leave disk c ⊎ IsLeftByBoot (v.seen disk) c)) same leaves) (λ s here. subst (KeepsStore v s disk) same (stored_all s here))
+        (subst (λ d. v.failures disk ≤ v.failures d) same counted) (Err e) (memory.Idle new) same
+
+    unwritten : (why ≢ boot_error.Device → IsQuiet disk new) → ReportsOrStops v Transition.Boots Stops line old (memory.Idle new)
+    unwritten read = line_never_stops Transition.Boots Stops line old (memory.Idle new) (boot_without_memory old disk new taken leaves stored_all counted why is read only line reported wanting)
+
+    pub boot_stopped : HasStopped v disk (new, why) → ReportsOrStops v Transition.Boots Stops line old (memory.Idle new)
+    boot_stopped (inl failed) = unwritten (λ other. absurd (other failed))
+    boot_stopped (inr (inl read)) = unwritten (λ other. (read.same, read.any_moment))
+    boot_stopped (inr (inr (lapsed, (h, b, same)))) = without_its_processes h b same line (wanting lapsed)
 
   -- a line as an answer, where it may be stopped within
   pub answers_or_stops : (P Q : Place → Reply → Type 0) (line : Result (String Global) AllocError) (result : Result (String Global) HandlerError) (old new : PlaceInMemory D)

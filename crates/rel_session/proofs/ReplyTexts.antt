@@ -5,7 +5,7 @@ use Rattle.std.specs.declared.alloc.Global.{Global}
 use Rattle.std.specs.declared.alloc.AllocError.{AllocError}
 use Rattle.session_input.specs.declared.error.SessionError.{SessionError}
 use Rattle.rel_session.specs.declared.given_files.GivenFiles.{GivenFiles}
-use Rattle.rel_session.specs.declared.node.Node.{Node}
+use Rattle.rel_session.specs.declared.node.SessionNode.{SessionNode}
 use Rattle.rel_session.specs.declared.place.Place.{Place as PlaceInMemory}
 use Rattle.node_command.specs.declared.error.HandlerError.{HandlerError}
 use Rattle.node_command.specs.declared.error.HandlerError.TheVariants as handler_error
@@ -92,7 +92,7 @@ module _ {D : Type 0} (v : Device D) where
     answers_still place answer Q right (Err e) r is says = subst (λ q. Answers v Q q place place) (sym is) (changes_no_memory v laws Q place)
 
     -- A file was given.
-    pub gives : (base : Source) (old : Node D) (files : GivenFiles) (path : List ℕ) (f : File) (text : Result (Option (String Global)) SessionError)
+    pub gives : (base : Source) (old : SessionNode D) (files : GivenFiles) (path : List ℕ) (f : File) (text : Result (Option (String Global)) SessionError)
         → OnOk text (files_of files ≡ give (files_of old.files) path f) → IfOk text (λ t. IsText t (codes "ok\n")) → FollowsCommand v base (file path f) text old (record { place = old.place; files = files })
     gives base old files path f (Ok None) kept reported = absurd reported
     gives base old files path f (Ok (Some s)) kept reported = (
@@ -126,14 +126,14 @@ module _ {D : Type 0} (v : Device D) where
   files_stay files asked.Bad other = refl
 
   -- It was followed, as it was answered.
-  module _ (base : Source) (old : Node D) (place : PlaceInMemory D) (m : CommandInMemory) (other : AsksNode m) where
+  module _ (base : Source) (old : SessionNode D) (place : PlaceInMemory D) (m : CommandInMemory) (other : AsksNode m) where
     abbrev command : Command
     command = command_of m
 
     abbrev Does : Place → Reply → Type 0
     Does = λ p a. Transition (source_of base (files_of old.files)) p command a
 
-    abbrev new : Node D
+    abbrev new : SessionNode D
     new = record { place = place; files = old.files }
 
     ended : (r : Result (String Global) HandlerError) → AnswersCommand v (source_of base (files_of old.files)) command r old.place place → (p : Place) → IsAt v old.place p

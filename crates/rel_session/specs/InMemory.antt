@@ -16,7 +16,7 @@ use Rattle.node_processes.specs.Fresh.{fresh_processes}
 use Rattle.node_processes.specs.InMemory.{processes_in, AreSound}
 use Rattle.node_start.specs.Begun.{HaveJustBegun, fresh_beginnings}
 use Rattle.rel_session.specs.declared.booted_node.BootedNode.{BootedNode}
-use Rattle.rel_session.specs.declared.node.Node.{Node}
+use Rattle.rel_session.specs.declared.node.SessionNode.{SessionNode}
 use Rattle.rel_session.specs.declared.place.Place.{Place as PlaceInMemory}
 use Rattle.rel_session.specs.declared.place.Place.TheVariants as memory
 use Rattle.node_command.specs.declared.error.HandlerError.{HandlerError}
@@ -187,7 +187,7 @@ AnswersCommand v source command result old new =
 
 -- A command was followed, over a source of files. Its text is its answer; there is none where the session ends.
 abbrev pub FollowsCommand : {D : Type 0} → Device D → Source → Command → Result (Option (String Global)) SessionError
-    → Node D → Node D → Type 0
+    → SessionNode D → SessionNode D → Type 0
 FollowsCommand v base command (Ok (Some text)) old new =
     let source = source_of base (files_of old.files) in
     (files_of new.files ≡ files_behind (files_of old.files) command)
@@ -200,7 +200,7 @@ FollowsCommand v base command (Err e) old new =
     → Leads v p (λ a. Transition source p command a ⊎ IsStopped source p command a) old.place new.place
     ⊎ NothingDone v p old.place new.place
 
-abbrev pub disk_of : {D : Type 0} → Node D → D
+abbrev pub disk_of : {D : Type 0} → SessionNode D → D
 disk_of n = disk_at n.place
 
 -- the line that reports what a command has done, or why it was refused

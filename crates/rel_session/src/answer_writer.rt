@@ -5,7 +5,7 @@ ghost use Rattle.counted_io.specs.Counted.{held_by, failed_writes};
 ghost use Rattle.counted_io.specs.Failures.{Counts};
 ghost use Rattle.counted_io.specs.Prefixes.{AppendsPrefix};
 
-use crate::node::Node;
+use crate::node::SessionNode;
 use counted_io::{CountedWriter, WriteFailed};
 use rel_disk::Disk;
 use std::io::Write;
@@ -29,7 +29,7 @@ pub trait AnswerWriter<D: Disk> {
     ghost allows: { Self → D → Option (List ℕ) → Type 0 };
 
     /// Writes the answer of a command that the node has done, and passes it on. After an `Err` a prefix of it was written.
-    fn write_answer(&mut self, node: &Node<D>, answer: &str) -> Result<(), WriteFailed>
+    fn write_answer(&mut self, node: &SessionNode<D>, answer: &str) -> Result<(), WriteFailed>
         requires { MayAdd (allows self.old (disk_of node.now)) (written self.old) answer.now }
         ensures written { OnOk result (Appends (written self.old) (written self.new) answer.now) }
         ensures prefix { OnErr result
@@ -47,7 +47,7 @@ impl<D: Disk, W: Write> AnswerWriter<D> for CountedWriter<W> {
 
     ghost allows = { λ writer disk text. Unit {0} };
 
-    fn write_answer(&mut self, _node: &Node<D>, answer: &str) -> Result<(), WriteFailed> {
+    fn write_answer(&mut self, _node: &SessionNode<D>, answer: &str) -> Result<(), WriteFailed> {
         self.write(answer.as_bytes())
     }
 }

@@ -12,7 +12,7 @@ ghost use Rattle.rel_session.specs.Files.{no_files};
 ghost use Rattle.session_input.specs.Input.{IsFresh, left_in, taken, failed_reads, most_bytes};
 
 use crate::answer_writer::AnswerWriter;
-use crate::node::Node;
+use crate::node::SessionNode;
 use file_source::Files;
 use rel_disk::Disk;
 use session_input::{Input, SessionError};
@@ -56,7 +56,7 @@ pub fn session<H: Threads + Wait + Sync, D: Disk, F: Files, R: Read + Drop, A: A
     // No byte past the limit is taken.
     ensures bounded { taken input.new ≤ most_bytes }
 {
-    let mut node = Node::new(alloc, disk);
+    let mut node = SessionNode::new(alloc, disk);
     loop {
         let command = match input.next_command(alloc) {
             Ok(Some(command)) => command,

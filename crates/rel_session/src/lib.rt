@@ -34,4 +34,5 @@ mod start;
 
 pub use answer_writer::AnswerWriter;
 pub use command_loop::session;
-pub use node::Node;
+pub use node::SessionNode;
+pub use node_start::{Node, boot};

@@ -17,20 +17,20 @@ use std::sync::Wait;
 use std::thread::Threads;
 
 /// The node of a session: the disk that it is on, and the files that were given.
-pub struct Node<D: Disk> {
+pub struct SessionNode<D: Disk> {
     place: Place<D>,
     files: GivenFiles,
 }
 
-impl<D: Disk> Node<D> {
+impl<D: Disk> SessionNode<D> {
     ghost use Rattle.rel_session.specs.InMemory.{disk_of, IsSoundPlace, FollowsCommand};
 
     /// No node was made or booted on the disk yet, and no file was given.
-    pub(crate) fn new(alloc: Global, disk: D) -> Node<D>
+    pub(crate) fn new(alloc: Global, disk: D) -> SessionNode<D>
         ensures place { result.place ≡ Idle disk }
         ensures files { files_of result.files ≡ no_files }
     {
-        Node {
+        SessionNode {
             place: Place::Idle(disk),
             files: GivenFiles::new(alloc),
         }
@@ -40,7 +40,7 @@ impl<D: Disk> Node<D> {
     pub(crate) fn into_disk(self) -> D
         ensures { result ≡ disk_of self }
     {
-        let Node { place, files: _ } = self;
+        let SessionNode { place, files: _ } = self;
         place.into_disk()
     }
 
@@ -52,27 +52,27 @@ impl<D: Disk> Node<D> {
         alloc: Global,
         base: &F,
         command: Command,
-    ) -> (Node<D>, Result<Option<String>, SessionError>)
+    ) -> (SessionNode<D>, Result<Option<String>, SessionError>)
         requires { IsSoundPlace D.seen D.may_leave self.place }
         ensures sound { IsSoundPlace D.seen D.may_leave result.0.place }
         ensures followed { FollowsCommand D.Disk (F.gives base.now)
             (command_of command) result.1 self result.0 }
         ensures memory { IfErr result.1 (λ e. e ≡ SessionError.NoMemory) }
     {
-        let Node { place, mut files } = self;
+        let SessionNode { place, mut files } = self;
         match command {
             Command::File(path, file) => {
                 let kept = keep(alloc, &mut files, path, file);
-                (Node { place, files }, kept)
+                (SessionNode { place, files }, kept)
             }
-            Command::Quit => (Node { place, files }, Ok(None)),
+            Command::Quit => (SessionNode { place, files }, Ok(None)),
             command => {
                 let source = SessionFiles {
                     given: &files,
                     base,
                 };
                 let (place, answer) = place.answer(rt, alloc, &source, &command);
-                (Node { place, files }, line_of(alloc, answer))
+                (SessionNode { place, files }, line_of(alloc, answer))
             }
         }
     }

@@ -5,9 +5,7 @@ ghost use Rattle.node_command.specs.Files.{Brings, IsOfFiles};
 ghost use Rattle.rel_list.specs.Releases.{running};
 ghost use Rattle.rel_unpack.specs.Unpacking.{Brought};
 ghost use Rattle.session_input.specs.Commands.Command.{create};
-ghost use Rattle.node_processes.specs.Fresh.{fresh_processes};
-ghost use Rattle.node_processes.specs.InMemory.{AreSound, processes_in};
-ghost use Rattle.node_start.specs.Begun.{HaveJustBegun, fresh_beginnings};
+ghost use Rattle.node_start.specs.Booting.{HasJustStarted};
 ghost use Rattle.rel_session.specs.InMemory.{IsSoundPlace, IsNodeStarted};
 ghost use Rattle.rel_session.specs.Node.{Place as SomePlace};
 ghost use Rattle.node_answer.specs.Lines.{ok_line};
@@ -21,8 +19,7 @@ use node_answer::{ok_line, refusal_line};
 use node_command::{HandlerError, bring_release};
 use node_listing::listing;
 use node_processes::Processes;
-use node_start::{Started, start_running};
-use proc_table::ProcTable;
+use node_start::{Node, boot, start_node};
 use rel_disk::Disk;
 use rel_handler::{BootError, Handler};
 use rel_list::ReleaseList;
@@ -86,9 +83,9 @@ impl<D: Disk> Place<D> {
         ensures booted { ReportsOrStops D.Disk (λ p a. Acts p boots_node a)
             (λ p a. StopsWithin p boots_node a) result.1 self result.0 }
     {
-        match rel_handler::boot(alloc, self.into_disk()) {
-            Ok(handler) => started(rt, alloc, handler),
-            Err((error, disk)) => (Place::Idle(disk), boot_refusal_line(alloc, error)),
+        match boot(rt, alloc, self.into_disk()) {
+            Ok(node) => reported(alloc, node),
+            Err((disk, error)) => (Place::Idle(disk), boot_refusal_line(alloc, error)),
         }
     }
 
@@ -107,8 +104,7 @@ impl<D: Disk> Place<D> {
     }
 }
 
-/// Starts the processes of a node that has just booted. The answer reports its version. Where memory is refused, no node is
-/// left.
+/// Starts the processes of a node that was just made. The answer reports its version. Where memory is refused, no node is left.
 fn started<D: Disk, R: Wait>(
     rt: &R,
     alloc: Global,
@@ -119,45 +115,51 @@ fn started<D: Disk, R: Wait>(
     ensures sound { IsSoundPlace D.seen D.may_leave result.0 }
     ensures started { IsNodeStarted handler result.1 result.0 }
 {
-    match begun(rt, alloc, &handler) {
-        Ok((line, processes)) => {
-            let node = BootedNode { handler, processes };
-            (Place::Made(node), Ok(line))
-        }
-        Err(error) => (Place::Idle(handler.into_disk()), Err(error)),
+    match start_node(rt, alloc, handler) {
+        Ok(node) => reported(alloc, node),
+        Err(disk) => (Place::Idle(disk), Err(AllocError)),
     }
 }
 
-/// The processes of a node that has just booted, and the line that reports its version. One table is made for the node, and the
-/// release is started in it once.
-fn begun<D: Disk, R: Wait>(
-    rt: &R,
-    alloc: Global,
-    handler: &Handler<D>,
-) -> Result<(String, Processes), AllocError>
-    requires sound { IsSound D.seen D.may_leave handler.now }
-    requires works { is_dead handler.now ≡ false }
-    ensures sound { IfOk result (λ begun. AreSound begun.1) }
-    ensures fresh { IfOk result (λ begun.
-        processes_in begun.1 ≡ fresh_processes (list_in handler.now)) }
-    ensures begun { IfOk result (λ begun.
-        HaveJustBegun (fresh_beginnings (list_in handler.now)) begun.1.seat.view) }
-    ensures reported { IfOk result (λ begun. string_bytes begun.0
+/// The answer to a boot: the version that runs. Where memory is refused to that, no node is left.
+fn reported<D: Disk>(alloc: Global, node: Node<D>) -> (Place<D>, Result<String, AllocError>)
+    requires sound { IsSound D.seen D.may_leave node.handler }
+    requires works { is_dead node.handler ≡ false }
+    requires started { HasJustStarted node }
+    ensures sound { IsSoundPlace D.seen D.may_leave result.0 }
+    ensures started { IsNodeStarted node.handler result.1 result.0 }
+{
+    match version_line(alloc, &node.handler) {
+        Ok(line) => {
+            let Node {
+                handler,
+                table,
+                seat,
+                tree,
+                loaded,
+            } = node;
+            let processes = Processes {
+                table,
+                seat,
+                tree,
+                loaded,
+            };
+            (Place::Made(BootedNode { handler, processes }), Ok(line))
+        }
+        Err(error) => (Place::Idle(node.into_disk()), Err(error)),
+    }
+}
+
+/// The line that reports the version that runs.
+fn version_line<D: Disk>(alloc: Global, handler: &Handler<D>) -> Result<String, AllocError>
+    requires { is_dead handler.now ≡ false }
+    ensures { IfOk result (λ text. string_bytes text
         ≡ ok_line (version_of (running (list_in handler.now)))) }
 {
     let Ok(list) = handler.which_releases() else {
         unreachable!();
     };
-    let line = ok_line(alloc, running_version(list))?;
-    let (table, mut seat) = ProcTable::new(alloc)?;
-    let Started { tree, loaded } = start_running(rt, alloc, handler, &table, &mut seat)?;
-    let processes = Processes {
-        table,
-        seat,
-        tree,
-        loaded,
-    };
-    Ok((line, processes))
+    ok_line(alloc, running_version(list))
 }
 
 /// Why no node is made where there is one: its files are read first.

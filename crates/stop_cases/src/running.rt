@@ -1,7 +1,5 @@
 //! A node that runs, and how it begins to.
-ghost use Rattle.std.specs.Prelude.{◌≡◌, false, IfOk};
-ghost use Rattle.node_store.specs.State.{IsSound, is_dead};
-ghost use Rattle.node_processes.specs.InMemory.{AreSound};
+ghost use Rattle.std.specs.Prelude.{IfOk};
 ghost use Rattle.stop_cases.specs.Running.{IsSoundNode};
 
 use crate::lines::{REFUSED, push_made_lines};
@@ -9,11 +7,10 @@ use file_source::Files;
 use node_answer::refusal_line;
 use node_command::HandlerError;
 use node_processes::Processes;
-use node_start::{Started, start_running};
-use proc_table::ProcTable;
+use node_start::{Node, boot};
 use rel_disk::Disk;
-use rel_handler::{BootError, Handler, boot};
-use std::alloc::{AllocError, Global};
+use rel_handler::{BootError, Handler};
+use std::alloc::Global;
 use std::sync::Wait;
 use text_cases::Answer;
 
@@ -81,7 +78,7 @@ pub(crate) fn boots<H: Wait, D: Disk>(
     ensures { IfOk result (IsSoundNode D.seen D.may_leave) }
 {
     match boot_once(rt, alloc, disk) {
-        Err((why, disk)) if matches!(why, BootError::NoMemory) => {
+        Err((disk, why)) if matches!(why, BootError::NoMemory) => {
             answer.push(REFUSED);
             reported(boot_once(rt, alloc, disk), answer)
         }
@@ -91,7 +88,7 @@ pub(crate) fn boots<H: Wait, D: Disk>(
 
 // The node of a boot, or its disk. Appends which it is.
 fn reported<D: Disk>(
-    booted: Result<RunningNode<D>, (BootError, D)>,
+    booted: Result<RunningNode<D>, (D, BootError)>,
     answer: &mut Answer,
 ) -> Result<RunningNode<D>, D>
     requires { IfOk booted (IsSoundNode D.seen D.may_leave) }
@@ -102,7 +99,7 @@ fn reported<D: Disk>(
             push_running(&node.handler, answer);
             Ok(node)
         }
-        Err((why, disk)) => {
+        Err((disk, why)) => {
             answer.push_debug(&why);
             Err(disk)
         }
@@ -121,52 +118,31 @@ fn push_running<D: Disk>(handler: &Handler<D>, answer: &mut Answer) {
     }
 }
 
-// The node on this disk with its processes, if it boots.
+// The node on this disk, if it boots.
 fn boot_once<H: Wait, D: Disk>(
     rt: &H,
     alloc: Global,
     disk: D,
-) -> Result<RunningNode<D>, (BootError, D)>
+) -> Result<RunningNode<D>, (D, BootError)>
     ensures { IfOk result (IsSoundNode D.seen D.may_leave) }
 {
-    match boot(alloc, disk) {
-        Ok(handler) => started(rt, alloc, handler),
+    match boot(rt, alloc, disk) {
+        Ok(node) => {
+            let Node {
+                handler,
+                table,
+                seat,
+                tree,
+                loaded,
+            } = node;
+            let processes = Processes {
+                table,
+                seat,
+                tree,
+                loaded,
+            };
+            Ok(RunningNode { handler, processes })
+        }
         Err(refused) => Err(refused),
     }
-}
-
-// A node that has just booted, with its processes.
-fn started<H: Wait, D: Disk>(
-    rt: &H,
-    alloc: Global,
-    handler: Handler<D>,
-) -> Result<RunningNode<D>, (BootError, D)>
-    requires sound { IsSound D.seen D.may_leave handler }
-    requires works { is_dead handler ≡ false }
-    ensures { IfOk result (IsSoundNode D.seen D.may_leave) }
-{
-    match begun(rt, alloc, &handler) {
-        Ok(processes) => Ok(RunningNode { handler, processes }),
-        Err(AllocError) => Err((BootError::NoMemory, handler.into_disk())),
-    }
-}
-
-// The processes of a node that has just booted.
-fn begun<H: Wait, D: Disk>(
-    rt: &H,
-    alloc: Global,
-    handler: &Handler<D>,
-) -> Result<Processes, AllocError>
-    requires sound { IsSound D.seen D.may_leave handler.now }
-    requires works { is_dead handler.now ≡ false }
-    ensures { IfOk result AreSound }
-{
-    let (table, mut seat) = ProcTable::new(alloc)?;
-    let Started { tree, loaded } = start_running(rt, alloc, handler, &table, &mut seat)?;
-    Ok(Processes {
-        table,
-        seat,
-        tree,
-        loaded,
-    })
 }

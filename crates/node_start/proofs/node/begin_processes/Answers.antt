@@ -1,5 +1,5 @@
 use Rattle.node_start.proofs.OneShotLemmas.{runs_once}
-use Rattle.stop_cases.proofs.running.begun.Goals as goal
+use Rattle.node_start.proofs.node.begin_processes.Goals as goal
 
 -- what a crash leaves from now on starts no one-shot
 pub start_running-requires-clause-once : goal.start_running-requires-clause-once

@@ -4,7 +4,7 @@ use Rattle.session_input.specs.Commands.{command_of, given_of}
 use Rattle.rel_session.specs.InMemory.{FollowsCommand}
 use Rattle.rel_session.proofs.DeviceLemmas.{IsDevice}
 use Rattle.rel_session.proofs.ReplyTexts.{gives, follows}
-use Rattle.rel_session.proofs.node.Node.follow.Goals as goal
+use Rattle.rel_session.proofs.node.SessionNode.follow.Goals as goal
 
 pub returns-in-File-clause-followed : goal.returns-in-File-clause-followed
 returns-in-File-clause-followed g c =
