@@ -145,7 +145,7 @@ fn follow_all<H: Threads + Wait + Sync>(
     for part in text.split(" || ") {
         let lines = lines_of(alloc, part, answer);
         disk = follow(rt, alloc, disk, files, room, lines.as_bytes(), answer);
-        disk.fault.left = 0;
+        disk.plan.left = 0;
         room = WIDE;
     }
 }

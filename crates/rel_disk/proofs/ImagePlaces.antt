@@ -45,13 +45,13 @@ module _ (first : List ℕ) where
   rest_content (cut_to len ∷ older) rest = absurd rest
   rest_content (synced ∷ older) rest = refl
 
-  rest_length : (calls : List Call) → IsAtRest calls → smallest_length first calls ≡ length (content first calls)
+  pub rest_length : (calls : List Call) → IsAtRest calls → smallest_length first calls ≡ length (content first calls)
   rest_length [] rest = refl
   rest_length (wrote at bytes ∷ older) rest = absurd rest
   rest_length (cut_to len ∷ older) rest = absurd rest
   rest_length (synced ∷ older) rest = refl
 
-  rest_unwritten : (calls : List Call) (i : ℕ) → IsAtRest calls → IsWritten calls i → ⊥
+  pub rest_unwritten : (calls : List Call) (i : ℕ) → IsAtRest calls → IsWritten calls i → ⊥
   rest_unwritten [] i rest written = written
   rest_unwritten (wrote at bytes ∷ older) i rest written = rest
   rest_unwritten (cut_to len ∷ older) i rest written = rest

@@ -1,6 +1,6 @@
 pub mod Calls
 pub mod Damage
-pub mod FailDisk
+pub mod FaultyDisk
 pub mod ImageLaws
 pub mod Images
 pub mod Kind
@@ -8,4 +8,6 @@ pub mod LogBytes
 pub mod LogState
 pub mod MemState
 pub mod Moments
+pub mod Picks
 pub mod Places
+pub mod Plans

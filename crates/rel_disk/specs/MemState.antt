@@ -1,6 +1,7 @@
 -- A disk in memory, as contracts see it.
 use Rattle.std.specs.Prelude.{◌≡◌, ℕ, ◌+◌, ◌-◌, ◌≤◌, ◌^◌, min, List, ◌∷◌, length}
 use Rattle.rel_disk.specs.Calls.{Call, content, cost}
+use Rattle.rel_disk.specs.Places.{smallest_length}
 
 -- the bytes that it began with, the calls that it has done, newest first, the most bytes that it holds, the bytes that its log has
 -- left, and its failures
@@ -24,8 +25,9 @@ after_call call disk = record disk { calls = call ∷ disk.calls; room = disk.ro
 abbrev pub after_fault : MemState → MemState
 after_fault disk = record disk { failures = min (2 ^ 64 - 1) (disk.failures + 1) }
 
--- the bytes are what the calls have left, and there is memory for as many as the disk holds
-pub record HoldsContent (bytes first : List ℕ) (calls : List Call) (capacity reserved : ℕ) : Type 0 where
+-- the bytes are what the calls have left, the smallest length is known, and there is memory for as many bytes as the disk holds
+pub record HoldsContent (bytes first : List ℕ) (calls : List Call) (smallest capacity reserved : ℕ) : Type 0 where
   pub is : bytes ≡ content first calls
+  pub shortest : smallest ≡ smallest_length first calls
   pub within : length bytes ≤ capacity
   pub taken : capacity ≤ reserved

@@ -1,14 +1,19 @@
-// The log of a disk in memory: it keeps each call, in bytes that are taken all at once.
-ghost use Rattle.std.specs.Prelude.{◌≡◌, ◌+◌, ◌^◌, ◌<◌, ◌≤◌, ◌++◌, [], length, vec_len, vec_capacity, IfOk, nat_le};
-ghost use Rattle.rel_disk.specs.Calls.{wrote, cut_to, synced};
+// The log of a disk in memory: it keeps what the disk began with and each call, in bytes that are taken all at once.
+ghost use Rattle.std.specs.Prelude.{◌≡◌, ◌+◌, ◌^◌, ◌<◌, ◌≤◌, ◌++◌, [], length, take, drop, vec_len, vec_capacity, IfOk, nat_le};
+ghost use Rattle.std.specs.Int.{w64, from_be_bytes};
+ghost use Rattle.rel_disk.specs.Calls.{wrote, cut_to, synced, content};
 ghost use Rattle.rel_disk.specs.Kind.{kind_code};
 ghost use Rattle.rel_disk.specs.LogBytes.{entry};
+ghost use Rattle.rel_disk.specs.Picks.{is_written};
 
 use std::alloc::{AllocError, Global};
 use std::marker::Model;
 
-/// What an entry costs beside the bytes that its call wrote or cut off. It takes 17 of them.
+/// What an entry costs beside the bytes that its call wrote or cut off.
 const ENTRY: usize = 32;
+
+/// How many of these it takes: a kind and two numbers.
+const HEAD: usize = 17;
 
 /// What a call did, as the first byte of its entry.
 #[derive(Clone, Copy)]
@@ -18,14 +23,18 @@ enum Kind {
     CutTo,
 }
 
-/// The calls of a disk in memory, in bytes whose room was taken with it.
+/// The calls of a disk in memory, after what it began with, in bytes whose room was taken with it.
 #[derive(Drop)]
 pub struct Log {
     bytes: Vec<u8>,
+    // how many of them the disk began with
+    start: usize,
+    // how many of them there were after the last sync
+    synced: usize,
     room: usize,
 }
 
-// Clauses see the calls, newest first, and how many bytes are left.
+// Clauses see what the disk began with, the calls, newest first, and how many bytes are left.
 impl Model for Log {
     ghost use Rattle.rel_disk.specs.LogState.{LogState};
 
@@ -33,24 +42,65 @@ impl Model for Log {
 
     ghost use Rattle.rel_disk.specs.LogBytes.{calls_of};
     ghost use Rattle.rel_disk.specs.LogState.{KeepsCalls};
-    ghost use Rattle.std.specs.Prelude.{vec_capacity};
+    ghost use Rattle.std.specs.Prelude.{take, drop, vec_capacity};
 
-    ghost view = { λ l. record { calls = calls_of l.bytes.items; room = l.room } };
+    ghost view = { λ l. record {
+      first = take l.start l.bytes.items;
+      calls = calls_of (drop l.start l.bytes.items);
+      room = l.room;
+    } };
 
-    ghost invariant = { λ l. KeepsCalls l.bytes.items l.room (vec_capacity l.bytes) };
+    ghost invariant = { λ l. KeepsCalls l.bytes.items l.start l.synced l.room
+        (vec_capacity l.bytes) };
 }
 
 impl Log {
     ghost use Rattle.rel_disk.specs.LogState.{with_call};
 
-    /// An empty log of this many bytes, all taken at once.
-    pub fn new(alloc: Global, size: usize) -> Result<Self, AllocError>
-        ensures { IfOk result (λ log. (log.calls ≡ []) × (log.room ≡ size)) }
+    /// The log of a disk that begins with these bytes, with room for so many beside them, all taken at once.
+    pub fn new(alloc: Global, first: &[u8], size: usize) -> Result<Self, AllocError>
+        ensures { IfOk result (λ log. log ≡ record { first = first.now; calls = []; room = size }) }
     {
+        let Some(all) = size.checked_add(first.len()) else {
+            return Err(AllocError);
+        };
+        let mut bytes = Vec::with_capacity(alloc, all)?;
+        append(&mut bytes, first);
         Ok(Log {
-            bytes: Vec::with_capacity(alloc, size)?,
+            bytes,
+            start: first.len(),
+            synced: first.len(),
             room: size,
         })
+    }
+
+    /// Begins anew, with these bytes and no call. What is left of the log stays.
+    pub fn restart(&mut self, first: &[u8])
+        requires { length first.now ≤ length (content self.old.first self.old.calls) }
+        ensures { self.new ≡ record { first = first.now; calls = []; room = self.old.room } }
+    {
+        self.bytes.clear();
+        append(&mut self.bytes, first);
+        self.start = first.len();
+        self.synced = first.len();
+    }
+
+    /// Whether a write since the last sync had this place in its range.
+    pub fn is_written(&self, place: u64) -> bool
+        ensures { result ≡ is_written place self.now.calls }
+    {
+        let entries = &self.bytes[self.synced..];
+        let mut from = 0;
+        while from < entries.len() {
+            let at = number_at(entries, from + 1);
+            let count = number_at(entries, from + 9);
+            // a cut and a sync write no bytes
+            if at <= place && place - at < count {
+                return true;
+            }
+            from += HEAD + count as usize;
+        }
+        false
     }
 
     /// Whether there is room for a call that wrote or cut off this many bytes.
@@ -84,6 +134,7 @@ impl Log {
         ensures { self.new ≡ with_call synced 32 self.old }
     {
         append_entry(&mut self.bytes, Kind::Synced, 0, &[]);
+        self.synced = self.bytes.len();
         self.room -= ENTRY;
     }
 }
@@ -100,6 +151,16 @@ fn append_entry(log: &mut Vec<u8>, kind: Kind, at: u64, bytes: &[u8])
     append(log, &at.to_be_bytes());
     append(log, &count.to_be_bytes());
     append(log, bytes);
+}
+
+// The number of eight bytes that stands there, greatest first.
+fn number_at(bytes: &[u8], at: usize) -> u64
+    requires { at + 8 ≤ length bytes.now }
+    ensures { result ≡ from_be_bytes w64 (take 8 (drop at bytes.now)) }
+{
+    let mut number = [0; 8];
+    number.copy_from_slice(&bytes[at..at + 8]);
+    u64::from_be_bytes(number)
 }
 
 /// Appends within the memory that was taken, so that it cannot fail.

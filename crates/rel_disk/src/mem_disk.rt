@@ -7,9 +7,10 @@ ghost use Rattle.rel_disk.specs.ImageLaws.{content_is_image, counts_now, only_no
 ghost use Rattle.rel_disk.specs.Images.{Image, ImageSince};
 ghost use Rattle.rel_disk.specs.MemState.{HasRoomFor, after_call, after_fault};
 ghost use Rattle.rel_disk.specs.Moments.{HasFailed};
+ghost use Rattle.rel_disk.specs.Picks.{IsFilled, IsLeft};
 
 use crate::log::{Log, append};
-use crate::{DeviceFault, Disk};
+use crate::{DeviceFault, Disk, Pick};
 use std::alloc::{AllocError, Global};
 use std::marker::Model;
 
@@ -19,10 +20,11 @@ use std::marker::Model;
 /// and a sync take 32 bytes of the log, and as many more as they write or cut off.
 #[derive(Drop)]
 pub struct MemDisk {
-    // what it began with
-    first: Vec<u8>,
     bytes: Vec<u8>,
+    // what it began with, and each call
     log: Log,
+    // the smallest length since the last sync
+    smallest: usize,
     capacity: usize,
     failures: u64,
 }
@@ -37,15 +39,15 @@ impl Model for MemDisk {
     ghost use Rattle.std.specs.Prelude.{vec_capacity};
 
     ghost view = { λ d. record {
-      first = d.first.items;
+      first = d.log.first;
       calls = d.log.calls;
       capacity = d.capacity;
       room = d.log.room;
       failures = d.failures;
     } };
 
-    ghost invariant = { λ d. HoldsContent d.bytes.items d.first.items d.log.calls
-        d.capacity (vec_capacity d.bytes) };
+    ghost invariant = { λ d. HoldsContent d.bytes.items d.log.first d.log.calls
+        d.smallest d.capacity (vec_capacity d.bytes) };
 }
 
 impl MemDisk {
@@ -82,12 +84,37 @@ impl MemDisk {
         let mut content = Vec::with_capacity(alloc, capacity)?;
         append(&mut content, bytes);
         Ok(MemDisk {
-            first: Vec::from_slice(alloc, bytes)?,
             bytes: content,
-            log: Log::new(alloc, log)?,
+            log: Log::new(alloc, bytes, log)?,
+            smallest: bytes.len(),
             capacity,
             failures: 0,
         })
+    }
+
+    /// A disk that begins with what a crash now leaves, by this pick. It has done no call and counts no failure, and holds as many
+    /// bytes. Its log has the room that was left.
+    pub fn image(self, pick: Pick) -> MemDisk
+        ensures may_leave { Image self.first self.calls (content result.first result.calls) }
+        ensures left { IsLeft pick self.first self.calls result.first }
+        ensures fresh { result ≡ record {
+          first = result.first;
+          calls = [];
+          capacity = self.capacity;
+          room = self.room;
+          failures = 0;
+        } }
+    {
+        let mut disk = self;
+        match pick {
+            Pick::Kept => {}
+            Pick::Filled(byte) => fill(&disk.log, &mut disk.bytes, byte),
+            Pick::Short => disk.bytes.truncate(disk.smallest),
+        }
+        disk.log.restart(&disk.bytes);
+        disk.smallest = disk.bytes.len();
+        disk.failures = 0;
+        disk
     }
 
     // Refuses a call for which there is no room.
@@ -160,6 +187,7 @@ impl Disk for MemDisk {
         }
         self.log.keep_write(at, bytes);
         overwrite(&mut self.bytes, from, bytes);
+        self.smallest = self.bytes.len().min(self.smallest);
         Ok(())
     }
 
@@ -183,6 +211,7 @@ impl Disk for MemDisk {
         }
         self.log.keep_cut(len, lost);
         self.bytes.truncate(len as usize);
+        self.smallest = self.bytes.len().min(self.smallest);
         Ok(())
     }
 
@@ -201,6 +230,7 @@ impl Disk for MemDisk {
             return self.fail();
         }
         self.log.keep_sync();
+        self.smallest = self.bytes.len();
         Ok(())
     }
 
@@ -226,4 +256,15 @@ fn overwrite_part(old: &mut [u8], at: usize, bytes: &[u8])
     ensures { old.new ≡ overwritten at bytes.now old.old }
 {
     old[at..at + bytes.len()].copy_from_slice(bytes);
+}
+
+// Puts the byte wherever something was written since the last sync.
+fn fill(log: &Log, bytes: &mut [u8], byte: u8)
+    ensures { IsFilled byte log.now.calls bytes.old bytes.new }
+{
+    for at in 0..bytes.len() {
+        if log.is_written(at as u64) {
+            bytes[at] = byte;
+        }
+    }
 }

@@ -151,5 +151,5 @@ fn written_by<H: Threads + Wait + Sync>(
 ) -> Result<(String, u64), AllocError> {
     let disk = FailDisk::new(MemDisk::new(alloc, CAPACITY, LOG)?, u64::MAX);
     let (disk, written) = run(rt, alloc, disk, lines.as_str())?;
-    Ok((written, u64::MAX - disk.fault.left))
+    Ok((written, u64::MAX - disk.plan.left))
 }

@@ -2,19 +2,18 @@
 use crate::expected::Expected;
 use crate::lines::{push_call, push_lines};
 use crate::runs::{BOOT, CAPACITY, LOG, Session, run};
-use rel_disk::MemDisk;
+use rel_disk::{MemDisk, Pick, StopDisk};
 use std::alloc::{AllocError, Global};
 use std::sync::Wait;
 use std::thread::Threads;
-use stop_disk::{Crash, MarkedDisk, StopDisk};
 use text_cases::Answer;
 
-const CRASHES: [Crash; 5] = [
-    Crash::Kept,
-    Crash::Filled(0),
-    Crash::Filled(1),
-    Crash::Filled(7),
-    Crash::Short,
+const PICKS: [Pick; 5] = [
+    Pick::Kept,
+    Pick::Filled(0),
+    Pick::Filled(1),
+    Pick::Filled(7),
+    Pick::Short,
 ];
 
 /// Appends for how many stops it is so, up to the first for which it isn't, that the command of the stopped call is the first that isn't
@@ -45,7 +44,8 @@ pub(crate) fn push_stops<H: Threads + Wait + Sync>(
     Ok(())
 }
 
-// What a boot of an image reports that a crash may leave after a stop in this call, where that isn't explained.
+// What a boot of an image reports that a crash may leave after a stop in this call, where that isn't explained. An image takes its
+// disk, so there is a session for each.
 fn unexplained<H: Threads + Wait + Sync>(
     rt: &H,
     alloc: Global,
@@ -53,31 +53,18 @@ fn unexplained<H: Threads + Wait + Sync>(
     expected: &Expected,
     call: u64,
 ) -> Result<Option<String>, AllocError> {
-    let disk = StopDisk::new(MarkedDisk::new(alloc, CAPACITY, LOG)?, call);
     let lines = session.lines(alloc, session.commands.len())?;
-    let (mut stopped, text) = run(rt, alloc, disk, lines.as_str())?;
-    let answered = expected.answered(text.as_str());
-    if !stopped.stop.stopped || answered != expected.command_of(call) {
-        return Ok(Some(text));
-    }
-    for crash in CRASHES {
-        let image = stopped.disk.image(alloc, crash)?;
-        let boot = boot_of(rt, alloc, &image)?;
+    for pick in PICKS {
+        let disk = StopDisk::new(MemDisk::new(alloc, CAPACITY, LOG)?, call);
+        let (disk, text) = run(rt, alloc, disk, lines.as_str())?;
+        let answered = expected.answered(text.as_str());
+        if !disk.plan.stopped || answered != expected.command_of(call) {
+            return Ok(Some(text));
+        }
+        let (_, boot) = run(rt, alloc, disk.image(pick), BOOT)?;
         if !expected.explains(answered, boot.as_str()) {
             return Ok(Some(boot));
         }
     }
     Ok(None)
-}
-
-// What a boot of these bytes reports.
-fn boot_of<H: Threads + Wait + Sync>(
-    rt: &H,
-    alloc: Global,
-    image: &[u8],
-) -> Result<String, AllocError> {
-    let bytes = &image[..image.len().min(CAPACITY)];
-    let disk = MemDisk::with_bytes(alloc, bytes, CAPACITY, LOG)?;
-    let (_, boot) = run(rt, alloc, disk, BOOT)?;
-    Ok(boot)
 }

@@ -1,2 +1,0 @@
-pub mod Crashes
-pub mod Stops
