@@ -1,8 +1,8 @@
 -- The record of an event makes of a list what the event makes of it, each as records report it.
-use Rattle.std.proofs.Common.{◌≡◌, ℕ, ◌<◌, Bool, true, false, cond, List, [], ◌∷◌, ◌++◌, length, map, filter, Option, Some, None, is_some, suc, inl, inr, refl, sym, ap, subst, ◌∙◌, find, true≢false, arith, if◌then◌else◌}
+use Rattle.std.proofs.Common.{◌≡◌, ◌⊎◌, ℕ, ◌<◌, Bool, true, false, cond, List, [], ◌∷◌, ◌++◌, length, map, filter, Option, Some, None, is_some, suc, inl, inr, refl, sym, ap, subst, ◌∙◌, find, true≢false, arith, if◌then◌else◌}
 use Rattle.std.specs.Prelude.{◌&&◌, ◌||◌, not, nat_lt, ◌==◌}
 use Rattle.std.specs.List.{AllByRecursion}
-use Rattle.std.specs.Option.{option_map, option_and_then}
+use Rattle.std.specs.Option.{option_map, option_and_then, option_or}
 use Rattle.std.specs.Str.{bytes_eq}
 use Rattle.std.proofs.lemmas.Bool.{cases_Bool, eqb-true}
 use Rattle.std.proofs.lemmas.Bool.Decides.{nat_tests}
@@ -22,20 +22,22 @@ use Rattle.rel_list.proofs.BootLaws.{first_is_none, no_one_shot-booted}
 use Rattle.rel_list.proofs.OneShotLaws.{none-installed, none_recorded, one_shot-recorded}
 use Rattle.rel_list.proofs.OwnRules.{never_made_again, own_of_step, step_of_own}
 use Rattle.rel_list.proofs.Orderly.{status_or, same_version, is_itself, differs_back, first_differs, none_behind, listed-with_statuses, unlisted-with_statuses, just_as_many}
+use Rattle.rel_records.specs.Given.{NamesEachOnce, are_in_order, leads, others, said, status_given}
 use Rattle.rel_records.specs.Limits.{has_one_permanent, is_small, most_releases}
 use Rattle.rel_records.specs.Record.{Assignment, Record, makes, adds, assigns, removes, images}
 use Rattle.rel_records.specs.Lists.{may_be_assigned, assign_all, completed, if_faultless, brought_by, taken_by, with_one_permanent, assigned, HaveLibraries}
-use Rattle.status_changes.specs.Statuses.{is_same}
+use Rattle.status_changes.specs.Laws.{IsOfNode, IsSilent, KeepsReleases}
+use Rattle.status_changes.specs.Statuses.{follow, is_same, said_in, said_of, statuses_of, with_said}
 use Rattle.rel_records.specs.Writing.{is_changed, assignment_of, changes, new_libraries, record_of, IsComplete, IsWithinLimits, IsOfListed, Reports}
-use Rattle.rel_records.specs.Laws.{IsOfEvent, IsOfOneRelease, RecordsAreOfEvents, RecordsDetermineEvents, StatusesAreOfEvents}
+use Rattle.rel_records.specs.Laws.{IsOfEvent, IsOfOneRelease, IsOfStatuses, RecordsAreOfEvents, RecordsDetermineEvents, StatusesAreOfEvents}
 use Rattle.rel_records.specs.Reading.{Says}
 use Rattle.library.proofs.TermCases.{are_libraries}
 use Rattle.rel_list.proofs.RestLaws.{not_temporary}
 use Rattle.rel_records.proofs.CompletionLemmas.{all_new, are_completed, brought_complete, completed_first, completed_new, first_different-recorded}
 use Rattle.status_changes.proofs.StatusLemmas.{same_so}
 use Rattle.status_changes.proofs.StatusesBehindEvents.{FollowBy, behind_boot, behind_installation, behind_promotion, behind_reboot, behind_restart}
-use Rattle.status_changes.proofs.EventsOfStatuses.{one_event_makes_them}
-use Rattle.rel_records.proofs.StatusRecords.{bundles-assign_all, set_so, set_where}
+use Rattle.status_changes.proofs.EventsOfStatuses.{one_event_says_them}
+use Rattle.rel_records.proofs.StatusRecords.{assigned_as_said, or_none, other_said, others_none, set_so, set_where, silent_empty, unmentioned}
 use Rattle.rel_records.proofs.RecordPlaces.{assigned_so, event_of_record, kept, recorded-push, recorded-without, pushed_last}
 
 pub one-recorded : (es : Releases) → has_one_permanent (recorded es) ≡ has_one_permanent es
@@ -200,9 +202,136 @@ module _ (e : Event) where
           unchanged true e = refl
           unchanged false e = absurd cc
 
+  -- the event says nothing of a release that it doesn't change
+  unchanged_so : (x : Entry) → said_of e x ≡ None → is_changed e x ≡ false
+  unchanged_so x none = go (is_same (after x) x.status) none
+    where
+      go : (b : Bool) → (if b then None else Some (recorded_status (after x))) ≡ None → not b ≡ false
+      go true none = refl
+      go false none = absurd cc
+
+  changed_so : (x : Entry) (t : Status) → said_of e x ≡ Some t → (is_changed e x ≡ true) × (recorded_status (after x) ≡ t)
+  changed_so x t says = go (is_same (after x) x.status) says
+    where
+      go : (b : Bool) → (if b then None else Some (recorded_status (after x))) ≡ Some t → (not b ≡ true) × (recorded_status (after x) ≡ t)
+      go true says = absurd cc
+      go false says = (refl, cc says)
+
+  said_unchanged : (x : Entry) → is_changed e x ≡ false → said_of e x ≡ None
+  said_unchanged x is = go (is_same (after x) x.status) is
+    where
+      go : (b : Bool) → not b ≡ false → (if b then None else Some (recorded_status (after x))) ≡ None
+      go true is = refl
+      go false is = absurd cc
+
+  said_changed : (x : Entry) → is_changed e x ≡ true → said_of e x ≡ Some (recorded_status (after x))
+  said_changed x is = go (is_same (after x) x.status) is
+    where
+      go : (b : Bool) → not b ≡ true → (if b then None else Some (recorded_status (after x))) ≡ Some (recorded_status (after x))
+      go true is = absurd cc
+      go false is = refl
+
+  -- its record gives nothing to a version that isn't listed
+  never_given : (v : List ℕ) (given : List Assignment) → AreOfOthers v given → status_given v given ≡ None
+  never_given v [] others = refl
+  never_given v (a ∷ given) others =
+      ap (λ b. option_or (status_given v given) (if b then Some a.status else None)) others.0 ∙ or_none (status_given v given) ∙ never_given v given others.1
+
+  never_leads : (v : List ℕ) (given : List Assignment) → AreOfOthers v given → leads v given ≡ false
+  never_leads v [] others = refl
+  never_leads v (a ∷ given) others = others.0
+
+  -- It names releases in the order of the list,
+  in_order_written : (es : Releases) → HasDistinctVersions es → are_in_order (recorded es) (changes e es) ≡ true
+  in_order_written [] distinct = refl
+  in_order_written (x ∷ es) distinct = go (is_changed e x) (in_order_written es distinct.1)
+    where
+      apart : AreOfOthers x.release.vsn (changes e es)
+      apart = changes_others x.release.vsn es distinct.0
+
+      go : (b : Bool) → are_in_order (recorded es) (changes e es) ≡ true
+          → are_in_order (recorded (x ∷ es)) (map (assignment_of e) (cond b (x ∷ filter (is_changed e) es) (filter (is_changed e) es))) ≡ true
+      go true rest =
+          ap (λ b. are_in_order (recorded es) (if b then cond (not b) (assignment_of e x ∷ others x.release.vsn (changes e es)) (others x.release.vsn (changes e es)) else assignment_of e x ∷ changes e es)) (is_itself x.release.vsn)
+          ∙ ap (are_in_order (recorded es)) (others_none x.release.vsn (changes e es) (never_given x.release.vsn (changes e es) apart))
+          ∙ rest
+      go false rest =
+          ap (λ b. are_in_order (recorded es) (if b then others x.release.vsn (changes e es) else changes e es)) (never_leads x.release.vsn (changes e es) apart) ∙ rest
+
+  -- and says of each what the event does.
+  said_written : (es : Releases) → HasDistinctVersions es → said (changes e es) (recorded es) ≡ said_in e es
+  said_written [] distinct = refl
+  said_written (x ∷ es) distinct = go (is_changed e x) refl (said_written es distinct.1)
+    where
+      none : status_given x.release.vsn (changes e es) ≡ None
+      none = never_given x.release.vsn (changes e es) (changes_others x.release.vsn es distinct.0)
+
+      first : is_changed e x ≡ true → status_given x.release.vsn (assignment_of e x ∷ changes e es) ≡ said_of e x
+      first is =
+          ap (λ b. option_or (status_given x.release.vsn (changes e es)) (if b then Some (recorded_status (after x)) else None)) (is_itself x.release.vsn)
+          ∙ ap (λ o. option_or o (Some (recorded_status (after x)))) none
+          ∙ sym (said_changed x is)
+
+      go : (b : Bool) → is_changed e x ≡ b → said (changes e es) (recorded es) ≡ said_in e es
+          → said (map (assignment_of e) (cond b (x ∷ filter (is_changed e) es) (filter (is_changed e) es))) (recorded (x ∷ es)) ≡ said_in e (x ∷ es)
+      go true is rest =
+          let tail = other_said (assignment_of e x) (changes e es) (recorded es) (unlisted-with_statuses (λ vsn s. recorded_status s) x.release.vsn es distinct.0) ∙ rest in
+          λ k. first is k ∷ tail k
+      go false is rest = λ k. (none ∙ sym (said_unchanged x is)) k ∷ rest k
+
+  -- A record that names no release twice, and says so of a list in its order, is that of the event.
+  own_so : (es : Releases) (given : List Assignment) → HasDistinctVersions es → NamesEachOnce given → are_in_order (recorded es) given ≡ true → said_in e es ≡ said given (recorded es) → changes e es ≡ given
+  own_so [] [] distinct once order says = refl
+  own_so [] (a ∷ given) distinct once order says = absurd (true≢false (sym order))
+  own_so (x ∷ es) given distinct once order says = go given once order first rest (λ left. own_so es left distinct.1)
+    where
+      -- so it is of the releases after this one
+      Others : List Assignment → Type 0
+      Others left = NamesEachOnce left → are_in_order (recorded es) left ≡ true → said_in e es ≡ said left (recorded es) → changes e es ≡ left
+
+      first : said_of e x ≡ status_given x.release.vsn given
+      first = cc says
+
+      rest : said_in e es ≡ said given (recorded es)
+      rest = cc says
+
+      unlisted : status_of x.release.vsn (recorded es) ≡ None
+      unlisted = unlisted-with_statuses (λ vsn s. recorded_status s) x.release.vsn es distinct.0
+
+      -- this one isn't named
+      unnamed : (given : List Assignment) → NamesEachOnce given → are_in_order (recorded es) given ≡ true → said_of e x ≡ status_given x.release.vsn given → said_in e es ≡ said given (recorded es) → Others given → changes e (x ∷ es) ≡ given
+      unnamed given once order first rest others_so =
+          ap (λ b. map (assignment_of e) (cond b (x ∷ filter (is_changed e) es) (filter (is_changed e) es))) (unchanged_so x (first ∙ unmentioned x.release.vsn (recorded es) given unlisted order))
+          ∙ others_so once order rest
+
+      -- it is named first, and once
+      named : (a : Assignment) (given : List Assignment) → bytes_eq a.vsn x.release.vsn ≡ true → NamesEachOnce (a ∷ given) → are_in_order (recorded es) (others x.release.vsn (a ∷ given)) ≡ true
+          → said_of e x ≡ status_given x.release.vsn (a ∷ given) → said_in e es ≡ said (a ∷ given) (recorded es) → Others given → changes e (x ∷ es) ≡ a ∷ given
+      named a given is once order first rest others_so =
+          let same = same_version a.vsn x.release.vsn is in
+          let none : status_given x.release.vsn given ≡ None = ap (λ v. status_given v given) (sym same) ∙ once.0 in
+          let says : said_of e x ≡ Some a.status =
+          first ∙ ap (λ b. option_or (status_given x.release.vsn given) (if b then Some a.status else None)) is ∙ ap (λ o. option_or o (Some a.status)) none in
+          let (changed, status) = changed_so x a.status says in
+          let left : others x.release.vsn (a ∷ given) ≡ given =
+          ap (λ b. cond (not b) (a ∷ others x.release.vsn given) (others x.release.vsn given)) is ∙ others_none x.release.vsn given none in
+          let elsewhere : status_of a.vsn (recorded es) ≡ None = ap (λ v. status_of v (recorded es)) same ∙ unlisted in
+          let tail = others_so once.1 (ap (are_in_order (recorded es)) (sym left) ∙ order) (rest ∙ other_said a given (recorded es) elsewhere) in
+          ap (λ b. map (assignment_of e) (cond b (x ∷ filter (is_changed e) es) (filter (is_changed e) es))) changed
+          ∙ (λ k. record { vsn = sym same k; status = status k } ∷ tail k)
+
+      go : (given : List Assignment) → NamesEachOnce given → are_in_order (recorded (x ∷ es)) given ≡ true → said_of e x ≡ status_given x.release.vsn given → said_in e es ≡ said given (recorded es)
+          → ((left : List Assignment) → Others left) → changes e (x ∷ es) ≡ given
+      go [] once order first rest others_so = unnamed [] once order first rest (others_so [])
+      go (a ∷ given) once order first rest others_so = by (bytes_eq a.vsn x.release.vsn) refl order
+        where
+          by : (b : Bool) → bytes_eq a.vsn x.release.vsn ≡ b → are_in_order (recorded es) (if b then others x.release.vsn (a ∷ given) else a ∷ given) ≡ true → changes e (x ∷ es) ≡ a ∷ given
+          by true is order = named a given is once order first rest (others_so given)
+          by false is order = unnamed (a ∷ given) once order first rest (others_so (a ∷ given))
+
   assigned_behind : (es : Releases) → HasDistinctVersions es → AreApart es → FollowBy e es → has_one_permanent (behind es) ≡ true → assigned (assigns (changes e es)) (recorded es) ≡ Some (recorded (behind es))
   assigned_behind es distinct apart does one =
-      ap with_one_permanent (set_where (changes e es) (recorded es) (recorded (behind es)) (changes_so es distinct apart) does) ∙ kept (recorded (behind es)) (one-recorded (behind es) ∙ one)
+      ap with_one_permanent (set_where (changes e es) (recorded es) (recorded (behind es)) (changes_so es distinct apart) (ap (follow (statuses_of (recorded es))) (said_written es distinct) ∙ does) (in_order_written es distinct)) ∙ kept (recorded (behind es)) (one-recorded (behind es) ∙ one)
 
   -- Where no release that changes becomes a one-shot, they are apart.
   module _ (never : (x : Entry) → is_changed e x ≡ true → is_one_shot (after x) ≡ false) where
@@ -353,7 +482,7 @@ change_reports (removed v) es next listed orderly is one = ap with_one_permanent
 change_reports boot es next listed orderly is one =
     let same : booted es ≡ next = cc is in
     subst (λ l. assigned (assigns (changes boot es)) (recorded es) ≡ Some (recorded l)) same
-    (assigned_behind boot es orderly.distinct (none_becomes_one boot (λ x changed. no_one_shot-booted x.status) es) (behind_boot es) (ap has_one_permanent same ∙ one))
+    (assigned_behind boot es orderly.distinct (none_becomes_one boot (λ x changed. no_one_shot-booted x.status) es) (behind_boot es orderly) (ap has_one_permanent same ∙ one))
 change_reports (installed v) es next listed orderly is one =
     let own = own_of_step (installed v) es next is in
     let (may, there) = passed (may_be_installed (has_current es) (status_of v es)) (Some (list_installed v es)) next own.1 in
@@ -448,9 +577,35 @@ of_event v (images xs ls) es next have says one taken = absurd one
 pub are_of_events : RecordsAreOfEvents
 are_of_events body r es next have spelled one taken = of_event spelled.term r es next have spelled.says one (assigned_so r es next taken).0
 
--- What a record of statuses does to a list one event does to a node.
+-- the record of an event that brings no release, and takes none out
+record_kept : (e : Event) (es : Releases) → KeepsReleases e → record_of e es ≡ assigns (changes e es)
+record_kept (made p) es keeps = absurd keeps
+record_kept (unpacked p) es keeps = absurd keeps
+record_kept (removed v) es keeps = absurd keeps
+record_kept (installed v) es keeps = refl
+record_kept (restart_installed v) es keeps = refl
+record_kept (made_permanent v) es keeps = refl
+record_kept (reboot_old v) es keeps = refl
+record_kept boot es keeps = refl
+
+-- What a record of statuses says of a list one event says of a node.
 pub statuses_are_of_events : StatusesAreOfEvents
 statuses_are_of_events given es next so taken =
     let (set, one) = assigned_so (assigns given) es next taken in
-    let (assigned, does) = set_so given es next set in
-    one_event_makes_them es next so (bundles-assign_all given es next assigned) (eqb-true (length (of_status is_permanent next)) 1 one) does
+    let (assigned, does, order) = set_so given es next set in
+    let same = assigned_as_said given es next assigned in
+    by assigned order same (one_event_says_them es (λ v. status_given v given) so (ap (λ l. length (of_status is_permanent l)) same ∙ eqb-true (length (of_status is_permanent next)) 1 one) does)
+  where
+    by : assign_all given es ≡ Some next → are_in_order es given ≡ true → with_said (λ v. status_given v given) es ≡ next
+        → IsSilent (λ v. status_given v given) es ⊎ IsOfNode es (with_said (λ v. status_given v given) es) (said given es) → ((given ≡ []) × (next ≡ es)) ⊎ IsOfStatuses es next given
+    by assigned order same (inl silent) =
+        let none = silent_empty es given order silent in
+        let kept : Some es ≡ Some next = ap (λ l. assign_all l es) (sym none) ∙ assigned in
+        inl (none, cc kept)
+    by assigned order same (inr of) =
+        inr (subst (λ l. IsOfStatuses es l given) same (record {
+          of = of;
+          own = λ once.
+              record_kept of.event of.node of.keeps
+              ∙ ap assigns (own_so of.event of.node given of.orderly.distinct once (ap (λ l. are_in_order l given) of.reported ∙ order) (of.says ∙ ap (said given) (sym of.reported)));
+        }))

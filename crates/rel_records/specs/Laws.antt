@@ -1,10 +1,11 @@
 -- Laws of records and lists, whatever reads and writes them.
-use Rattle.std.specs.Prelude.{◌≡◌, ◌⊎◌, ℕ, true, false, List, Some}
+use Rattle.std.specs.Prelude.{◌≡◌, ◌⊎◌, ℕ, true, false, List, [], Some}
 use Rattle.rel_list.specs.Keyed.{IsOrderly}
 use Rattle.rel_list.specs.Releases.{Releases, has_one_shot}
 use Rattle.rel_list.specs.Event.{Event, step, recorded}
 use Rattle.rel_list.specs.Laws.{IsRecorded, makes_one_shot}
 use Rattle.rel_records.specs.Format.{writes_one_shot}
+use Rattle.rel_records.specs.Given.{NamesEachOnce, said}
 use Rattle.rel_records.specs.Image.{image_record}
 use Rattle.rel_records.specs.Limits.{has_one_permanent}
 use Rattle.rel_records.specs.Lists.{assigned, Makes, IsBadRecord, HaveVersions, HaveLibraries}
@@ -68,10 +69,15 @@ abbrev pub RecordsAreOfEvents : Type 0
 RecordsAreOfEvents =
     (body : List ℕ) (r : Record) (es next : Releases) → HaveLibraries es → Spells body r → IsOfOneRelease r → assigned r es ≡ Some next → IsOfEvent es next r
 
--- A record of statuses may stand after a list only where it leaves the list as it is, or does what one event does to a node.
+-- A record of statuses that may stand after a list is empty, or one event says of the releases of a node what it says of those
+-- of the list. If it names no release twice, it is the record of that event.
+pub record IsOfStatuses (es next : Releases) (given : List Assignment) : Type 0 where
+  pub of : IsOfNode es next (said given es)
+  pub own : NamesEachOnce given → record_of of.event of.node ≡ assigns given
+
 abbrev pub StatusesAreOfEvents : Type 0
 StatusesAreOfEvents =
-    (given : List Assignment) (es next : Releases) → IsRecorded es → assigned (assigns given) es ≡ Some next → (next ≡ es) ⊎ IsOfNode es next
+    (given : List Assignment) (es next : Releases) → IsRecorded es → assigned (assigns given) es ≡ Some next → ((given ≡ []) × (next ≡ es)) ⊎ IsOfStatuses es next given
 
 -- The releases of the list that bodies make have the versions of files.
 abbrev pub MakeVersions : Type 0

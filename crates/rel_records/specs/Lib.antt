@@ -3,6 +3,7 @@ pub mod ReleaseTerm
 pub mod Record
 pub mod Reading
 pub mod Format
+pub mod Given
 pub mod Lists
 pub mod Writing
 pub mod Depth

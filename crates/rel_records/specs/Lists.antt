@@ -14,6 +14,7 @@ use Rattle.rel_list.specs.Change.{may_be_given}
 use Rattle.rel_list.specs.Event.{step, list_assigned}
 use Rattle.rel_list.specs.Event.Event.{made, unpacked, removed}
 use Rattle.rel_records.specs.Format.{allows}
+use Rattle.rel_records.specs.Given.{are_in_order, said}
 use Rattle.rel_records.specs.Limits.{most_releases, is_small, has_one_permanent}
 use Rattle.rel_records.specs.Record.{Assignment, Imaged, Record, makes, adds, assigns, removes, images}
 use Rattle.rel_records.specs.Reading.{Spells}
@@ -28,13 +29,9 @@ abbrev pub assign_all : List Assignment → Releases → Option Releases
 assign_all [] es = Some es
 assign_all (a ∷ given) es = if may_be_assigned a es then assign_all given (list_assigned a.vsn a.status es) else None
 
--- the list after statuses, where they follow
-abbrev pub where_they_follow : Releases → Releases → Option Releases
-where_they_follow es next = if follow (statuses_of es) (statuses_of next) then Some next else None
-
--- what a record of statuses makes of a list, where they follow by one event
+-- What a record of statuses makes of a list, where it says in the order of the list what one event says.
 abbrev pub set_by : List Assignment → Releases → Option Releases
-set_by given es = option_and_then (where_they_follow es) (assign_all given es)
+set_by given es = if are_in_order es given && follow (statuses_of es) (said given es) then assign_all given es else None
 
 -- The library of an application, and those that are left of the new ones: the list's own, or else the first of these, if it is
 -- that of the application.

@@ -32,8 +32,8 @@ pub fn records_determine_events()
 {}
 
 /// A record of a release that comes in or leaves may stand after a list, whose libraries are of files, only where it is that of an
-/// event. One of statuses may stand after a list that records report so only where it changes nothing, or does what one event does
-/// to a node with such a list.
+/// event. One of statuses may stand after a list that records report so only where it is empty, or says of each release what one
+/// event says of a node with such a list. If it names no release twice, it is the record of that event.
 pub fn records_are_of_events()
     ensures releases { RecordsAreOfEvents }
     ensures statuses { StatusesAreOfEvents }

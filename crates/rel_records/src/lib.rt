@@ -10,8 +10,8 @@
 //! specs/Image), is said here; `record_writer` prints them.
 //! The laws: bodies make one list or one of them is bad, and never both. The record of an event makes of a list what the event
 //! makes of it, each as records report it, where the event keeps the limits of a node (`records_determine_events`): so records say
-//! nothing of what is current. And a record of a release that comes in or leaves stands only where it is that of an event, one of
-//! statuses only where one event does the same, or nothing is done (`records_are_of_events`).
+//! nothing of what is current. And a record of a release that comes in or leaves stands only where it is that of an event; so does
+//! one of statuses, unless it is empty or names a release twice (`records_are_of_events`).
 //! Only tested: that memory is there. Trusted: the toolchain and `thiserror`.
 #![tactic(auto)]
 

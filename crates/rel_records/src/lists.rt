@@ -41,7 +41,7 @@ fn change(alloc: Global, list: &mut ReleaseList, said: Record) -> Result<(), Rec
     match said {
         Record::Made(new) => make_new(alloc, list, new),
         Record::Unpacked(new) => unpack_new(alloc, list, new),
-        Record::Statuses(assignments) => set_statuses(alloc, list, assignments.as_slice()),
+        Record::Statuses(assignments) => set_statuses(alloc, list, assignments),
         Record::Removed(vsn) => Ok(list.accept(alloc, Event::Removed(vsn))?),
         Record::Image(image) => restore_on(alloc, list, image),
     }

@@ -401,7 +401,7 @@ module _ {D : Type 0} (v : Device D) (laws : IsDevice v) where
     Stops p a = Transition.StopsWithin p boots_node a
 
     without_its_processes : (h : NodeStore D) → IsBootedFrom v disk h → new ≡ disk_in h → (l : Result (String Global) AllocError) → IsErr l → ReportsOrStops v Transition.Boots Stops l old (memory.Idle new)
-    without_its_processes h b same (Ok text) never_so = absurd never_so
+    without_its_processes h b same (Ok text) lapsed = absurd cc
     without_its_processes h b same (Err e) lapsed =
         boots old disk taken h b.works b.image b.acknowledged (b.sound.started b.works) b.list
         (subst (λ d. LeavesOnly v disk d (λ c. v.may_leave disk c ⊎ IsLeftByBoot (v.seen disk) c)) same leaves) (λ s here. subst (KeepsStore v s disk) same (stored_all s here))

@@ -1,42 +1,43 @@
--- The statuses that an event makes follow, as records report them.
-use Rattle.std.proofs.Common.{◌≡◌, ℕ, ◌≤◌, Bool, true, false, cond, List, [], ◌∷◌, length, filter, find, Option, Some, None, refl, sym, ap, subst, ◌∙◌, arith, true≢false}
+-- What an event says of releases follows the statuses before it, as records report them.
+use Rattle.std.proofs.Common.{◌≡◌, ℕ, ◌≤◌, Bool, true, false, cond, List, [], ◌∷◌, length, filter, find, map, Option, Some, None, refl, sym, ap, subst, inl, inr, ◌∙◌, arith, true≢false}
 use Rattle.std.specs.Prelude.{◌&&◌, ◌||◌, nat_le}
 use Rattle.std.specs.List.{AllByRecursion, zip}
 use Rattle.std.specs.Str.{bytes_eq}
-use Rattle.std.proofs.lemmas.Bool.{le-leb}
+use Rattle.std.proofs.lemmas.Bool.{cases_Bool, le-leb}
 use Rattle.std.proofs.lemmas.List.Sums.{length-filter}
 use Rattle.rel_files.proofs.Options.{both_true, passed}
 use Rattle.rel_list.specs.declared.status.Status.{Status}
 use Rattle.rel_list.specs.declared.status.Status.TheVariants.{Unpacked, Current, Old, Permanent, OneShot}
-use Rattle.rel_list.specs.Event.{Event, booted, booted_status, installed_status, list_installed, list_made_permanent, list_restarted, may_be_installed, may_be_made_permanent, may_be_rebooted, permanent_status, recorded, recorded_status, replaced_status, restarted_status, status_behind, step, with_statuses}
+use Rattle.rel_list.specs.Event.{Event, booted_status, installed_status, list_made_permanent, may_be_made_permanent, may_be_rebooted, permanent_status, recorded, recorded_status, replaced_status, restarted_status, status_behind}
 use Rattle.rel_list.specs.Event.Event.{boot, installed, made, made_permanent, reboot_old, removed, restart_installed, unpacked}
 use Rattle.rel_list.specs.Keyed.{IsOrderly}
-use Rattle.rel_list.specs.Releases.{Entry, HasDistinctVersions, Releases, has_current, has_one_shot, of_status, status_of}
-use Rattle.rel_list.specs.Status.{is_one_shot, is_permanent, is_temporary}
+use Rattle.rel_list.specs.Releases.{Entry, HasDistinctVersions, Releases, has_one_shot, of_status, status_of}
+use Rattle.rel_list.specs.Status.{is_current, is_one_shot, is_permanent, is_temporary}
 use Rattle.rel_list.proofs.BootLaws.{first_is_none}
-use Rattle.rel_list.proofs.Orderly.{at_most_once, first_differs, none_behind, of_version, same_version, status_or}
+use Rattle.rel_list.proofs.Orderly.{at_most_once, first_differs, none_behind, same_version, status_or}
 use Rattle.rel_list.proofs.OwnRules.{own_of_step}
-use Rattle.status_changes.specs.Laws.{EventsMakeThemFollow, KeepsReleases}
-use Rattle.status_changes.specs.Statuses.{are_installed, each_is, follow, how_many_are, is_booted, is_installed, is_left_or_changed, is_promoted, is_replaced, is_same, statuses_of}
+use Rattle.rel_list.proofs.RestLaws.{not_temporary}
+use Rattle.status_changes.specs.Laws.{EventsMakeThemFollow}
+use Rattle.status_changes.specs.Statuses.{are_installed, each_is, follow, how_many_are, is_booted, is_installed, is_left_or_changed, is_promoted, is_replaced, is_unsaid, said_in, said_where, statuses_of}
 use Rattle.status_changes.proofs.StatusLemmas.{one_counted}
 
 -- By the status of one release
 
 -- What an installation of this release, or of another one, may do.
-record MayInstall (itself : Bool) (s before behind : Status) : Type 0 where
-  may : is_left_or_changed before behind ≡ true
-  installs : is_installed before behind ≡ true → itself ≡ true
-  replaces : is_replaced before behind ≡ true → is_temporary s ≡ true
+record MayInstall (itself : Bool) (s before : Status) (said : Option Status) : Type 0 where
+  may : is_left_or_changed before said ≡ true
+  installs : is_installed before said ≡ true → itself ≡ true
+  replaces : is_replaced before said ≡ true → is_temporary s ≡ true
 
 -- it is done by what makes this status of the release's
 abbrev DoesInstall : Bool → (Status → Status) → Status → Type 0
-DoesInstall itself f s = MayInstall itself s (recorded_status s) (recorded_status (f s))
+DoesInstall itself f s = MayInstall itself s (recorded_status s) (said_where (f s) s)
 
-does_itself : (f : Status → Status) (s : Status) → is_left_or_changed (recorded_status s) (recorded_status (f s)) ≡ true → is_replaced (recorded_status s) (recorded_status (f s)) ≡ false → DoesInstall true f s
+does_itself : (f : Status → Status) (s : Status) → is_left_or_changed (recorded_status s) (said_where (f s) s) ≡ true → is_replaced (recorded_status s) (said_where (f s) s) ≡ false → DoesInstall true f s
 does_itself f s may not_replaced = record { may = may; installs = λ is. refl; replaces = λ is. absurd (true≢false (sym is ∙ not_replaced)) }
 
-leaves : (s : Status) → is_left_or_changed (recorded_status s) (recorded_status (replaced_status s)) ≡ true → is_installed (recorded_status s) (recorded_status (replaced_status s)) ≡ false
-    → is_replaced (recorded_status s) (recorded_status (replaced_status s)) ≡ false → DoesInstall false replaced_status s
+leaves : (s : Status) → is_left_or_changed (recorded_status s) (said_where (replaced_status s) s) ≡ true → is_installed (recorded_status s) (said_where (replaced_status s) s) ≡ false
+    → is_replaced (recorded_status s) (said_where (replaced_status s) s) ≡ false → DoesInstall false replaced_status s
 leaves s may not_installed not_replaced =
     record { may = may; installs = λ is. absurd (true≢false (sym is ∙ not_installed)); replaces = λ is. absurd (true≢false (sym is ∙ not_replaced)) }
 
@@ -64,7 +65,7 @@ by_restart true Permanent none = does_itself (restarted_status true) Permanent r
 by_restart true OneShot none = absurd (true≢false none)
 
 -- a release that is made permanent wasn't
-by_promotion : (b : Bool) (s : Status) → is_one_shot s ≡ false → (b ≡ true → is_permanent s ≡ false) → is_promoted (recorded_status s) (recorded_status (permanent_status b s)) ≡ true
+by_promotion : (b : Bool) (s : Status) → is_one_shot s ≡ false → (b ≡ true → is_permanent s ≡ false) → is_promoted (recorded_status s) (said_where (permanent_status b s) s) ≡ true
 by_promotion true Unpacked none other = refl
 by_promotion true Current none other = refl
 by_promotion true Old none other = refl
@@ -76,12 +77,21 @@ by_promotion false Old none other = refl
 by_promotion false Permanent none other = refl
 by_promotion false OneShot none other = absurd (true≢false none)
 
-by_boot : (s : Status) → is_booted (recorded_status s) (recorded_status (booted_status s)) ≡ true
-by_boot Unpacked = refl
-by_boot Current = refl
-by_boot Old = refl
-by_boot Permanent = refl
-by_boot OneShot = refl
+-- A boot takes a one-shot away where no release is current;
+by_boot : (s : Status) → is_current s ≡ false → is_booted (recorded_status s) (said_where (booted_status s) s) ≡ true
+by_boot Unpacked none = refl
+by_boot Current none = absurd (true≢false none)
+by_boot Old none = refl
+by_boot Permanent none = refl
+by_boot OneShot none = refl
+
+-- where none is a one-shot, what it says an installation says.
+by_boot_alone : (s : Status) → is_one_shot s ≡ false → MayInstall (is_temporary s) s (recorded_status s) (said_where (booted_status s) s)
+by_boot_alone Unpacked none = record { may = refl; installs = λ is. is; replaces = λ is. is }
+by_boot_alone Current none = record { may = refl; installs = λ is. refl; replaces = λ is. refl }
+by_boot_alone Old none = record { may = refl; installs = λ is. is; replaces = λ is. is }
+by_boot_alone Permanent none = record { may = refl; installs = λ is. is; replaces = λ is. is }
+by_boot_alone OneShot none = absurd (true≢false none)
 
 -- By those of all
 
@@ -138,37 +148,37 @@ module _ (f : List ℕ → Status → Status) where
   abbrev before : Releases → List Status
   before es = statuses_of (recorded es)
 
-  abbrev behind : Releases → List Status
-  behind es = statuses_of (recorded (with_statuses f es))
+  abbrev said : Releases → List (Option Status)
+  said es = map (λ (x : Entry). said_where (f x.release.vsn x.status) x.status) es
 
   -- by its own status
-  abbrev own : (Status → Status → Bool) → Entry → Bool
-  own test x = test (recorded_status x.status) (recorded_status (f x.release.vsn x.status))
+  abbrev own : (Status → Option Status → Bool) → Entry → Bool
+  own test x = test (recorded_status x.status) (said_where (f x.release.vsn x.status) x.status)
 
-  all_are : (test : Status → Status → Bool) (es : Releases) → AllByRecursion (λ (x : Entry). own test x ≡ true) es → each_is test (before es) (behind es) ≡ true
+  all_are : (test : Status → Option Status → Bool) (es : Releases) → AllByRecursion (λ (x : Entry). own test x ≡ true) es → each_is test (before es) (said es) ≡ true
   all_are test [] all = refl
-  all_are test (x ∷ es) all = both_true (own test x) (each_is test (before es) (behind es)) all.0 (all_are test es all.1)
+  all_are test (x ∷ es) all = both_true (own test x) (each_is test (before es) (said es)) all.0 (all_are test es all.1)
 
-  fewer : (test : Status → Status → Bool) (q : Entry → Bool) (es : Releases) → AllByRecursion (λ (x : Entry). own test x ≡ true → q x ≡ true) es
-      → length (filter (λ (p : Status × Status). test p.0 p.1) (zip (before es) (behind es))) ≤ length (filter q es)
+  fewer : (test : Status → Option Status → Bool) (q : Entry → Bool) (es : Releases) → AllByRecursion (λ (x : Entry). own test x ≡ true → q x ≡ true) es
+      → length (filter (λ (p : Status × Option Status). test p.0 p.1) (zip (before es) (said es))) ≤ length (filter q es)
   fewer test q [] all = omega arith
   fewer test q (x ∷ es) all = one_counted (own test x) (q x) _ _ x (filter q es) all.0 (fewer test q es all.1)
 
-  as_few : (test : Status → Status → Bool) (q : Entry → Bool) (es : Releases) → AllByRecursion (λ (x : Entry). own test x ≡ true → q x ≡ true) es
-      → how_many_are test (before es) (behind es) ≤ length (filter q es)
+  as_few : (test : Status → Option Status → Bool) (q : Entry → Bool) (es : Releases) → AllByRecursion (λ (x : Entry). own test x ≡ true → q x ≡ true) es
+      → how_many_are test (before es) (said es) ≤ length (filter q es)
   as_few test q es all =
-      subst (λ n. n ≤ length (filter q es)) (length-filter (λ (p : Status × Status). test p.0 p.1) (zip (before es) (behind es))) (fewer test q es all)
+      subst (λ n. n ≤ length (filter q es)) (length-filter (λ (p : Status × Option Status). test p.0 p.1) (zip (before es) (said es))) (fewer test q es all)
 
-  -- The release of this version is installed.
-  module _ (v : List ℕ) where
+  -- One release is installed at most: that of which this holds.
+  module _ (p : Entry → Bool) where
     abbrev DoInstall : Releases → Type 0
-    DoInstall es = AllByRecursion (λ (x : Entry). DoesInstall (bytes_eq v x.release.vsn) (f x.release.vsn) x.status) es
+    DoInstall es = AllByRecursion (λ (x : Entry). MayInstall (p x) x.status (recorded_status x.status) (said_where (f x.release.vsn x.status) x.status)) es
 
     each_may : (es : Releases) → DoInstall es → AllByRecursion (λ (x : Entry). own is_left_or_changed x ≡ true) es
     each_may [] all = tt
     each_may (x ∷ es) all = (all.0.may, each_may es all.1)
 
-    each_installs : (es : Releases) → DoInstall es → AllByRecursion (λ (x : Entry). own is_installed x ≡ true → bytes_eq v x.release.vsn ≡ true) es
+    each_installs : (es : Releases) → DoInstall es → AllByRecursion (λ (x : Entry). own is_installed x ≡ true → p x ≡ true) es
     each_installs [] all = tt
     each_installs (x ∷ es) all = (all.0.installs, each_installs es all.1)
 
@@ -176,22 +186,21 @@ module _ (f : List ℕ → Status → Status) where
     each_replaces [] all = tt
     each_replaces (x ∷ es) all = (all.0.replaces, each_replaces es all.1)
 
-    installs_one : (es : Releases) → IsOrderly es → DoInstall es → nat_le (how_many_are is_installed (before es) (behind es)) 1 ≡ true
-    installs_one es orderly all =
-        let once : length (of_version v es) ≤ 1 = at_most_once v es orderly.distinct in
-        let few = as_few is_installed (λ (x : Entry). bytes_eq v x.release.vsn) es (each_installs es all) in
-        le-leb (how_many_are is_installed (before es) (behind es)) 1 (omega (arith, once, few))
+    installs_one : (es : Releases) → length (filter p es) ≤ 1 → DoInstall es → nat_le (how_many_are is_installed (before es) (said es)) 1 ≡ true
+    installs_one es once all =
+        let few = as_few is_installed p es (each_installs es all) in
+        le-leb (how_many_are is_installed (before es) (said es)) 1 (omega (arith, once, few))
 
-    replaces_one : (es : Releases) → IsOrderly es → DoInstall es → nat_le (how_many_are is_replaced (before es) (behind es)) 1 ≡ true
+    replaces_one : (es : Releases) → IsOrderly es → DoInstall es → nat_le (how_many_are is_replaced (before es) (said es)) 1 ≡ true
     replaces_one es orderly all =
         let once : length (of_status is_temporary es) ≤ 1 = orderly.one_temporary in
         let few = as_few is_replaced (λ (x : Entry). is_temporary x.status) es (each_replaces es all) in
-        le-leb (how_many_are is_replaced (before es) (behind es)) 1 (omega (arith, once, few))
+        le-leb (how_many_are is_replaced (before es) (said es)) 1 (omega (arith, once, few))
 
-    all_installed : (es : Releases) → IsOrderly es → DoInstall es → are_installed (before es) (behind es) ≡ true
-    all_installed es orderly all =
-        both_true (each_is is_left_or_changed (before es) (behind es) && nat_le (how_many_are is_installed (before es) (behind es)) 1) (nat_le (how_many_are is_replaced (before es) (behind es)) 1)
-        (both_true (each_is is_left_or_changed (before es) (behind es)) (nat_le (how_many_are is_installed (before es) (behind es)) 1) (all_are is_left_or_changed es (each_may es all)) (installs_one es orderly all))
+    all_installed : (es : Releases) → IsOrderly es → length (filter p es) ≤ 1 → DoInstall es → are_installed (before es) (said es) ≡ true
+    all_installed es orderly once all =
+        both_true (each_is is_left_or_changed (before es) (said es) && nat_le (how_many_are is_installed (before es) (said es)) 1) (nat_le (how_many_are is_replaced (before es) (said es)) 1)
+        (both_true (each_is is_left_or_changed (before es) (said es)) (nat_le (how_many_are is_installed (before es) (said es)) 1) (all_are is_left_or_changed es (each_may es all)) (installs_one es once all))
         (replaces_one es orderly all)
 
 -- They follow by a boot, an installation, or an event that makes another release permanent.
@@ -199,48 +208,105 @@ or_true : (b : Bool) → (b || true) ≡ true
 or_true true = refl
 or_true false = refl
 
-follow-boot : (ss ts : List Status) → each_is is_booted ss ts ≡ true → follow ss ts ≡ true
-follow-boot ss ts are =
-    ap (λ b. ((each_is is_same ss ts || b) || are_installed ss ts) || each_is is_promoted ss ts) are
-    ∙ ap (λ b. (b || are_installed ss ts) || each_is is_promoted ss ts) (or_true (each_is is_same ss ts))
+follow-boot : (ss : List Status) (os : List (Option Status)) → each_is is_booted ss os ≡ true → follow ss os ≡ true
+follow-boot ss os are =
+    ap (λ b. ((each_is is_unsaid ss os || b) || are_installed ss os) || each_is is_promoted ss os) are
+    ∙ ap (λ b. (b || are_installed ss os) || each_is is_promoted ss os) (or_true (each_is is_unsaid ss os))
 
-follow-installation : (ss ts : List Status) → are_installed ss ts ≡ true → follow ss ts ≡ true
-follow-installation ss ts are =
-    ap (λ b. ((each_is is_same ss ts || each_is is_booted ss ts) || b) || each_is is_promoted ss ts) are
-    ∙ ap (λ b. b || each_is is_promoted ss ts) (or_true (each_is is_same ss ts || each_is is_booted ss ts))
+follow-installation : (ss : List Status) (os : List (Option Status)) → are_installed ss os ≡ true → follow ss os ≡ true
+follow-installation ss os are =
+    ap (λ b. ((each_is is_unsaid ss os || each_is is_booted ss os) || b) || each_is is_promoted ss os) are
+    ∙ ap (λ b. b || each_is is_promoted ss os) (or_true (each_is is_unsaid ss os || each_is is_booted ss os))
 
-follow-promotion : (ss ts : List Status) → each_is is_promoted ss ts ≡ true → follow ss ts ≡ true
-follow-promotion ss ts are =
-    ap (λ b. ((each_is is_same ss ts || each_is is_booted ss ts) || are_installed ss ts) || b) are
-    ∙ or_true ((each_is is_same ss ts || each_is is_booted ss ts) || are_installed ss ts)
+follow-promotion : (ss : List Status) (os : List (Option Status)) → each_is is_promoted ss os ≡ true → follow ss os ≡ true
+follow-promotion ss os are =
+    ap (λ b. ((each_is is_unsaid ss os || each_is is_booted ss os) || are_installed ss os) || b) are
+    ∙ or_true ((each_is is_unsaid ss os || each_is is_booted ss os) || are_installed ss os)
 
--- the statuses after the event follow those before it
+-- what the event says follows the statuses before it
 abbrev pub FollowBy : Event → Releases → Type 0
-FollowBy e es = follow (statuses_of (recorded es)) (statuses_of (recorded (with_statuses (status_behind e) es))) ≡ true
+FollowBy e es = follow (statuses_of (recorded es)) (said_in e es) ≡ true
 
-pub behind_boot : (es : Releases) → FollowBy boot es
-behind_boot es = follow-boot (before (status_behind boot) es) (behind (status_behind boot) es) (all_are (status_behind boot) is_booted es (each_booted es))
+-- Where a release is a one-shot, none is current.
+none_temporary : (es : Releases) → length (of_status is_temporary es) ≡ 0 → AllByRecursion (λ (x : Entry). is_temporary x.status ≡ false) es
+none_temporary [] few = tt
+none_temporary (x ∷ es) few = go (is_temporary x.status) refl (none_temporary es) few
   where
-    each_booted : (es : Releases) → AllByRecursion (λ (x : Entry). own (status_behind boot) is_booted x ≡ true) es
-    each_booted [] = tt
-    each_booted (x ∷ es) = (by_boot x.status, each_booted es)
+    go : (b : Bool) → is_temporary x.status ≡ b → (length (of_status is_temporary es) ≡ 0 → AllByRecursion (λ (y : Entry). is_temporary y.status ≡ false) es)
+        → length (cond b (x ∷ of_status is_temporary es) (of_status is_temporary es)) ≡ 0 → AllByRecursion (λ (y : Entry). is_temporary y.status ≡ false) (x ∷ es)
+    go true is rest few = absurd (omega (arith, few))
+    go false is rest few = (is, rest few)
+
+not_current : (s : Status) → is_temporary s ≡ false → is_current s ≡ false
+not_current Unpacked calm = refl
+not_current Current calm = absurd (true≢false calm)
+not_current Old calm = refl
+not_current Permanent calm = refl
+not_current OneShot calm = refl
+
+none_current : (es : Releases) → AllByRecursion (λ (x : Entry). is_temporary x.status ≡ false) es → AllByRecursion (λ (x : Entry). is_current x.status ≡ false) es
+none_current [] calm = tt
+none_current (x ∷ es) calm = (not_current x.status calm.0, none_current es calm.1)
+
+none_is_one_shot : (es : Releases) → AllByRecursion (λ (x : Entry). is_temporary x.status ≡ false) es → has_one_shot es ≡ false
+none_is_one_shot [] calm = refl
+none_is_one_shot (x ∷ es) calm = rw (not_temporary x.status calm.0) (none_is_one_shot es calm.1)
+
+none_beside : (es : Releases) → length (of_status is_temporary es) ≤ 1 → has_one_shot es ≡ true → AllByRecursion (λ (x : Entry). is_current x.status ≡ false) es
+none_beside [] few has = tt
+none_beside (x ∷ es) few has = go x.status refl (none_beside es)
+  where
+    Others : Type 0
+    Others = length (of_status is_temporary es) ≤ 1 → has_one_shot es ≡ true → AllByRecursion (λ (y : Entry). is_current y.status ≡ false) es
+
+    rest : is_temporary x.status ≡ true → AllByRecursion (λ (y : Entry). is_temporary y.status ≡ false) es
+    rest is = let only : length (x ∷ of_status is_temporary es) ≤ 1 = rw is at few in none_temporary es (omega (arith, only))
+
+    more : is_temporary x.status ≡ false → Others → AllByRecursion (λ (y : Entry). is_current y.status ≡ false) (x ∷ es)
+    more is others =
+        let few_there : length (of_status is_temporary es) ≤ 1 = rw is at few in
+        let has_there : has_one_shot es ≡ true = rw (not_temporary x.status is) at has in
+        (not_current x.status is, others few_there has_there)
+
+    go : (s : Status) → x.status ≡ s → Others → AllByRecursion (λ (y : Entry). is_current y.status ≡ false) (x ∷ es)
+    go Unpacked is others = more (ap is_temporary is) others
+    go Current is others =
+        let lost : has_one_shot es ≡ true = rw is at has in
+        absurd (true≢false (sym lost ∙ none_is_one_shot es (rest (ap is_temporary is))))
+    go Old is others = more (ap is_temporary is) others
+    go Permanent is others = more (ap is_temporary is) others
+    go OneShot is others = (ap is_current is, none_current es (rest (ap is_temporary is)))
+
+pub behind_boot : (es : Releases) → IsOrderly es → FollowBy boot es
+behind_boot es orderly = elim (cases_Bool (has_one_shot es)) [
+  | inl has ↦ follow-boot (before (status_behind boot) es) (said (status_behind boot) es) (all_are (status_behind boot) is_booted es (each_booted es (none_beside es orderly.one_temporary has)))
+  | inr none ↦ follow-installation (before (status_behind boot) es) (said (status_behind boot) es) (all_installed (status_behind boot) (λ (x : Entry). is_temporary x.status) es orderly orderly.one_temporary (each_alone es (none_waits es none)))
+]
+  where
+    each_booted : (es : Releases) → AllByRecursion (λ (x : Entry). is_current x.status ≡ false) es → AllByRecursion (λ (x : Entry). own (status_behind boot) is_booted x ≡ true) es
+    each_booted [] none = tt
+    each_booted (x ∷ es) none = (by_boot x.status none.0, each_booted es none.1)
+
+    each_alone : (es : Releases) → NoneWaits es → DoInstall (status_behind boot) (λ (x : Entry). is_temporary x.status) es
+    each_alone [] all = tt
+    each_alone (x ∷ es) all = (by_boot_alone x.status all.0, each_alone es all.1)
 
 pub behind_installation : (v : List ℕ) (es : Releases) → IsOrderly es → has_one_shot es ≡ false → FollowBy (installed v) es
-behind_installation v es orderly none = follow-installation (before (status_behind (installed v)) es) (behind (status_behind (installed v)) es) (all_installed (status_behind (installed v)) v es orderly (each_does es (none_waits es none)))
+behind_installation v es orderly none = follow-installation (before (status_behind (installed v)) es) (said (status_behind (installed v)) es) (all_installed (status_behind (installed v)) (λ (x : Entry). bytes_eq v x.release.vsn) es orderly (at_most_once v es orderly.distinct) (each_does es (none_waits es none)))
   where
-    each_does : (es : Releases) → NoneWaits es → DoInstall (status_behind (installed v)) v es
+    each_does : (es : Releases) → NoneWaits es → DoInstall (status_behind (installed v)) (λ (x : Entry). bytes_eq v x.release.vsn) es
     each_does [] all = tt
     each_does (x ∷ es) all = (by_installation (bytes_eq v x.release.vsn) x.status all.0, each_does es all.1)
 
 pub behind_restart : (v : List ℕ) (es : Releases) → IsOrderly es → has_one_shot es ≡ false → FollowBy (restart_installed v) es
-behind_restart v es orderly none = follow-installation (before (status_behind (restart_installed v)) es) (behind (status_behind (restart_installed v)) es) (all_installed (status_behind (restart_installed v)) v es orderly (each_does es (none_waits es none)))
+behind_restart v es orderly none = follow-installation (before (status_behind (restart_installed v)) es) (said (status_behind (restart_installed v)) es) (all_installed (status_behind (restart_installed v)) (λ (x : Entry). bytes_eq v x.release.vsn) es orderly (at_most_once v es orderly.distinct) (each_does es (none_waits es none)))
   where
-    each_does : (es : Releases) → NoneWaits es → DoInstall (status_behind (restart_installed v)) v es
+    each_does : (es : Releases) → NoneWaits es → DoInstall (status_behind (restart_installed v)) (λ (x : Entry). bytes_eq v x.release.vsn) es
     each_does [] all = tt
     each_does (x ∷ es) all = (by_restart (bytes_eq v x.release.vsn) x.status all.0, each_does es all.1)
 
 promotes : (v : List ℕ) (es : Releases) → has_one_shot es ≡ false → IsNotPermanent v es → FollowBy (made_permanent v) es
-promotes v es none other = follow-promotion (before (status_behind (made_permanent v)) es) (behind (status_behind (made_permanent v)) es) (all_are (status_behind (made_permanent v)) is_promoted es (each_does es (none_waits es none) other))
+promotes v es none other = follow-promotion (before (status_behind (made_permanent v)) es) (said (status_behind (made_permanent v)) es) (all_are (status_behind (made_permanent v)) is_promoted es (each_does es (none_waits es none) other))
   where
     each_does : (es : Releases) → NoneWaits es → IsNotPermanent v es → AllByRecursion (λ (x : Entry). own (status_behind (made_permanent v)) is_promoted x ≡ true) es
     each_does [] all other = tt
@@ -257,22 +323,18 @@ events_make_them_follow (made p) es next keeps orderly is = absurd keeps
 events_make_them_follow (unpacked p) es next keeps orderly is = absurd keeps
 events_make_them_follow (removed v) es next keeps orderly is = absurd keeps
 events_make_them_follow boot es next keeps orderly is =
-    let same : booted es ≡ next = cc is in subst (λ l. follow (statuses_of (recorded es)) (statuses_of (recorded l)) ≡ true) same (behind_boot es)
+    behind_boot es orderly
 events_make_them_follow (installed v) es next keeps orderly is =
     let own = own_of_step (installed v) es next is in
-    let same : list_installed v es ≡ next = cc (passed (may_be_installed (has_current es) (status_of v es)) (Some (list_installed v es)) next own.1).1 in
-    subst (λ l. follow (statuses_of (recorded es)) (statuses_of (recorded l)) ≡ true) same (behind_installation v es orderly own.0)
+    behind_installation v es orderly own.0
 events_make_them_follow (restart_installed v) es next keeps orderly is =
     let own = own_of_step (restart_installed v) es next is in
-    let same : list_restarted v es ≡ next = cc (passed (may_be_installed (has_current es) (status_of v es)) (Some (list_restarted v es)) next own.1).1 in
-    subst (λ l. follow (statuses_of (recorded es)) (statuses_of (recorded l)) ≡ true) same (behind_restart v es orderly own.0)
+    behind_restart v es orderly own.0
 events_make_them_follow (made_permanent v) es next keeps orderly is =
     let own = own_of_step (made_permanent v) es next is in
     let (may, there) = passed (may_be_made_permanent (status_of v es)) (Some (list_made_permanent v es)) next own.1 in
-    let same : list_made_permanent v es ≡ next = cc there in
-    subst (λ l. follow (statuses_of (recorded es)) (statuses_of (recorded l)) ≡ true) same (behind_promotion v es orderly.distinct own.0 may)
+    behind_promotion v es orderly.distinct own.0 may
 events_make_them_follow (reboot_old v) es next keeps orderly is =
     let own = own_of_step (reboot_old v) es next is in
     let (may, there) = passed (may_be_rebooted (status_of v es)) (Some (list_made_permanent v es)) next own.1 in
-    let same : list_made_permanent v es ≡ next = cc there in
-    subst (λ l. follow (statuses_of (recorded es)) (statuses_of (recorded l)) ≡ true) same (behind_reboot v es orderly.distinct own.0 may)
+    behind_reboot v es orderly.distinct own.0 may

@@ -1,12 +1,14 @@
 -- What statuses that follow say of events.
-use Rattle.std.specs.Prelude.{◌≡◌, ◌⊎◌, true, length, Some}
+use Rattle.std.specs.Prelude.{◌≡◌, ◌⊎◌, ℕ, true, List, length, Option, None, Some}
+use Rattle.std.specs.List.{AllByRecursion}
+use Rattle.rel_list.specs.declared.status.Status.{Status}
 use Rattle.rel_list.specs.Event.{Event, recorded, step}
 use Rattle.rel_list.specs.Event.Event.{made, unpacked, removed}
 use Rattle.rel_list.specs.Keyed.{IsOrderly}
-use Rattle.rel_list.specs.Laws.{IsRecorded, bundles_of}
-use Rattle.rel_list.specs.Releases.{Releases, of_status}
+use Rattle.rel_list.specs.Laws.{IsRecorded}
+use Rattle.rel_list.specs.Releases.{Entry, Releases, of_status}
 use Rattle.rel_list.specs.Status.{is_permanent}
-use Rattle.status_changes.specs.Statuses.{follow, statuses_of}
+use Rattle.status_changes.specs.Statuses.{follow, said_by, said_in, statuses_of, with_said}
 
 -- the event brings no release, and takes none out
 abbrev pub KeepsReleases : Event → Type 0
@@ -15,24 +17,31 @@ KeepsReleases (unpacked p) = ⊥
 KeepsReleases (removed v) = ⊥
 KeepsReleases e = Unit {0}
 
--- The statuses after such an event follow those before it, as records report both.
+-- What such an event says of each release follows the statuses before it, as records report them.
 abbrev pub EventsMakeThemFollow : Type 0
 EventsMakeThemFollow =
     (e : Event) (es next : Releases) → KeepsReleases e → IsOrderly es → step e es ≡ Some next
-    → follow (statuses_of (recorded es)) (statuses_of (recorded next)) ≡ true
+    → follow (statuses_of (recorded es)) (said_in e es) ≡ true
 
--- Records report some node as the one list, and what one event makes of it as the other.
-pub record IsOfNode (es next : Releases) : Type 0 where
+-- Records report some node as the first list, and what one event makes of it as the second; the event says exactly this of each
+-- release.
+pub record IsOfNode (es next : Releases) (said : List (Option Status)) : Type 0 where
   pub node : Releases
   pub behind : Releases
   pub event : Event
+  pub keeps : KeepsReleases event
   pub orderly : IsOrderly node
   pub reported : recorded node ≡ es
   pub leads : step event node ≡ Some behind
   pub makes : recorded behind ≡ next
+  pub says : said_in event node ≡ said
 
--- Statuses of the same releases that follow are the same, or one event makes them.
-abbrev pub OneEventMakesThem : Type 0
-OneEventMakesThem =
-    (es next : Releases) → IsRecorded es → bundles_of next ≡ bundles_of es → length (of_status is_permanent next) ≡ 1
-    → follow (statuses_of es) (statuses_of next) ≡ true → (next ≡ es) ⊎ IsOfNode es next
+-- nothing is said of any release
+abbrev pub IsSilent : (List ℕ → Option Status) → Releases → Type 0
+IsSilent told es = AllByRecursion (λ (x : Entry). told x.release.vsn ≡ None) es
+
+-- Where something is said that follows, it is what one event says.
+abbrev pub OneEventSaysThem : Type 0
+OneEventSaysThem =
+    (es : Releases) (told : List ℕ → Option Status) → IsRecorded es → length (of_status is_permanent (with_said told es)) ≡ 1
+    → follow (statuses_of es) (said_by told es) ≡ true → IsSilent told es ⊎ IsOfNode es (with_said told es) (said_by told es)

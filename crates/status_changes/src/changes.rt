@@ -1,130 +1,124 @@
-// Which statuses follow by one event.
+// Which statuses one event says.
 ghost use Rattle.std.specs.Prelude.{◌≡◌};
-ghost use Rattle.status_changes.specs.Statuses.{are_installed, each_is, follow, how_many_are, is_booted, is_installed, is_left, is_left_or_changed, is_promoted, is_replaced, is_same};
+ghost use Rattle.status_changes.specs.Statuses.{are_installed, each_is, follow, how_many_are, is_booted, is_installed, is_left, is_left_or_changed, is_promoted, is_replaced, is_unsaid};
 
 use rel_list::Status;
 
-/// Whether one event makes the statuses `behind` of the statuses `before`, each release's at its place, or they are the same. Both
-/// are as records report them: a release that is current, as unpacked. Of lists of two lengths, what both have is compared.
-pub fn follow(before: &[Status], behind: &[Status]) -> bool
-    ensures { result ≡ follow before.now behind.now }
+/// Whether one event says this of releases that have these statuses, each at its place, or nothing is said of any. What stands
+/// before is as records report it: a release that is current, as unpacked. Of lists of two lengths, what both have is compared.
+pub fn follow(before: &[Status], said: &[Option<Status>]) -> bool
+    ensures { result ≡ follow before.now said.now }
 {
-    are_same(before, behind)
-        || are_booted(before, behind)
-        || are_installed(before, behind)
-        || are_promoted(before, behind)
+    are_unsaid(before, said)
+        || are_booted(before, said)
+        || are_installed(before, said)
+        || are_promoted(before, said)
 }
 
-fn are_same(before: &[Status], behind: &[Status]) -> bool
-    ensures { result ≡ each_is is_same before.now behind.now }
+fn are_unsaid(before: &[Status], said: &[Option<Status>]) -> bool
+    ensures { result ≡ each_is is_unsaid before.now said.now }
 {
-    before.iter().zip(behind).all(|(s, t)| is_same(*s, *t))
+    before.iter().zip(said).all(|(s, o)| is_unsaid(*s, *o))
 }
 
-fn are_booted(before: &[Status], behind: &[Status]) -> bool
-    ensures { result ≡ each_is is_booted before.now behind.now }
+fn are_booted(before: &[Status], said: &[Option<Status>]) -> bool
+    ensures { result ≡ each_is is_booted before.now said.now }
 {
-    before.iter().zip(behind).all(|(s, t)| is_booted(*s, *t))
+    before.iter().zip(said).all(|(s, o)| is_booted(*s, *o))
 }
 
-fn are_promoted(before: &[Status], behind: &[Status]) -> bool
-    ensures { result ≡ each_is is_promoted before.now behind.now }
+fn are_promoted(before: &[Status], said: &[Option<Status>]) -> bool
+    ensures { result ≡ each_is is_promoted before.now said.now }
 {
-    before.iter().zip(behind).all(|(s, t)| is_promoted(*s, *t))
+    before.iter().zip(said).all(|(s, o)| is_promoted(*s, *o))
 }
 
-// Whether an installation does this.
-fn are_installed(before: &[Status], behind: &[Status]) -> bool
-    ensures { result ≡ are_installed before.now behind.now }
+// Whether an installation says this.
+fn are_installed(before: &[Status], said: &[Option<Status>]) -> bool
+    ensures { result ≡ are_installed before.now said.now }
 {
-    are_left_or_changed(before, behind)
-        && count_installed(before, behind) <= 1
-        && count_replaced(before, behind) <= 1
+    are_left_or_changed(before, said)
+        && count_installed(before, said) <= 1
+        && count_replaced(before, said) <= 1
 }
 
-fn are_left_or_changed(before: &[Status], behind: &[Status]) -> bool
-    ensures { result ≡ each_is is_left_or_changed before.now behind.now }
+fn are_left_or_changed(before: &[Status], said: &[Option<Status>]) -> bool
+    ensures { result ≡ each_is is_left_or_changed before.now said.now }
 {
     before
         .iter()
-        .zip(behind)
-        .all(|(s, t)| is_left_or_changed(*s, *t))
+        .zip(said)
+        .all(|(s, o)| is_left_or_changed(*s, *o))
 }
 
-fn count_installed(before: &[Status], behind: &[Status]) -> usize
-    ensures { result ≡ how_many_are is_installed before.now behind.now }
+fn count_installed(before: &[Status], said: &[Option<Status>]) -> usize
+    ensures { result ≡ how_many_are is_installed before.now said.now }
 {
-    let pairs = before.iter().zip(behind);
+    let pairs = before.iter().zip(said);
     pairs.filter(|p| is_installed(*p.0, *p.1)).count()
 }
 
-fn count_replaced(before: &[Status], behind: &[Status]) -> usize
-    ensures { result ≡ how_many_are is_replaced before.now behind.now }
+fn count_replaced(before: &[Status], said: &[Option<Status>]) -> usize
+    ensures { result ≡ how_many_are is_replaced before.now said.now }
 {
-    let pairs = before.iter().zip(behind);
+    let pairs = before.iter().zip(said);
     pairs.filter(|p| is_replaced(*p.0, *p.1)).count()
 }
 
-fn is_same(before: Status, behind: Status) -> bool
-    ensures { result ≡ is_same before behind }
+fn is_unsaid(before: Status, said: Option<Status>) -> bool
+    ensures { result ≡ is_unsaid before said }
 {
-    before == behind
+    let _status = before;
+    said.is_none()
 }
 
-// Whether a boot does this to the status of a release.
-fn is_booted(before: Status, behind: Status) -> bool
-    ensures { result ≡ is_booted before behind }
+// Whether a boot says this of a release.
+fn is_booted(before: Status, said: Option<Status>) -> bool
+    ensures { result ≡ is_booted before said }
 {
     match before {
-        Status::OneShot => is_same(behind, Status::Unpacked),
-        _ => is_left(before, behind),
+        Status::OneShot => matches!(said, Some(Status::Unpacked)),
+        _ => is_left(before, said),
     }
 }
 
 // Whether an installation leaves it so.
-fn is_left(before: Status, behind: Status) -> bool
-    ensures { result ≡ is_left before behind }
+fn is_left(before: Status, said: Option<Status>) -> bool
+    ensures { result ≡ is_left before said }
+{
+    said.is_none() && matches!(before, Status::Unpacked | Status::Old | Status::Permanent)
+}
+
+fn is_left_or_changed(before: Status, said: Option<Status>) -> bool
+    ensures { result ≡ is_left_or_changed before said }
+{
+    is_left(before, said) || is_installed(before, said) || is_replaced(before, said)
+}
+
+// Whether an installation says this of the release that it installs.
+fn is_installed(before: Status, said: Option<Status>) -> bool
+    ensures { result ≡ is_installed before said }
+{
+    matches!(before, Status::Unpacked | Status::Old)
+        && matches!(said, Some(Status::Unpacked | Status::OneShot))
+}
+
+// Whether an installation says this of the one that was current.
+fn is_replaced(before: Status, said: Option<Status>) -> bool
+    ensures { result ≡ is_replaced before said }
+{
+    matches!((before, said), (Status::Unpacked, Some(Status::Old)))
+}
+
+// Whether an event that makes another release permanent says this.
+fn is_promoted(before: Status, said: Option<Status>) -> bool
+    ensures { result ≡ is_promoted before said }
 {
     matches!(
-        (before, behind),
-        (Status::Unpacked, Status::Unpacked)
-            | (Status::Old, Status::Old)
-            | (Status::Permanent, Status::Permanent)
-    )
-}
-
-fn is_left_or_changed(before: Status, behind: Status) -> bool
-    ensures { result ≡ is_left_or_changed before behind }
-{
-    is_left(before, behind) || is_installed(before, behind) || is_replaced(before, behind)
-}
-
-// Whether an installation does this to that of the release that it installs.
-fn is_installed(before: Status, behind: Status) -> bool
-    ensures { result ≡ is_installed before behind }
-{
-    matches!(
-        (before, behind),
-        (Status::Old, Status::Unpacked) | (Status::Unpacked | Status::Old, Status::OneShot)
-    )
-}
-
-// Whether an installation does this to that of the one that was current.
-fn is_replaced(before: Status, behind: Status) -> bool
-    ensures { result ≡ is_replaced before behind }
-{
-    matches!((before, behind), (Status::Unpacked, Status::Old))
-}
-
-// Whether an event that makes another release permanent does this.
-fn is_promoted(before: Status, behind: Status) -> bool
-    ensures { result ≡ is_promoted before behind }
-{
-    matches!(
-        (before, behind),
-        (Status::Unpacked, Status::Unpacked)
-            | (Status::Old, Status::Old)
-            | (Status::Unpacked | Status::Old, Status::Permanent)
-            | (Status::Permanent, Status::Old)
+        (before, said),
+        (
+            Status::Unpacked | Status::Old,
+            None | Some(Status::Permanent)
+        ) | (Status::Permanent, Some(Status::Old))
     )
 }
