@@ -80,7 +80,8 @@ fn copy_call(alloc: Global, call: &Call) -> Result<Call, AllocError>
     })
 }
 
-pub(crate) fn copy_instr(alloc: Global, instr: &Instr) -> Result<Instr, AllocError>
+/// A copy of an instruction.
+pub fn copy_instr(alloc: Global, instr: &Instr) -> Result<Instr, AllocError>
     ensures { IfOk result (λ i. instruction_of i ≡ instruction_of instr.now) }
 {
     match instr {

@@ -23,6 +23,7 @@ mod release;
 mod rows;
 mod single;
 
+pub use copies::copy_instr;
 pub use fetches::{Mention, push_fetches};
 pub use modules::ModuleNames;
 pub use release::{RelupApp, RelupRelease, Way};

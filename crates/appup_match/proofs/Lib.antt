@@ -1,0 +1,2 @@
+mod PatternLemmas
+mod SearchLemmas

@@ -1,0 +1,2 @@
+pub mod Ambiguity
+pub mod Match

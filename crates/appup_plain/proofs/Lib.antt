@@ -1,0 +1,2 @@
+pub mod PlainLemmas
+mod WalkLemmas

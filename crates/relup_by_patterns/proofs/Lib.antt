@@ -1,0 +1,4 @@
+mod FaultLemmas
+mod WalkLemmas
+mod PatternLemmas
+mod AskedLemmas

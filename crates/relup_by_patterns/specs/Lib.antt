@@ -1,0 +1,3 @@
+pub mod Plain
+pub mod Relup
+pub mod Laws
