@@ -1,6 +1,6 @@
 //! The answer to a case.
 use crate::texts::push_relup;
-use crate::{appups, made_relups, relups, relups_of_files, tables};
+use crate::{appups, lints, made_relups, relups, relups_of_files, tables};
 use appup_file::read_appup;
 use mod_table::read_mod;
 use relup_file::read_relup;
@@ -8,7 +8,7 @@ use relup_instruction::Direction;
 use std::alloc::{AllocError, Global};
 use text_cases::Answer;
 
-/// The answer in one of 19 modes. A text that can't be read is answered by its fault.
+/// The answer in one of 20 modes. A text that can't be read is answered by its fault.
 ///
 /// `mod`: the table of a file. `term`: the same, read again from the file's term. `step`: what comes of a call; the text is a
 /// state, an input and a file. `change`: the state after a change of code; the text is a direction, a version, an extra
@@ -23,7 +23,7 @@ use text_cases::Answer;
 /// version and a file with a blank between.
 ///
 /// `translate`, `translate_up`, `translate_down`: the relup that is made of releases, or of instructions, as in
-/// [`made_relups`]. The modes of files are those of [`relups_of_files::push_answer`].
+/// [`made_relups`]. `lint`: what is refused of instructions before, as in [`lints`]. The modes of files are those of [`relups_of_files::push_answer`].
 pub(crate) fn answer(alloc: Global, mode: &str, text: &[u8]) -> Result<String, AllocError> {
     let mut answer = Answer::new(alloc);
     let words = str::from_utf8(text).unwrap_or("");
@@ -41,6 +41,7 @@ fn push_read(alloc: Global, mode: &str, text: &[u8], words: &str, answer: &mut A
         "check" => relups::push_checked(&relups::with_script(alloc, text), answer),
         "appup" => appups::push_read(&read_appup(alloc, text), answer),
         "instrs" => appups::push_with_instrs(alloc, text, answer),
+        "lint" => lints::push_linted(alloc, text, answer),
         "translate" => made_relups::push_made(alloc, text, answer),
         "translate_up" => made_relups::push_with_instrs(alloc, Direction::Up, text, answer),
         "translate_down" => made_relups::push_with_instrs(alloc, Direction::Down, text, answer),

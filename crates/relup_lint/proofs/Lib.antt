@@ -1,0 +1,5 @@
+pub mod FirstLemmas
+pub mod EarliestLemmas
+pub mod LookLemmas
+pub mod ModuleLemmas
+pub mod NeedLemmas

@@ -1,0 +1,12 @@
+use Rattle.std.proofs.Common.{◌≡◌, ◌++◌, ℕ, List, map, filter, drop}
+use Rattle.relup_lint.specs.Names.{texts}
+use Rattle.relup_lint.specs.Script.{placed_of}
+use Rattle.relup_lint.specs.Findings.{finding, changed_before}
+use Rattle.relup_lint.specs.Findings.RefusalForm.{not_alone}
+use Rattle.relup_lint.specs.Memory.{all_findings, mentions_of}
+use Rattle.relup_lint.proofs.verdicts.push_changed_before.Given as goal
+
+abbrev pub invariant-loop-name : goal.invariant-loop-name
+invariant-loop-name l =
+    all_findings l.found.items ++ map (λ (m : List ℕ). finding (placed_of l.placed) (not_alone m)) (filter (changed_before (mentions_of l.index) l.place) (texts (drop l.name-index l.name-items)))
+    ≡ all_findings l.initial.found.items ++ map (λ (m : List ℕ). finding (placed_of l.placed) (not_alone m)) (filter (changed_before (mentions_of l.index) l.place) (texts l.name-items))
