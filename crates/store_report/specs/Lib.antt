@@ -1,0 +1,4 @@
+pub mod Contents
+pub mod Lines
+pub mod List
+pub mod Report
