@@ -1,6 +1,6 @@
 //! The answer to a case.
 use crate::texts::push_relup;
-use crate::{appups, lints, made_relups, relups, relups_of_files, tables};
+use crate::{appups, lints, made_relups, patterns, relups, relups_of_files, tables};
 use appup_file::read_appup;
 use mod_table::read_mod;
 use relup_file::read_relup;
@@ -8,7 +8,7 @@ use relup_instruction::Direction;
 use std::alloc::{AllocError, Global};
 use text_cases::Answer;
 
-/// The answer in one of 20 modes. A text that can't be read is answered by its fault.
+/// The answer in one of 23 modes. A text that can't be read is answered by its fault.
 ///
 /// `mod`: the table of a file. `term`: the same, read again from the file's term. `step`: what comes of a call; the text is a
 /// state, an input and a file. `change`: the state after a change of code; the text is a direction, a version, an extra
@@ -20,10 +20,11 @@ use text_cases::Answer;
 ///
 /// `appup`: the version of a file's appup, and of each entry the version and the number of instructions. `instrs`: all that
 /// is read of the instructions of a file's only upgrade. `up`, `down`: the instructions that are found; the text is a
-/// version and a file with a blank between.
+/// version and a file with a blank between. `match_up`, `match_down`: the same, where a version may be a pattern.
 ///
 /// `translate`, `translate_up`, `translate_down`: the relup that is made of releases, or of instructions, as in
-/// [`made_relups`]. `lint`: what is refused of instructions before, as in [`lints`]. The modes of files are those of [`relups_of_files::push_answer`].
+/// [`made_relups`]. `by_patterns`: the relup that is made of releases whose appups may have patterns. `lint`: what is refused of
+/// instructions before, as in [`lints`]. The modes of files are those of [`relups_of_files::push_answer`].
 pub(crate) fn answer(alloc: Global, mode: &str, text: &[u8]) -> Result<String, AllocError> {
     let mut answer = Answer::new(alloc);
     let words = str::from_utf8(text).unwrap_or("");
@@ -42,6 +43,7 @@ fn push_read(alloc: Global, mode: &str, text: &[u8], words: &str, answer: &mut A
         "appup" => appups::push_read(&read_appup(alloc, text), answer),
         "instrs" => appups::push_with_instrs(alloc, text, answer),
         "lint" => lints::push_linted(alloc, text, answer),
+        "by_patterns" => patterns::push_made(alloc, text, answer),
         "translate" => made_relups::push_made(alloc, text, answer),
         "translate_up" => made_relups::push_with_instrs(alloc, Direction::Up, text, answer),
         "translate_down" => made_relups::push_with_instrs(alloc, Direction::Down, text, answer),
@@ -57,6 +59,8 @@ fn push_of_words(alloc: Global, mode: &str, words: &str, answer: &mut Answer) {
         "find" => relups::push_search(alloc, words, answer),
         "up" => appups::push_searched(alloc, Direction::Up, words, answer),
         "down" => appups::push_searched(alloc, Direction::Down, words, answer),
+        "match_up" => patterns::push_matched(alloc, Direction::Up, words, answer),
+        "match_down" => patterns::push_matched(alloc, Direction::Down, words, answer),
         _ => relups_of_files::push_answer(alloc, mode, words, answer),
     }
 }

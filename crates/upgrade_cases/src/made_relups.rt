@@ -54,11 +54,20 @@ pub(crate) fn push_made(alloc: Global, text: &[u8], answer: &mut Answer) {
 }
 
 fn made_of(alloc: Global, term: &Term) -> Result<Result<Relup, TranslateError>, AppupFault> {
+    let (new, ups, downs) = releases_of(alloc, term)?;
+    Ok(make_relup(alloc, &new, &ups, &downs))
+}
+
+/// The release of a term, the releases of its upgrades, and those of its downgrades.
+pub(crate) fn releases_of(
+    alloc: Global,
+    term: &Term,
+) -> Result<(RelupRelease, Vec<RelupRelease>, Vec<RelupRelease>), AppupFault> {
     let Some((new, ups, downs)) = triple_in(term) else {
         return Err(AppupFault::BadShape);
     };
     let new = RelupRelease::of_term(alloc, new)?;
     let ups = all_in(alloc, ups)?;
     let downs = all_in(alloc, downs)?;
-    Ok(make_relup(alloc, &new, &ups, &downs))
+    Ok((new, ups, downs))
 }

@@ -1,7 +1,7 @@
 //! The program `upgrade_cases`: what the libraries of upgrades make of the texts on its input, a case a line. [`answer`] has the
-//! modes: tables of modules that `mod_table` reads, relups that `relup_file` reads and `relup_file` searches, appups that
-//! `appup_file` reads, what `relup_lint` refuses of
-//! instructions, and relups that `relup_translate` makes of releases, and `relup_command` of files.
+//! modes: tables of modules that `mod_table` reads, relups that `relup_file` reads and searches, appups that `appup_file` reads and
+//! `appup_match` searches, what `relup_lint` refuses of instructions, and relups that `relup_translate` and `relup_by_patterns`
+//! make of releases, and `relup_command` of files.
 #![tactic(auto)]
 
 mod answers;
@@ -9,6 +9,7 @@ mod appup_texts;
 mod appups;
 mod lints;
 mod made_relups;
+mod patterns;
 mod release_terms;
 mod relups;
 mod relups_of_files;
