@@ -97,7 +97,7 @@ abbrev pub LeavesCompactStore : Events → Place → Type 0
 LeavesCompactStore (restart_installed v ∷ events) p = RunsOneShot p ⊎ IsCompact p
 LeavesCompactStore events p = HaveRecord events → IsCompact p
 
--- So each command did: memory was refused to no compaction.
+-- Each command left a compact store: memory was refused to no compaction.
 abbrev pub LeaveCompactStores : List Reply → Type 0
 LeaveCompactStores [] = Unit {0}
 LeaveCompactStores (a ∷ more) = LeavesCompactStore a.outcome.acknowledged a.after × LeaveCompactStores more
@@ -117,7 +117,8 @@ HaveOneAnswer base =
     → LeaveCompactStores first → LeaveCompactStores second
     → Replies base files p commands a first → Replies base files p commands b second → (a ≡ b) × AreSame first second
 
--- So sessions over the same commands from one place, in which neither was, have written the same text, on whatever disks.
+-- Two sessions over the same commands from one place, in which no disk failed and no compaction was refused memory, have written
+-- the same text, on whatever disks.
 abbrev pub HaveOneText : {D : Type 0} → Device D → Source → Type 0
 HaveOneText {D} v base =
     GivesOne base → (files : Files) (p : Place) (commands : Feed Command) (a b : Ending) (old new other later : D) (text written : List ℕ)
@@ -167,7 +168,7 @@ ListDecidesAnswers base =
 abbrev pub HasNoFull : List ℕ → Type 0
 HasNoFull text = (front back : List ℕ) → text ≢ front ++ (refusal_line full ++ back)
 
--- So two sessions over the same commands on disks with one list, of whatever kinds, have written the same text, where neither text
+-- Two sessions over the same commands on disks with one list, of whatever kinds, have written the same text, where neither text
 -- has that line.
 abbrev pub ListDecidesText : {D E : Type 0} → Device D → Device E → Source → Type 0
 ListDecidesText {D} {E} v w base =
