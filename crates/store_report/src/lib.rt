@@ -5,7 +5,7 @@
 //! make, each with its status; or why an opening refuses the bytes, or which record is bad, and where (specs/Report). Of a damaged
 //! store the text has what stands before the damage, as a store of that alone holds it. The bytes are read and never written.
 //!
-//! Neither proved nor tested: that a report is made where memory is there. Trusted: the toolchain.
+//! Only tested: that a report is made where memory is there. Trusted: the toolchain.
 #![tactic(auto)]
 
 mod contents;
