@@ -1,8 +1,9 @@
-//! Cases of texts, a line each, for programs that show what a library makes of them.
+//! Cases of texts, for programs that show what a library makes of them.
 //!
-//! A case is a mode and, after a blank, a text. [`answer_cases`] reads cases from the input and writes each with ` => ` and
-//! its answer after it. Headings, which begin with `#`, and empty lines are written as they are. So the output alone
-//! reads as a table.
+//! A case is a mode and, after a blank, a text. [`answer_cases`] reads cases from the input, a line each, and writes each with
+//! ` => ` and its answer after it. Headings, which begin with `#`, and empty lines are written as they are. So the output alone
+//! reads as a table. A text that has lines itself has bars between them (`a | b`), or a line of the input for each, which begins
+//! with four blanks; its answer has a line for each part then. A line that begins with eight blanks goes on with the one before.
 //!
 //! An [`Answer`] is what functions append to. [`first_word`] and [`number`] take texts apart, and [`enclosed`] puts them
 //! together. [`CaseFiles`] are files that a text gives, for libraries that read files.
