@@ -263,7 +263,8 @@ fn open_locked<H: DiskHost>(host: &H, path: &str) -> Result<H::File, OpenError>
 // The file's bytes, which a crash leaves.
 fn read_file<F: DiskFile>(alloc: Global, file: &mut F) -> Result<Vec<u8>, OpenError>
     ensures short { IfOk result (λ bytes. length bytes.items ≤ 67108864) }
-    ensures read { IfOk result (λ bytes. GivesAfterSync F.did F.gave bytes.items file.old file.new) }
+    ensures read { IfOk result
+        (λ bytes. GivesAfterSync F.did F.gave bytes.items file.old file.new) }
 {
     if file.sync().is_err() {
         return Err(OpenError::CantRead);

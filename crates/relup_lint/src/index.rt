@@ -51,8 +51,10 @@ impl<'s, 'a> ScriptIndex<'s, 'a> {
         script: &[PlacedInstr<'a>],
         target: &'s [TargetApp<'a>],
     ) -> Result<ScriptIndex<'s, 'a>, AllocError>
-        ensures { IfOk result (λ index. mentions_of index
-            ≡ mentions (record { instrs = all_placed script.now; target = all_targets target.now })) }
+        ensures { IfOk result (λ index. mentions_of index ≡ mentions (record {
+          instrs = all_placed script.now;
+          target = all_targets target.now;
+        })) }
     {
         let modules = Modules::new(alloc, target)?;
         let changed = places_of(alloc, Part::Changed, &modules, script)?;

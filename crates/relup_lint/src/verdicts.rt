@@ -155,7 +155,8 @@ fn push_missing<'a>(
 }
 
 fn has_other_version<'a>(index: &ScriptIndex<'_, 'a>, app: &'a str, vsn: &str) -> bool
-    ensures { result ≡ is_other vsn.now (lookup (bytes_eq app.now) (mentions_of index.now).versions) }
+    ensures { result
+        ≡ is_other vsn.now (lookup (bytes_eq app.now) (mentions_of index.now).versions) }
 {
     match index.versions.first(app) {
         Some(first) => first != vsn,

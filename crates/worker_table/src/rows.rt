@@ -125,7 +125,8 @@ fn keyed_rows<B>(alloc: Global, rows: Vec<Row>) -> Result<Vec<KeyedRow<B>>, Allo
 }
 
 fn first_change<B>(rows: &[KeyedRow<B>], old: &Old, extra: &Term, state: u32) -> Option<u32>
-    ensures { result ≡ change_of (map keyed_row_of rows.now) (old_of old.now) (value_of extra.now) state }
+    ensures { result
+        ≡ change_of (map keyed_row_of rows.now) (old_of old.now) (value_of extra.now) state }
 {
     for row in rows {
         if let Some(next) = row.change(old, extra, state) {
