@@ -26,17 +26,17 @@ use Rattle.rel_records.specs.Given.{NamesEachOnce, are_in_order, leads, others, 
 use Rattle.rel_records.specs.Limits.{has_one_permanent, is_small, most_releases}
 use Rattle.rel_records.specs.Record.{Assignment, Record, makes, adds, assigns, removes, images}
 use Rattle.rel_records.specs.Lists.{may_be_assigned, assign_all, completed, if_faultless, brought_by, taken_by, with_one_permanent, assigned, HaveLibraries}
-use Rattle.status_changes.specs.Laws.{IsOfNode, IsSilent, KeepsReleases}
-use Rattle.status_changes.specs.Statuses.{follow, is_same, said_in, said_of, statuses_of, with_said}
+use Rattle.rel_records.specs.StatusLaws.{IsOfNode, IsSilent, KeepsReleases}
+use Rattle.rel_records.specs.StatusChanges.{are_of_one_event, is_same, said_in, said_of, statuses_of, with_said}
 use Rattle.rel_records.specs.Writing.{is_changed, assignment_of, changes, new_libraries, record_of, IsComplete, IsWithinLimits, IsOfListed, Reports}
 use Rattle.rel_records.specs.Laws.{IsOfEvent, IsOfOneRelease, IsOfStatuses, RecordsAreOfEvents, RecordsDetermineEvents, StatusesAreOfEvents}
 use Rattle.rel_records.specs.Reading.{Says}
 use Rattle.library.proofs.TermCases.{are_libraries}
 use Rattle.rel_list.proofs.RestLaws.{not_temporary}
 use Rattle.rel_records.proofs.CompletionLemmas.{all_new, are_completed, brought_complete, completed_first, completed_new, first_different-recorded}
-use Rattle.status_changes.proofs.StatusLemmas.{same_so}
-use Rattle.status_changes.proofs.StatusesBehindEvents.{FollowBy, behind_boot, behind_installation, behind_promotion, behind_reboot, behind_restart}
-use Rattle.status_changes.proofs.EventsOfStatuses.{one_event_says_them}
+use Rattle.rel_records.proofs.StatusLemmas.{same_so}
+use Rattle.rel_records.proofs.StatusesAfterEvents.{IsOfOneEvent, behind_boot, behind_installation, behind_promotion, behind_reboot, behind_restart}
+use Rattle.rel_records.proofs.EventsOfStatuses.{such_statuses_are_of_one_event}
 use Rattle.rel_records.proofs.StatusRecords.{assigned_as_said, or_none, other_said, others_none, set_so, set_where, silent_empty, unmentioned}
 use Rattle.rel_records.proofs.RecordPlaces.{assigned_so, event_of_record, kept, recorded-push, recorded-without, pushed_last}
 
@@ -329,9 +329,9 @@ module _ (e : Event) where
           by true is order = named a given is once order first rest (others_so given)
           by false is order = unnamed (a ∷ given) once order first rest (others_so (a ∷ given))
 
-  assigned_behind : (es : Releases) → HasDistinctVersions es → AreApart es → FollowBy e es → has_one_permanent (behind es) ≡ true → assigned (assigns (changes e es)) (recorded es) ≡ Some (recorded (behind es))
+  assigned_behind : (es : Releases) → HasDistinctVersions es → AreApart es → IsOfOneEvent e es → has_one_permanent (behind es) ≡ true → assigned (assigns (changes e es)) (recorded es) ≡ Some (recorded (behind es))
   assigned_behind es distinct apart does one =
-      ap with_one_permanent (set_where (changes e es) (recorded es) (recorded (behind es)) (changes_so es distinct apart) (ap (follow (statuses_of (recorded es))) (said_written es distinct) ∙ does) (in_order_written es distinct)) ∙ kept (recorded (behind es)) (one-recorded (behind es) ∙ one)
+      ap with_one_permanent (set_where (changes e es) (recorded es) (recorded (behind es)) (changes_so es distinct apart) (ap (are_of_one_event (statuses_of (recorded es))) (said_written es distinct) ∙ does) (in_order_written es distinct)) ∙ kept (recorded (behind es)) (one-recorded (behind es) ∙ one)
 
   -- Where no release that changes becomes a one-shot, they are apart.
   module _ (never : (x : Entry) → is_changed e x ≡ true → is_one_shot (after x) ≡ false) where
@@ -594,7 +594,7 @@ statuses_are_of_events given es next so taken =
     let (set, one) = assigned_so (assigns given) es next taken in
     let (assigned, does, order) = set_so given es next set in
     let same = assigned_as_said given es next assigned in
-    by assigned order same (one_event_says_them es (λ v. status_given v given) so (ap (λ l. length (of_status is_permanent l)) same ∙ eqb-true (length (of_status is_permanent next)) 1 one) does)
+    by assigned order same (such_statuses_are_of_one_event es (λ v. status_given v given) so (ap (λ l. length (of_status is_permanent l)) same ∙ eqb-true (length (of_status is_permanent next)) 1 one) does)
   where
     by : assign_all given es ≡ Some next → are_in_order es given ≡ true → with_said (λ v. status_given v given) es ≡ next
         → IsSilent (λ v. status_given v given) es ⊎ IsOfNode es (with_said (λ v. status_given v given) es) (said given es) → ((given ≡ []) × (next ≡ es)) ⊎ IsOfStatuses es next given

@@ -19,7 +19,7 @@ use Rattle.rel_records.specs.Image.{image_record}
 use Rattle.rel_records.specs.Laws.{ImagesWriteTheirOneShots, MakeItInFormat2, OnlyRestartsWriteOneShots}
 use Rattle.rel_records.specs.Lists.{assigned, assigned_in, MakesFrom}
 use Rattle.rel_records.specs.Record.{Assignment, Record, makes, adds, assigns, removes, images}
-use Rattle.status_changes.specs.Statuses.{is_same}
+use Rattle.rel_records.specs.StatusChanges.{is_same}
 use Rattle.rel_records.specs.Writing.{assignment_of, changes, is_changed, record_of}
 
 -- whether one of those has a property that are made of others

@@ -4,6 +4,9 @@ pub mod ReadingLemmas
 pub mod BundleLemmas
 pub mod FormatLemmas
 pub mod ListLemmas
+pub mod StatusLemmas
+pub mod StatusesAfterEvents
+pub mod EventsOfStatuses
 pub mod StatusRecords
 pub mod InvariantLemmas
 pub mod RecordPlaces

@@ -22,7 +22,7 @@ use Rattle.rel_records.specs.Record.{Assignment, Record, makes, adds, assigns, r
 use Rattle.rel_records.specs.Lists.{may_be_assigned, added_by, assign_all, brought_by, completed, if_faultless, made_by, mismatch_in, taken_by, with_one_permanent, assigned, assigned_in, MakesFrom}
 use Rattle.rel_list.proofs.OwnRules.{never_made_again, own_of_step}
 use Rattle.rel_records.proofs.InvariantLemmas.{IsOf, kept_behind}
-pub use Rattle.status_changes.proofs.StatusLemmas.{first_recorded, rest_recorded}
+pub use Rattle.rel_records.proofs.StatusLemmas.{first_recorded, rest_recorded}
 
 -- after each record exactly one release is permanent
 pub assigned_so : (r : Record) (es next : Releases) → assigned r es ≡ Some next → (taken_by r es ≡ Some next) × (has_one_permanent next ≡ true)

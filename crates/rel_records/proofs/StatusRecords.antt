@@ -9,8 +9,8 @@ use Rattle.rel_list.specs.Event.{assigned_status, list_assigned, with_statuses}
 use Rattle.rel_list.specs.Laws.{bundles_of}
 use Rattle.rel_list.specs.Releases.{Bundle, Releases, bundle_in, status_of}
 use Rattle.rel_list.proofs.Orderly.{differs_back, first_differs, none_behind, same_version}
-use Rattle.status_changes.specs.Laws.{IsSilent}
-use Rattle.status_changes.specs.Statuses.{follow, said_by, statuses_of, with_said}
+use Rattle.rel_records.specs.StatusLaws.{IsSilent}
+use Rattle.rel_records.specs.StatusChanges.{are_of_one_event, said_by, statuses_of, with_said}
 use Rattle.rel_records.specs.Given.{are_in_order, leads, others, said, status_given}
 use Rattle.rel_records.specs.declared.assignment.Assignment.{Assignment as AssignmentInMemory}
 use Rattle.rel_records.specs.Lists.{assign_all, may_be_assigned, set_by}
@@ -18,16 +18,16 @@ use Rattle.rel_records.specs.Parts.{assignment_read}
 use Rattle.rel_records.specs.Record.{Assignment}
 
 -- what a record of statuses makes of a list, its assignments make; what it says follows, in the order of the list
-pub set_so : (given : List Assignment) (es next : Releases) → set_by given es ≡ Some next → (assign_all given es ≡ Some next) × (follow (statuses_of es) (said given es) ≡ true) × (are_in_order es given ≡ true)
+pub set_so : (given : List Assignment) (es next : Releases) → set_by given es ≡ Some next → (assign_all given es ≡ Some next) × (are_of_one_event (statuses_of es) (said given es) ≡ true) × (are_in_order es given ≡ true)
 set_so given es next is =
-    let (may, assigned) = passed (are_in_order es given && follow (statuses_of es) (said given es)) (assign_all given es) next is in
-    let (order, does) = both (are_in_order es given) (follow (statuses_of es) (said given es)) may in
+    let (may, assigned) = passed (are_in_order es given && are_of_one_event (statuses_of es) (said given es)) (assign_all given es) next is in
+    let (order, does) = both (are_in_order es given) (are_of_one_event (statuses_of es) (said given es)) may in
     (assigned, does, order)
 
 -- and the other way round
-pub set_where : (given : List Assignment) (es next : Releases) → assign_all given es ≡ Some next → follow (statuses_of es) (said given es) ≡ true → are_in_order es given ≡ true → set_by given es ≡ Some next
+pub set_where : (given : List Assignment) (es next : Releases) → assign_all given es ≡ Some next → are_of_one_event (statuses_of es) (said given es) ≡ true → are_in_order es given ≡ true → set_by given es ≡ Some next
 set_where given es next assigned does order =
-    ap (λ b. if b && follow (statuses_of es) (said given es) then assign_all given es else None) order
+    ap (λ b. if b && are_of_one_event (statuses_of es) (said given es) then assign_all given es else None) order
     ∙ ap (λ b. if b then assign_all given es else None) does
     ∙ assigned
 
@@ -147,20 +147,20 @@ others_none v (a ∷ given) none =
     ap (λ b. cond (not b) (a ∷ others v given) (others v given)) (no_status (bytes_eq a.vsn v) a.status own) ∙ ap (λ l. a ∷ l) (others_none v given rest)
 
 -- What a record of statuses makes of a list, by its parts. The order may be that of the list after its assignments.
-pub set_taken : (given : List Assignment) (es next : Releases) → follow (statuses_of es) (said given es) ≡ true → assign_all given es ≡ Some next → are_in_order next given ≡ true → set_by given es ≡ Some next
+pub set_taken : (given : List Assignment) (es next : Releases) → are_of_one_event (statuses_of es) (said given es) ≡ true → assign_all given es ≡ Some next → are_in_order next given ≡ true → set_by given es ≡ Some next
 set_taken given es next does assigned order = set_where given es next assigned does (sym (in_order_behind given es next assigned) ∙ order)
 
 and_false : (b : Bool) → (b && false) ≡ false
 and_false true = refl
 and_false false = refl
 
-pub never_follows : (given : List Assignment) (es : Releases) → follow (statuses_of es) (said given es) ≡ false → set_by given es ≡ None
+pub never_follows : (given : List Assignment) (es : Releases) → are_of_one_event (statuses_of es) (said given es) ≡ false → set_by given es ≡ None
 never_follows given es not_so =
     ap (λ b. if are_in_order es given && b then assign_all given es else None) not_so
     ∙ ap (λ b. if b then assign_all given es else None) (and_false (are_in_order es given))
 
 pub never_assigned : (given : List Assignment) (es : Releases) → assign_all given es ≡ None → set_by given es ≡ None
-never_assigned given es none = go (are_in_order es given && follow (statuses_of es) (said given es))
+never_assigned given es none = go (are_in_order es given && are_of_one_event (statuses_of es) (said given es))
   where
     go : (b : Bool) → (if b then assign_all given es else None) ≡ None
     go true = none
@@ -168,7 +168,7 @@ never_assigned given es none = go (are_in_order es given && follow (statuses_of 
 
 pub out_of_order : (given : List Assignment) (es next : Releases) → assign_all given es ≡ Some next → are_in_order next given ≡ false → set_by given es ≡ None
 out_of_order given es next assigned not_so =
-    ap (λ b. if b && follow (statuses_of es) (said given es) then assign_all given es else None) (sym (in_order_behind given es next assigned) ∙ not_so)
+    ap (λ b. if b && are_of_one_event (statuses_of es) (said given es) then assign_all given es else None) (sym (in_order_behind given es next assigned) ∙ not_so)
 
 -- the assignments to others, as they lie in memory
 pub map-others : (v : List ℕ) (given : List AssignmentInMemory) → map assignment_read (filter (λ (a : AssignmentInMemory). not (bytes_eq (string_bytes a.vsn) v)) given) ≡ others v (map assignment_read given)

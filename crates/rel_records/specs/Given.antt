@@ -5,7 +5,7 @@ use Rattle.std.specs.Str.{bytes_eq}
 use Rattle.rel_list.specs.declared.status.Status.{Status}
 use Rattle.rel_list.specs.Releases.{Releases}
 use Rattle.rel_records.specs.Record.{Assignment}
-use Rattle.status_changes.specs.Statuses.{said_by}
+use Rattle.rel_records.specs.StatusChanges.{said_by}
 
 -- the status that it gives to the release of this version: the last one, where it names the release twice
 abbrev pub status_given : List ℕ → List Assignment → Option Status

@@ -13,7 +13,7 @@ use Rattle.rel_records.specs.Reading.{Spells}
 use Rattle.rel_records.specs.Record.{Assignment, Record, assigns, images}
 use Rattle.rel_records.specs.Startable.{AreStartable}
 use Rattle.rel_records.specs.Writing.{record_of, IsWithinLimits}
-use Rattle.status_changes.specs.Laws.{IsOfNode}
+use Rattle.rel_records.specs.StatusLaws.{IsOfNode}
 
 -- A body spells one record at most.
 abbrev pub SpellsOneRecord : Type 0

@@ -3,6 +3,8 @@ pub mod ReleaseTerm
 pub mod Record
 pub mod Reading
 pub mod Format
+pub mod StatusChanges
+pub mod StatusLaws
 pub mod Given
 pub mod Lists
 pub mod Writing

@@ -18,7 +18,7 @@ use Rattle.rel_records.specs.Given.{are_in_order, said}
 use Rattle.rel_records.specs.Limits.{most_releases, is_small, has_one_permanent}
 use Rattle.rel_records.specs.Record.{Assignment, Imaged, Record, makes, adds, assigns, removes, images}
 use Rattle.rel_records.specs.Reading.{Spells}
-use Rattle.status_changes.specs.Statuses.{follow, statuses_of}
+use Rattle.rel_records.specs.StatusChanges.{are_of_one_event, statuses_of}
 
 -- An assignment may be made to a release that is there. None makes a release current, or a second one a one-shot.
 abbrev pub may_be_assigned : Assignment → Releases → Bool
@@ -31,7 +31,7 @@ assign_all (a ∷ given) es = if may_be_assigned a es then assign_all given (lis
 
 -- What a record of statuses makes of a list, where it says in the order of the list what one event says.
 abbrev pub set_by : List Assignment → Releases → Option Releases
-set_by given es = if are_in_order es given && follow (statuses_of es) (said given es) then assign_all given es else None
+set_by given es = if are_in_order es given && are_of_one_event (statuses_of es) (said given es) then assign_all given es else None
 
 -- The library of an application, and those that are left of the new ones: the list's own, or else the first of these, if it is
 -- that of the application.

@@ -10,7 +10,7 @@ use Rattle.rel_list.specs.Event.Event.{made, unpacked, removed}
 use Rattle.rel_records.specs.Limits.{most_releases, is_small, has_one_permanent}
 use Rattle.rel_records.specs.Lists.{assigned, mismatch_in}
 use Rattle.rel_records.specs.Record.{Assignment, Record, makes, adds, assigns, removes}
-use Rattle.status_changes.specs.Statuses.{is_same}
+use Rattle.rel_records.specs.StatusChanges.{is_same}
 
 -- the event changes the status of this release
 abbrev pub is_changed : Event → Entry → Bool

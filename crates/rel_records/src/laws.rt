@@ -1,5 +1,6 @@
 //! Laws of records and lists, whatever reads and writes them. Each function does nothing: its contract is the law.
 ghost use Rattle.rel_records.specs.Laws.{SpellsOneRecord, MakeOrHaveABadOne, MakeOneList, NeverBothRecords, MakeItInFormat2, RecordsDetermineEvents, OnlyRestartsWriteOneShots, ImagesWriteTheirOneShots, RecordsAreOfEvents, StatusesAreOfEvents, MakeVersions, MakeLibraries, MakeStartableReleases};
+ghost use Rattle.rel_records.specs.StatusLaws.{EventsSaySuchStatuses, SuchStatusesAreOfOneEvent};
 
 /// A body spells one record at most.
 pub fn a_body_spells_one_record()
@@ -52,4 +53,17 @@ pub fn records_make_libraries()
 /// A boot can start each release of a list that records make.
 pub fn records_make_startable_releases()
     ensures { MakeStartableReleases }
+{}
+
+/// What an event says of each release is accepted as that of one event, after the statuses before it as records report them: of a
+/// list whose versions are distinct, and of which one release at most is current or a one-shot, where the event brings no release
+/// and takes none out.
+pub fn an_event_says_its_statuses()
+    ensures { EventsSaySuchStatuses }
+{}
+
+/// What is accepted as said by one event is said of no release, or by one event of the releases of a node that records report so,
+/// and the event makes those statuses of it. Exactly one release is permanent before and after.
+pub fn such_statuses_are_of_one_event()
+    ensures { SuchStatusesAreOfOneEvent }
 {}

@@ -26,6 +26,7 @@ mod new_release;
 mod reading;
 mod releases;
 mod restoration;
+mod status_changes;
 mod statuses;
 mod words;
 

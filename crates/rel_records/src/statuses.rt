@@ -3,12 +3,12 @@ ghost use Rattle.std.specs.Prelude.{◌≡◌, map, None, Some, IsErrOf, IfOk, O
 ghost use Rattle.rel_records.specs.Given.{are_in_order, leads, others, said, status_given};
 ghost use Rattle.rel_records.specs.Lists.{set_by};
 ghost use Rattle.rel_records.specs.Parts.{assignment_read};
-ghost use Rattle.status_changes.specs.Statuses.{statuses_of};
+ghost use Rattle.rel_records.specs.StatusChanges.{statuses_of};
 
 use crate::assignment::{Assignment, assign_all};
 use crate::fault::RecordFault;
+use crate::status_changes::are_of_one_event;
 use rel_list::{ReleaseList, Status};
-use status_changes::follow;
 use std::alloc::{AllocError, Global};
 
 // Gives releases these statuses, where an event says them in the order of the list.
@@ -25,7 +25,7 @@ pub(crate) fn set_statuses(
 {
     let before = statuses_of(alloc, list)?;
     let said = said_of(alloc, list, given.as_slice())?;
-    if !follow(before.as_slice(), said.as_slice()) {
+    if !are_of_one_event(before.as_slice(), said.as_slice()) {
         return Err(RecordFault::Bad);
     }
     assign_all(list, given.as_slice())?;

@@ -1,6 +1,6 @@
 use Rattle.std.proofs.Common.{◌≡◌, map, take}
 use Rattle.rel_list.specs.Keyed.{entry_of}
-use Rattle.status_changes.specs.Statuses.{statuses_of}
+use Rattle.rel_records.specs.StatusChanges.{statuses_of}
 use Rattle.rel_records.proofs.statuses.statuses_of.Given as goal
 
 -- the statuses of the releases so far

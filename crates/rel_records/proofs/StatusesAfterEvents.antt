@@ -17,9 +17,9 @@ use Rattle.rel_list.proofs.BootLaws.{first_is_none}
 use Rattle.rel_list.proofs.Orderly.{at_most_once, first_differs, none_behind, same_version, status_or}
 use Rattle.rel_list.proofs.OwnRules.{own_of_step}
 use Rattle.rel_list.proofs.RestLaws.{not_temporary}
-use Rattle.status_changes.specs.Laws.{EventsMakeThemFollow}
-use Rattle.status_changes.specs.Statuses.{are_installed, each_is, follow, how_many_are, is_booted, is_installed, is_left_or_changed, is_promoted, is_replaced, is_unsaid, said_in, said_where, statuses_of}
-use Rattle.status_changes.proofs.StatusLemmas.{one_counted}
+use Rattle.rel_records.specs.StatusLaws.{EventsSaySuchStatuses}
+use Rattle.rel_records.specs.StatusChanges.{are_installed, each_is, are_of_one_event, how_many_are, is_booted, is_installed, is_left_or_changed, is_promoted, is_replaced, is_unsaid, said_in, said_where, statuses_of}
+use Rattle.rel_records.proofs.StatusLemmas.{one_counted}
 
 -- By the status of one release
 
@@ -208,24 +208,24 @@ or_true : (b : Bool) → (b || true) ≡ true
 or_true true = refl
 or_true false = refl
 
-follow-boot : (ss : List Status) (os : List (Option Status)) → each_is is_booted ss os ≡ true → follow ss os ≡ true
-follow-boot ss os are =
+are_of_one_event-boot : (ss : List Status) (os : List (Option Status)) → each_is is_booted ss os ≡ true → are_of_one_event ss os ≡ true
+are_of_one_event-boot ss os are =
     ap (λ b. ((each_is is_unsaid ss os || b) || are_installed ss os) || each_is is_promoted ss os) are
     ∙ ap (λ b. (b || are_installed ss os) || each_is is_promoted ss os) (or_true (each_is is_unsaid ss os))
 
-follow-installation : (ss : List Status) (os : List (Option Status)) → are_installed ss os ≡ true → follow ss os ≡ true
-follow-installation ss os are =
+are_of_one_event-installation : (ss : List Status) (os : List (Option Status)) → are_installed ss os ≡ true → are_of_one_event ss os ≡ true
+are_of_one_event-installation ss os are =
     ap (λ b. ((each_is is_unsaid ss os || each_is is_booted ss os) || b) || each_is is_promoted ss os) are
     ∙ ap (λ b. b || each_is is_promoted ss os) (or_true (each_is is_unsaid ss os || each_is is_booted ss os))
 
-follow-promotion : (ss : List Status) (os : List (Option Status)) → each_is is_promoted ss os ≡ true → follow ss os ≡ true
-follow-promotion ss os are =
+are_of_one_event-promotion : (ss : List Status) (os : List (Option Status)) → each_is is_promoted ss os ≡ true → are_of_one_event ss os ≡ true
+are_of_one_event-promotion ss os are =
     ap (λ b. ((each_is is_unsaid ss os || each_is is_booted ss os) || are_installed ss os) || b) are
     ∙ or_true ((each_is is_unsaid ss os || each_is is_booted ss os) || are_installed ss os)
 
 -- what the event says follows the statuses before it
-abbrev pub FollowBy : Event → Releases → Type 0
-FollowBy e es = follow (statuses_of (recorded es)) (said_in e es) ≡ true
+abbrev pub IsOfOneEvent : Event → Releases → Type 0
+IsOfOneEvent e es = are_of_one_event (statuses_of (recorded es)) (said_in e es) ≡ true
 
 -- Where a release is a one-shot, none is current.
 none_temporary : (es : Releases) → length (of_status is_temporary es) ≡ 0 → AllByRecursion (λ (x : Entry). is_temporary x.status ≡ false) es
@@ -277,10 +277,10 @@ none_beside (x ∷ es) few has = go x.status refl (none_beside es)
     go Permanent is others = more (ap is_temporary is) others
     go OneShot is others = (ap is_current is, none_current es (rest (ap is_temporary is)))
 
-pub behind_boot : (es : Releases) → IsOrderly es → FollowBy boot es
+pub behind_boot : (es : Releases) → IsOrderly es → IsOfOneEvent boot es
 behind_boot es orderly = elim (cases_Bool (has_one_shot es)) [
-  | inl has ↦ follow-boot (before (status_behind boot) es) (said (status_behind boot) es) (all_are (status_behind boot) is_booted es (each_booted es (none_beside es orderly.one_temporary has)))
-  | inr none ↦ follow-installation (before (status_behind boot) es) (said (status_behind boot) es) (all_installed (status_behind boot) (λ (x : Entry). is_temporary x.status) es orderly orderly.one_temporary (each_alone es (none_waits es none)))
+  | inl has ↦ are_of_one_event-boot (before (status_behind boot) es) (said (status_behind boot) es) (all_are (status_behind boot) is_booted es (each_booted es (none_beside es orderly.one_temporary has)))
+  | inr none ↦ are_of_one_event-installation (before (status_behind boot) es) (said (status_behind boot) es) (all_installed (status_behind boot) (λ (x : Entry). is_temporary x.status) es orderly orderly.one_temporary (each_alone es (none_waits es none)))
 ]
   where
     each_booted : (es : Releases) → AllByRecursion (λ (x : Entry). is_current x.status ≡ false) es → AllByRecursion (λ (x : Entry). own (status_behind boot) is_booted x ≡ true) es
@@ -291,50 +291,50 @@ behind_boot es orderly = elim (cases_Bool (has_one_shot es)) [
     each_alone [] all = tt
     each_alone (x ∷ es) all = (by_boot_alone x.status all.0, each_alone es all.1)
 
-pub behind_installation : (v : List ℕ) (es : Releases) → IsOrderly es → has_one_shot es ≡ false → FollowBy (installed v) es
-behind_installation v es orderly none = follow-installation (before (status_behind (installed v)) es) (said (status_behind (installed v)) es) (all_installed (status_behind (installed v)) (λ (x : Entry). bytes_eq v x.release.vsn) es orderly (at_most_once v es orderly.distinct) (each_does es (none_waits es none)))
+pub behind_installation : (v : List ℕ) (es : Releases) → IsOrderly es → has_one_shot es ≡ false → IsOfOneEvent (installed v) es
+behind_installation v es orderly none = are_of_one_event-installation (before (status_behind (installed v)) es) (said (status_behind (installed v)) es) (all_installed (status_behind (installed v)) (λ (x : Entry). bytes_eq v x.release.vsn) es orderly (at_most_once v es orderly.distinct) (each_does es (none_waits es none)))
   where
     each_does : (es : Releases) → NoneWaits es → DoInstall (status_behind (installed v)) (λ (x : Entry). bytes_eq v x.release.vsn) es
     each_does [] all = tt
     each_does (x ∷ es) all = (by_installation (bytes_eq v x.release.vsn) x.status all.0, each_does es all.1)
 
-pub behind_restart : (v : List ℕ) (es : Releases) → IsOrderly es → has_one_shot es ≡ false → FollowBy (restart_installed v) es
-behind_restart v es orderly none = follow-installation (before (status_behind (restart_installed v)) es) (said (status_behind (restart_installed v)) es) (all_installed (status_behind (restart_installed v)) (λ (x : Entry). bytes_eq v x.release.vsn) es orderly (at_most_once v es orderly.distinct) (each_does es (none_waits es none)))
+pub behind_restart : (v : List ℕ) (es : Releases) → IsOrderly es → has_one_shot es ≡ false → IsOfOneEvent (restart_installed v) es
+behind_restart v es orderly none = are_of_one_event-installation (before (status_behind (restart_installed v)) es) (said (status_behind (restart_installed v)) es) (all_installed (status_behind (restart_installed v)) (λ (x : Entry). bytes_eq v x.release.vsn) es orderly (at_most_once v es orderly.distinct) (each_does es (none_waits es none)))
   where
     each_does : (es : Releases) → NoneWaits es → DoInstall (status_behind (restart_installed v)) (λ (x : Entry). bytes_eq v x.release.vsn) es
     each_does [] all = tt
     each_does (x ∷ es) all = (by_restart (bytes_eq v x.release.vsn) x.status all.0, each_does es all.1)
 
-promotes : (v : List ℕ) (es : Releases) → has_one_shot es ≡ false → IsNotPermanent v es → FollowBy (made_permanent v) es
-promotes v es none other = follow-promotion (before (status_behind (made_permanent v)) es) (said (status_behind (made_permanent v)) es) (all_are (status_behind (made_permanent v)) is_promoted es (each_does es (none_waits es none) other))
+promotes : (v : List ℕ) (es : Releases) → has_one_shot es ≡ false → IsNotPermanent v es → IsOfOneEvent (made_permanent v) es
+promotes v es none other = are_of_one_event-promotion (before (status_behind (made_permanent v)) es) (said (status_behind (made_permanent v)) es) (all_are (status_behind (made_permanent v)) is_promoted es (each_does es (none_waits es none) other))
   where
     each_does : (es : Releases) → NoneWaits es → IsNotPermanent v es → AllByRecursion (λ (x : Entry). own (status_behind (made_permanent v)) is_promoted x ≡ true) es
     each_does [] all other = tt
     each_does (x ∷ es) all other = (by_promotion (bytes_eq v x.release.vsn) x.status all.0 other.0, each_does es all.1 other.1)
 
-pub behind_promotion : (v : List ℕ) (es : Releases) → HasDistinctVersions es → has_one_shot es ≡ false → may_be_made_permanent (status_of v es) ≡ true → FollowBy (made_permanent v) es
+pub behind_promotion : (v : List ℕ) (es : Releases) → HasDistinctVersions es → has_one_shot es ≡ false → may_be_made_permanent (status_of v es) ≡ true → IsOfOneEvent (made_permanent v) es
 behind_promotion v es distinct none may = promotes v es none (current_or_not v es distinct may)
 
-pub behind_reboot : (v : List ℕ) (es : Releases) → HasDistinctVersions es → has_one_shot es ≡ false → may_be_rebooted (status_of v es) ≡ true → FollowBy (reboot_old v) es
+pub behind_reboot : (v : List ℕ) (es : Releases) → HasDistinctVersions es → has_one_shot es ≡ false → may_be_rebooted (status_of v es) ≡ true → IsOfOneEvent (reboot_old v) es
 behind_reboot v es distinct none may = promotes v es none (old_or_not v es distinct may)
 
-pub events_make_them_follow : EventsMakeThemFollow
-events_make_them_follow (made p) es next keeps orderly is = absurd keeps
-events_make_them_follow (unpacked p) es next keeps orderly is = absurd keeps
-events_make_them_follow (removed v) es next keeps orderly is = absurd keeps
-events_make_them_follow boot es next keeps orderly is =
+pub an_event_says_its_statuses : EventsSaySuchStatuses
+an_event_says_its_statuses (made p) es next keeps orderly is = absurd keeps
+an_event_says_its_statuses (unpacked p) es next keeps orderly is = absurd keeps
+an_event_says_its_statuses (removed v) es next keeps orderly is = absurd keeps
+an_event_says_its_statuses boot es next keeps orderly is =
     behind_boot es orderly
-events_make_them_follow (installed v) es next keeps orderly is =
+an_event_says_its_statuses (installed v) es next keeps orderly is =
     let own = own_of_step (installed v) es next is in
     behind_installation v es orderly own.0
-events_make_them_follow (restart_installed v) es next keeps orderly is =
+an_event_says_its_statuses (restart_installed v) es next keeps orderly is =
     let own = own_of_step (restart_installed v) es next is in
     behind_restart v es orderly own.0
-events_make_them_follow (made_permanent v) es next keeps orderly is =
+an_event_says_its_statuses (made_permanent v) es next keeps orderly is =
     let own = own_of_step (made_permanent v) es next is in
     let (may, there) = passed (may_be_made_permanent (status_of v es)) (Some (list_made_permanent v es)) next own.1 in
     behind_promotion v es orderly.distinct own.0 may
-events_make_them_follow (reboot_old v) es next keeps orderly is =
+an_event_says_its_statuses (reboot_old v) es next keeps orderly is =
     let own = own_of_step (reboot_old v) es next is in
     let (may, there) = passed (may_be_rebooted (status_of v es)) (Some (list_made_permanent v es)) next own.1 in
     behind_reboot v es orderly.distinct own.0 may

@@ -33,7 +33,7 @@ abbrev pub is_unsaid : Status → Option Status → Bool
 is_unsaid s None = true
 is_unsaid s (Some t) = false
 
--- A boot takes a one-shot away, and leaves the others.
+-- A boot says this of a release: it takes a one-shot away, and leaves the others.
 abbrev pub is_booted : Status → Option Status → Bool
 is_booted Unpacked None = true
 is_booted Old None = true
@@ -41,7 +41,7 @@ is_booted Permanent None = true
 is_booted OneShot (Some Unpacked) = true
 is_booted s o = false
 
--- An installation does this to the release that it installs. One that was unpacked is said again.
+-- An installation says this of the release that it installs; records say unpacked of one that was unpacked, too.
 abbrev pub is_installed : Status → Option Status → Bool
 is_installed Unpacked (Some Unpacked) = true
 is_installed Old (Some Unpacked) = true
@@ -49,19 +49,19 @@ is_installed Unpacked (Some OneShot) = true
 is_installed Old (Some OneShot) = true
 is_installed s o = false
 
--- and this to the one that was current
+-- An installation makes the release old that was current, which records report as unpacked.
 abbrev pub is_replaced : Status → Option Status → Bool
 is_replaced Unpacked (Some Old) = true
 is_replaced s o = false
 
--- It leaves the others. No release is a one-shot before it.
+-- An installation leaves a release as it is, and no release is a one-shot before it.
 abbrev pub is_left : Status → Option Status → Bool
 is_left Unpacked None = true
 is_left Old None = true
 is_left Permanent None = true
 is_left s o = false
 
--- An event that makes another release permanent does this: the former permanent one becomes old.
+-- An event that makes another release permanent says this of a release; the former permanent one becomes old.
 abbrev pub is_promoted : Status → Option Status → Bool
 is_promoted Unpacked None = true
 is_promoted Old None = true
@@ -70,15 +70,15 @@ is_promoted Old (Some Permanent) = true
 is_promoted Permanent (Some Old) = true
 is_promoted s o = false
 
--- this is done to each release
+-- The test holds of what is said of each release.
 abbrev pub each_is : (Status → Option Status → Bool) → List Status → List (Option Status) → Bool
 each_is test before said = list_all (λ p. test p.0 p.1) (zip before said)
 
--- this is done to so many of them
+-- The test holds of what is said of so many releases.
 abbrev pub how_many_are : (Status → Option Status → Bool) → List Status → List (Option Status) → ℕ
 how_many_are test before said = count_by (λ p. test p.0 p.1) (zip before said)
 
--- one of the three is done to a release
+-- An installation says this of a release, whichever that is.
 abbrev pub is_left_or_changed : Status → Option Status → Bool
 is_left_or_changed s o = is_left s o || is_installed s o || is_replaced s o
 
@@ -87,9 +87,10 @@ abbrev pub are_installed : List Status → List (Option Status) → Bool
 are_installed before said =
     each_is is_left_or_changed before said && nat_le (how_many_are is_installed before said) 1 && nat_le (how_many_are is_replaced before said) 1
 
--- One event says this of releases with these statuses, or nothing is said of any. Exactly one is permanent before and after.
-abbrev pub follow : List Status → List (Option Status) → Bool
-follow before said =
+-- This is what one event says of releases with these statuses, or nothing is said of any. Exactly one is permanent before and
+-- after.
+abbrev pub are_of_one_event : List Status → List (Option Status) → Bool
+are_of_one_event before said =
     each_is is_unsaid before said || each_is is_booted before said || are_installed before said || each_is is_promoted before said
 
 -- the statuses of a list

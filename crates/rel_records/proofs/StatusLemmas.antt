@@ -4,7 +4,7 @@ use Rattle.rel_list.specs.declared.status.Status.{Status}
 use Rattle.rel_list.specs.declared.status.Status.TheVariants.{Unpacked, Current, Old, Permanent, OneShot}
 use Rattle.rel_list.specs.Event.{recorded, recorded_status}
 use Rattle.rel_list.specs.Releases.{Entry, Releases}
-use Rattle.status_changes.specs.Statuses.{is_same}
+use Rattle.rel_records.specs.StatusChanges.{is_same}
 
 -- the same statuses
 pub same_so : (s t : Status) → is_same s t ≡ true → s ≡ t

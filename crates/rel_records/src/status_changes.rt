@@ -1,13 +1,13 @@
 // Which statuses one event says.
 ghost use Rattle.std.specs.Prelude.{◌≡◌};
-ghost use Rattle.status_changes.specs.Statuses.{are_installed, each_is, follow, how_many_are, is_booted, is_installed, is_left, is_left_or_changed, is_promoted, is_replaced, is_unsaid};
+ghost use Rattle.rel_records.specs.StatusChanges.{are_installed, each_is, are_of_one_event, how_many_are, is_booted, is_installed, is_left, is_left_or_changed, is_promoted, is_replaced, is_unsaid};
 
 use rel_list::Status;
 
-/// Whether one event says this of releases that have these statuses, each at its place, or nothing is said of any. What stands
-/// before is as records report it: a release that is current, as unpacked. Of lists of two lengths, what both have is compared.
-pub fn follow(before: &[Status], said: &[Option<Status>]) -> bool
-    ensures { result ≡ follow before.now said.now }
+// Whether one event says this of releases that have these statuses, each at its place, or nothing is said of any. What stands
+// before is as records report it: a release that is current, as unpacked. Of lists of two lengths, what both have is compared.
+pub(crate) fn are_of_one_event(before: &[Status], said: &[Option<Status>]) -> bool
+    ensures { result ≡ are_of_one_event before.now said.now }
 {
     are_unsaid(before, said)
         || are_booted(before, said)

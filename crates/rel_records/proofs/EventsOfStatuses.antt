@@ -16,9 +16,9 @@ use Rattle.rel_list.specs.Releases.{Entry, HasDistinctVersions, Releases, has_cu
 use Rattle.rel_list.specs.Status.{is_current, is_one_shot, is_permanent, is_temporary}
 use Rattle.rel_list.proofs.Orderly.{first_differs, is_itself, listed-with_statuses, none_behind, same_version, status_or}
 use Rattle.rel_list.proofs.OwnRules.{step_of_own}
-use Rattle.status_changes.specs.Laws.{IsOfNode, IsSilent, KeepsReleases, OneEventSaysThem}
-use Rattle.status_changes.specs.Statuses.{are_installed, each_is, follow, how_many_are, is_booted, is_installed, is_left, is_left_or_changed, is_promoted, is_replaced, is_unsaid, said_by, said_in, said_where, statuses_of, with_said}
-use Rattle.status_changes.proofs.StatusLemmas.{first_recorded, one_counted, rest_recorded}
+use Rattle.rel_records.specs.StatusLaws.{IsOfNode, IsSilent, KeepsReleases, SuchStatusesAreOfOneEvent}
+use Rattle.rel_records.specs.StatusChanges.{are_installed, each_is, are_of_one_event, how_many_are, is_booted, is_installed, is_left, is_left_or_changed, is_promoted, is_replaced, is_unsaid, said_by, said_in, said_where, statuses_of, with_said}
+use Rattle.rel_records.proofs.StatusLemmas.{first_recorded, one_counted, rest_recorded}
 
 -- By the status of a release and what is said of it
 
@@ -503,7 +503,7 @@ module _ (told : List ℕ → Option Status) where
       says = says_boot es (each_from (Passes is_booted) (λ w s o. said_where (booted_status s) s ≡ o) (λ w s o may. boot_said s o may) es each);
     }
 
-    of_event_or_silent : follow (statuses_of es) (said_by told es) ≡ true → IsSilent told es ⊎ IsSaid
+    of_event_or_silent : are_of_one_event (statuses_of es) (said_by told es) ≡ true → IsSilent told es ⊎ IsSaid
     of_event_or_silent does = by_all (or_cases (each_is is_unsaid ss os || each_is is_booted ss os || are_installed ss os) (each_is is_promoted ss os) does)
       where
         ss : List Status
@@ -533,5 +533,5 @@ module _ (told : List ℕ → Option Status) where
         by_all (inl are) = by_three (or_cases (each_is is_unsaid ss os || each_is is_booted ss os) (are_installed ss os) are)
         by_all (inr are) = inr (promotion (each_passes is_promoted es are))
 
-pub one_event_says_them : OneEventSaysThem
-one_event_says_them es told so one does = of_event_or_silent told es so one does
+pub such_statuses_are_of_one_event : SuchStatusesAreOfOneEvent
+such_statuses_are_of_one_event es told so one does = of_event_or_silent told es so one does

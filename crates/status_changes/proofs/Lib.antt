@@ -1,3 +1,0 @@
-pub mod StatusLemmas
-pub mod StatusesBehindEvents
-pub mod EventsOfStatuses

@@ -1,2 +1,0 @@
-pub mod Statuses
-pub mod Laws
