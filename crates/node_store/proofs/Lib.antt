@@ -6,3 +6,4 @@ pub mod Commits
 pub mod CompactionLemmas
 pub mod FormatLemmas
 pub mod Beginnings
+pub mod OneShotRecords

@@ -3,7 +3,8 @@ ghost use Rattle.std.specs.Prelude.{◌≡◌, ◌+◌, true, false, length, IfE
 ghost use Rattle.rel_list.specs.Event.{event_of};
 ghost use Rattle.rel_list.specs.Laws.{leaves_permanent, makes_one_shot};
 ghost use Rattle.rel_list.specs.Refusal.{brings_release};
-ghost use Rattle.rel_records.specs.Writing.{IsOfListed};
+ghost use Rattle.rel_records.specs.Format.{writes_one_shot};
+ghost use Rattle.rel_records.specs.Writing.{IsOfListed, record_of};
 ghost use Rattle.node_store.specs.Commits.{Commits, IsAppended, IsDone, IsRecordFor};
 ghost use Rattle.node_store.specs.Image.{HasSpace, LeavesBootSpace};
 ghost use Rattle.node_store.specs.Refusals.{CommandRefused, HasNoRoom, IsAllowed};
@@ -56,7 +57,8 @@ impl<D: Disk> NodeStore<D> {
         requires sound { IsSound D.seen D.may_leave self.old }
         requires allowed { IsAllowed (event_of event) self.old }
         requires reported { IsRecordFor body.now (event_of event) (list_in self.old) }
-        requires format { makes_one_shot (event_of event) ≡ true → format_in self.old ≡ 2 }
+        requires format { writes_one_shot (record_of (event_of event) (list_in self.old)) ≡ true
+            → format_in self.old ≡ 2 }
         requires behind { LeavesBootSpace (event_of event) (length body.now)
             (extent_in self.old) (list_in self.old) }
         requires space { HasSpace (extent_in self.old) (length body.now) }

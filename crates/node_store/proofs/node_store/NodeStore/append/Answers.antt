@@ -1,5 +1,6 @@
-use Rattle.std.proofs.Common.{◌≡◌, ◌+◌, length, subst, arith}
+use Rattle.std.proofs.Common.{◌≡◌, ◌+◌, length, sym, ◌∙◌, subst, arith, true≢false}
 use Rattle.rel_list.specs.Event.{event_of}
+use Rattle.rel_records.proofs.FormatLemmas.{only_restarts_write_them}
 use Rattle.node_store.specs.Refusals.{CommandRefused, HasNoRoom}
 use Rattle.node_store.specs.State.{extent_in, list_in, store_extent}
 use Rattle.node_store.specs.declared.node_store.NodeStore.{NodeStore}
@@ -14,6 +15,10 @@ make_room-requires-clause-works g c = (c.requires.sound.ready c.requires.allowed
 pub write-requires-clause-behind : goal.write-requires-clause-behind
 write-requires-clause-behind g c =
     leaves_boot_space (event_of c.args.event) c.requires.other (length c.args.body.now) (store_extent c.make_room.new.store) (list_in c.args.self.now)
+
+-- its record writes no one-shot
+pub write-requires-clause-format : goal.write-requires-clause-format
+write-requires-clause-format g c = λ writes. absurd (true≢false (sym writes ∙ only_restarts_write_them (event_of c.args.event) (list_in c.args.self.now) c.requires.other))
 
 -- there is no room
 pub returns-in_err-make_room-clause-commits : goal.returns-in_err-make_room-clause-commits

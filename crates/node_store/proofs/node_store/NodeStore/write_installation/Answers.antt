@@ -3,13 +3,13 @@ use Rattle.rel_list.specs.Event.{event_of}
 use Rattle.node_store.proofs.FormatLemmas.{commits_nothing, commits_in_format_2, dead_by_it, failed_by_it, sound_in_format_2}
 use Rattle.node_store.proofs.node_store.NodeStore.write_installation.Goals as goal
 
--- no one-shot comes of it
-pub returns-then-not-makes_one_shot-clause-failed : goal.returns-then-not-makes_one_shot-clause-failed
-returns-then-not-makes_one_shot-clause-failed g c =
+-- no one-shot is written
+pub returns-then-not-writes_one_shot-clause-failed : goal.returns-then-not-writes_one_shot-clause-failed
+returns-then-not-writes_one_shot-clause-failed g c =
     failed_by_it g.D.Disk.failures (event_of c.args.event) (length c.args.body.now) c.args.self.now c.write.new.self c.write.result c.write.ensures.refused (c.write.ensures.device c.requires.listed)
 
-pub returns-then-not-makes_one_shot-clause-dead : goal.returns-then-not-makes_one_shot-clause-dead
-returns-then-not-makes_one_shot-clause-dead g c =
+pub returns-then-not-writes_one_shot-clause-dead : goal.returns-then-not-writes_one_shot-clause-dead
+returns-then-not-writes_one_shot-clause-dead g c =
     dead_by_it g.D.Disk.failures (event_of c.args.event) (length c.args.body.now) c.args.self.now c.write.new.self c.write.result c.write.ensures.refused (c.write.ensures.device c.requires.listed) c.write.ensures.dead
 
 -- the format wasn't changed
