@@ -7,3 +7,4 @@ pub mod CompactionLemmas
 pub mod FormatLemmas
 pub mod Beginnings
 pub mod OneShotRecords
+pub mod CommandAnswers
