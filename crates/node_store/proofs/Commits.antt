@@ -40,6 +40,8 @@ use Rattle.start_record.specs.Text.{Versions, AreVersions, start_text as text_of
 use Rattle.rel_list.specs.declared.fault.ListError.{ListError}
 use Rattle.rel_list.specs.declared.fault.ListError.TheVariants as of_list
 use Rattle.rel_list.specs.Laws.{leaves_permanent, makes_one_shot}
+use Rattle.rel_records.specs.Format.{writes_one_shot}
+use Rattle.rel_records.specs.Writing.{record_of}
 use Rattle.rel_list.specs.Refusal.{IsRefusedWith, brings_release, refusal}
 use Rattle.rel_list.proofs.PermanentLaws.{permanent_stays}
 use Rattle.node_store.specs.Start.{started as start_versions}
@@ -240,7 +242,7 @@ module _ {D : Type 0} (v : Ghosts D) (h : NodeStore D) (s : IsSound v.seen v.may
       }
 
   -- A record is appended after a reservation.
-  module _ (alive : is_dead h ≡ false) (reserved : Store D) (same : store.IsSame h.store reserved) (e : Event) (next : Releases) (body : List ℕ) (reported : IsRecordFor body e (list_in h)) (needs : makes_one_shot e ≡ true → store.format_in h.store ≡ 2) (is : step e (list_in h) ≡ Some next) (room_then : HasBootSpace (extent_behind (extent_in h) (length body)) next) where
+  module _ (alive : is_dead h ≡ false) (reserved : Store D) (same : store.IsSame h.store reserved) (e : Event) (next : Releases) (body : List ℕ) (reported : IsRecordFor body e (list_in h)) (needs : writes_one_shot (record_of e (list_in h)) ≡ true → store.format_in h.store ≡ 2) (is : step e (list_in h) ≡ Some next) (room_then : HasBootSpace (extent_behind (extent_in h) (length body)) next) where
     pub reserved_works : store.has_failed reserved ≡ false
     reserved_works = same.failed ∙ (s.ready alive).store.works
 

@@ -6,11 +6,11 @@ use Rattle.rel_list.specs.Event.{Event, recorded, step, list_after}
 use Rattle.rel_list.specs.Event.Event.{restart_installed}
 use Rattle.rel_list.specs.Laws.{makes_one_shot}
 use Rattle.rel_list.proofs.OneShotLaws.{one_shots_come_from_restarts, restarts_are_recorded}
-use Rattle.rel_records.specs.Format.{allows}
+use Rattle.rel_records.specs.Format.{allows, writes_one_shot}
 use Rattle.rel_records.specs.Lists.{assigned, MakesFrom, Makes}
 use Rattle.rel_records.specs.Writing.{record_of}
 use Rattle.rel_records.proofs.EventRecords.{one-recorded}
-use Rattle.rel_records.proofs.FormatLemmas.{allows_without, event_allowed_in_2, only_restarts_write_them, stands_so}
+use Rattle.rel_records.proofs.FormatLemmas.{allows_without, event_allowed_in_2, stands_so}
 use Rattle.rel_records.proofs.ListLemmas.{makes-push, makes_once}
 use Rattle.rel_records.proofs.RecordPlaces.{one_behind}
 use Rattle.rel_store.specs.Records.{records_of, StandsEither, space, records_or_none, end_of}
@@ -151,16 +151,16 @@ pub alone_behind : (e : Event) (es next : Releases) → step e es ≡ Some next 
 alone_behind (restart_installed v) es next is one = restarts_are_recorded v es next is
 alone_behind e es next is one = absurd (true≢false (sym one ∙ one_shots_come_from_restarts e es next refl is))
 
--- A store may have the record of an event, if it is of format 2 where that makes a release a one-shot.
-pub may_have : (format : ℕ) (e : Event) (es : Releases) → (makes_one_shot e ≡ true → format ≡ 2) → allows format (record_of e es) ≡ true
-may_have format e es needs = go (makes_one_shot e) refl
+-- A store may have the record of an event, if it is of format 2 where that writes a one-shot.
+pub may_have : (format : ℕ) (e : Event) (es : Releases) → (writes_one_shot (record_of e es) ≡ true → format ≡ 2) → allows format (record_of e es) ≡ true
+may_have format e es needs = go (writes_one_shot (record_of e es)) refl
   where
-    go : (b : Bool) → makes_one_shot e ≡ b → allows format (record_of e es) ≡ true
+    go : (b : Bool) → writes_one_shot (record_of e es) ≡ b → allows format (record_of e es) ≡ true
     go true is = subst (λ f. allows f (record_of e es) ≡ true) (sym (needs is)) (event_allowed_in_2 e es)
-    go false is = allows_without format (record_of e es) (only_restarts_write_them e es is)
+    go false is = allows_without format (record_of e es) is
 
 -- With the record of an event the store has the records of the list after it.
-pub with_record : (format : ℕ) (e : Event) (es next : Releases) (bodies : List (List ℕ)) (body : List ℕ) → AreRecordsOf format bodies es → IsRecordFor body e es → (makes_one_shot e ≡ true → format ≡ 2) → step e es ≡ Some next
+pub with_record : (format : ℕ) (e : Event) (es next : Releases) (bodies : List (List ℕ)) (body : List ℕ) → AreRecordsOf format bodies es → IsRecordFor body e es → (writes_one_shot (record_of e es) ≡ true → format ≡ 2) → step e es ≡ Some next
     → AreRecordsOf format (bodies ++ body ∷ []) next
 with_record format e es next bodies body are reported needs is =
     let behind : assigned (record_of e es) (recorded es) ≡ Some (recorded next) = reported.reports next is (sym (one-recorded es) ∙ are.makes.1) in
@@ -189,7 +189,7 @@ leaves_boot_space e other size x es next is = no_boot_space (extent_behind x siz
 
 -- So it is while a command appends the record of its event.
 pub while_committing : (format : ℕ) (e : Event) (es next : Releases) (bodies : List (List ℕ)) (body text : List ℕ) (events : List Event)
-    → AreRecordsOf format bodies es → IsRecordFor body e es → (makes_one_shot e ≡ true → format ≡ 2) → step e es ≡ Some next → list_after events ≡ Some es
+    → AreRecordsOf format bodies es → IsRecordFor body e es → (writes_one_shot (record_of e es) ≡ true → format ≡ 2) → step e es ≡ Some next → list_after events ≡ Some es
     → (base : ℕ) (x : Extent) → extent_with_records base bodies ≡ x → HasBootSpace x es → HasBootSpace (extent_behind x (length body)) next → (old : List ℕ) → start_bytes old ≡ text → IsStarted es old
     → (c : List ℕ) → StandsEither bodies body text c × (base_of c ≡ base) × (format_of c ≡ format) → IsStoredAs (uncertain events x e (length body)) c
 while_committing format e es next bodies body text events makes_it reported needs is after base x at room room_then old slot started c either = go (either_image format es next bodies body text makes_it behind base x at room room_then c either)

@@ -6,3 +6,5 @@ pub mod Commits
 pub mod CompactionLemmas
 pub mod FormatLemmas
 pub mod Beginnings
+pub mod OneShotRecords
+pub mod CommandAnswers

@@ -5,3 +5,4 @@ pub mod Events
 pub mod State
 pub mod Commits
 pub mod Refusals
+pub mod Commands

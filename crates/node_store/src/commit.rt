@@ -3,11 +3,13 @@ ghost use Rattle.std.specs.Prelude.{◌≡◌, ◌+◌, true, false, length, IfE
 ghost use Rattle.rel_list.specs.Event.{event_of};
 ghost use Rattle.rel_list.specs.Laws.{leaves_permanent, makes_one_shot};
 ghost use Rattle.rel_list.specs.Refusal.{brings_release};
-ghost use Rattle.rel_records.specs.Writing.{IsOfListed};
-ghost use Rattle.node_store.specs.Commits.{Commits, IsAppended, IsDone, IsRecordFor};
+ghost use Rattle.rel_records.specs.Format.{writes_one_shot};
+ghost use Rattle.rel_records.specs.Writing.{IsOfListed, record_of};
+ghost use Rattle.node_store.specs.Commands.{AppendsEvent, CommitsChange, CommitsEvent};
+ghost use Rattle.node_store.specs.Commits.{IsRecordFor};
 ghost use Rattle.node_store.specs.Image.{HasSpace, LeavesBootSpace};
-ghost use Rattle.node_store.specs.Refusals.{CommandRefused, HasNoRoom, IsAllowed};
-ghost use Rattle.node_store.specs.State.{extent_in, format_in, list_in, is_dead, start_in, store_extent, IsReady, IsSound};
+ghost use Rattle.node_store.specs.Refusals.{HasNoRoom, IsAllowed};
+ghost use Rattle.node_store.specs.State.{extent_in, format_in, list_in, is_dead, start_in, store_extent, IsSound};
 ghost use Rattle.node_command.specs.Taking.{change_size};
 ghost use Rattle.rel_store.specs.State.{has_failed, HasRoom, IsSame as IsSameStore, IsSoundStore};
 
@@ -56,20 +58,15 @@ impl<D: Disk> NodeStore<D> {
         requires sound { IsSound D.seen D.may_leave self.old }
         requires allowed { IsAllowed (event_of event) self.old }
         requires reported { IsRecordFor body.now (event_of event) (list_in self.old) }
-        requires format { makes_one_shot (event_of event) ≡ true → format_in self.old ≡ 2 }
+        requires format { writes_one_shot (record_of (event_of event) (list_in self.old)) ≡ true
+            → format_in self.old ≡ 2 }
         requires behind { LeavesBootSpace (event_of event) (length body.now)
             (extent_in self.old) (list_in self.old) }
         requires space { HasSpace (extent_in self.old) (length body.now) }
         requires room { HasRoom (length body.now) self.old.store }
-        ensures commits { Commits D.Disk (event_of event) (length body.now) self.old self.new }
-        ensures appended { OnOk result
-            (IsAppended D.Disk (event_of event) (length body.now) self.old self.new) }
-        ensures ready { OnOk result (IsReady D.seen D.may_leave self.new) }
-        ensures dead { OnOk result (is_dead self.new ≡ true) }
+        ensures appends { AppendsEvent D.Disk (event_of event) (length body.now)
+            result self.old self.new }
         ensures start { OnOk result (start_in D.seen self.new ≡ start_in D.seen self.old) }
-        ensures format { format_in self.new ≡ format_in self.old }
-        ensures refused { IfErr result (CommandRefused D.failures (event_of event)
-            (length body.now) self.old self.new) }
         ensures device { brings_release (event_of event) ≡ false
             → IfErr result (λ e. e ≡ HandlerError.Device) }
     {
@@ -89,15 +86,9 @@ impl<D: Disk> NodeStore<D> {
         requires allowed { IsAllowed (event_of event) self.old }
         requires reported { IsRecordFor body.now (event_of event) (list_in self.old) }
         requires other { makes_one_shot (event_of event) ≡ false }
-        ensures commits { Commits D.Disk (event_of event) (length body.now) self.old self.new }
-        ensures appended { OnOk result
-            (IsAppended D.Disk (event_of event) (length body.now) self.old self.new) }
-        ensures ready { OnOk result (IsReady D.seen D.may_leave self.new) }
-        ensures dead { OnOk result (is_dead self.new ≡ true) }
+        ensures appends { AppendsEvent D.Disk (event_of event) (length body.now)
+            result self.old self.new }
         ensures start { OnOk result (start_in D.seen self.new ≡ start_in D.seen self.old) }
-        ensures format { format_in self.new ≡ format_in self.old }
-        ensures refused { IfErr result (CommandRefused D.failures (event_of event)
-            (length body.now) self.old self.new) }
     {
         make_room(&mut self.store, alloc, body.len(), 0)?;
         self.write(alloc, event, body)
@@ -109,16 +100,9 @@ impl<D: Disk> NodeStore<D> {
         requires works { is_dead self.old ≡ false }
         requires listed { IsOfListed (event_of event) }
         requires other { makes_one_shot (event_of event) ≡ false }
-        ensures commits { Commits D.Disk (event_of event)
-            (change_size (event_of event) (list_in self.old)) self.old self.new }
-        ensures appended { OnOk result (IsAppended D.Disk (event_of event)
-            (change_size (event_of event) (list_in self.old)) self.old self.new) }
-        ensures ready { OnOk result (IsReady D.seen D.may_leave self.new) }
-        ensures dead { OnOk result (is_dead self.new ≡ true) }
+        ensures appends { AppendsEvent D.Disk (event_of event)
+            (change_size (event_of event) (list_in self.old)) result self.old self.new }
         ensures start { OnOk result (start_in D.seen self.new ≡ start_in D.seen self.old) }
-        ensures format { format_in self.new ≡ format_in self.old }
-        ensures refused { IfErr result (CommandRefused D.failures (event_of event)
-            (change_size (event_of event) (list_in self.old)) self.old self.new) }
     {
         if let Some(why) = self.list.refusal(&event) {
             return Err(HandlerError::from(why));
@@ -134,14 +118,8 @@ impl<D: Disk> NodeStore<D> {
         requires reported { IsRecordFor body.now (event_of event) (list_in self.old) }
         requires other { makes_one_shot (event_of event) ≡ false }
         requires stays { leaves_permanent (event_of event) ≡ true }
-        ensures commits { Commits D.Disk (event_of event) (length body.now) self.old self.new }
-        ensures works { OnOk result (is_dead self.new ≡ false) }
-        ensures done { OnOk result
-            (IsDone D.Disk (event_of event) (length body.now) self.old self.new) }
-        ensures start { OnOk result (start_in D.seen self.new ≡ start_in D.seen self.old) }
-        ensures format { format_in self.new ≡ format_in self.old }
-        ensures refused { IfErr result (CommandRefused D.failures (event_of event)
-            (length body.now) self.old self.new) }
+        ensures { CommitsEvent D.Disk (event_of event) (length body.now)
+            result self.old self.new }
     {
         self.append(alloc, event, body)?;
         self.compact(alloc)?;
@@ -156,15 +134,7 @@ impl<D: Disk> NodeStore<D> {
         requires listed { IsOfListed (event_of event) }
         requires other { makes_one_shot (event_of event) ≡ false }
         requires stays { leaves_permanent (event_of event) ≡ true }
-        ensures commits { Commits D.Disk (event_of event)
-            (change_size (event_of event) (list_in self.old)) self.old self.new }
-        ensures works { OnOk result (is_dead self.new ≡ false) }
-        ensures done { OnOk result (IsDone D.Disk (event_of event)
-            (change_size (event_of event) (list_in self.old)) self.old self.new) }
-        ensures start { OnOk result (start_in D.seen self.new ≡ start_in D.seen self.old) }
-        ensures format { format_in self.new ≡ format_in self.old }
-        ensures refused { IfErr result (CommandRefused D.failures (event_of event)
-            (change_size (event_of event) (list_in self.old)) self.old self.new) }
+        ensures { CommitsChange D.Disk (event_of event) result self.old self.new }
     {
         self.append_change(alloc, event)?;
         self.compact(alloc)?;

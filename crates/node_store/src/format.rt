@@ -1,6 +1,13 @@
 // The format of a node's store.
 ghost use Rattle.std.specs.Prelude.{◌≡◌, ℕ, true, IfErr, OnOk};
+ghost use Rattle.std.specs.List.{list_any};
 ghost use Rattle.rel_disk.specs.Moments.{HasFailed};
+ghost use Rattle.rel_list.specs.Event.{event_of};
+ghost use Rattle.rel_list.specs.Laws.{makes_one_shot};
+ghost use Rattle.rel_list.specs.Status.{is_one_shot};
+ghost use Rattle.rel_records.specs.Format.{writes_one_shot};
+ghost use Rattle.rel_records.specs.Record.{Assignment};
+ghost use Rattle.rel_records.specs.Writing.{changes, record_of};
 ghost use Rattle.node_store.specs.Commits.{Reformats};
 ghost use Rattle.node_store.specs.State.{disk_in, format_in, is_dead, start_in, IsReady};
 ghost use Rattle.rel_store.specs.State.{HasRoom};
@@ -8,6 +15,7 @@ ghost use Rattle.rel_store.specs.State.{HasRoom};
 use crate::NodeStore;
 use node_command::HandlerError;
 use rel_disk::Disk;
+use rel_list::{Event, ReleaseList};
 
 impl<D: Disk> NodeStore<D> {
     // Makes the store one of format 2, in which alone a release is written as a one-shot. Where the device fails in it, the
@@ -31,4 +39,34 @@ impl<D: Disk> NodeStore<D> {
         }
         Ok(())
     }
+}
+
+// Whether the record of an event writes a release of the list as a one-shot. Only that of a restart does, and not where its release
+// is the permanent one.
+pub(crate) fn writes_one_shot(event: &Event, list: &ReleaseList) -> bool
+    ensures { result ≡ writes_one_shot (record_of (event_of event.now) list.now) }
+{
+    makes_one_shot(event) && changes_to_one_shot(event, list)
+}
+
+// Whether an event makes a release of the list a one-shot that wasn't one.
+fn changes_to_one_shot(event: &Event, list: &ReleaseList) -> bool
+    ensures { result ≡ list_any (λ (a : Assignment). is_one_shot a.status)
+        (changes (event_of event.now) list.now) }
+{
+    let releases = list.releases();
+    for listed in releases {
+        let status = event.status_behind(listed.release.vsn.as_str(), listed.status);
+        if status.is_one_shot() && !listed.status.is_one_shot() {
+            return true;
+        }
+    }
+    false
+}
+
+// Whether the event is an installation whose script ends with a restart.
+pub(crate) fn makes_one_shot(event: &Event) -> bool
+    ensures { result ≡ makes_one_shot (event_of event.now) }
+{
+    matches!(event, Event::RestartInstalled(_))
 }

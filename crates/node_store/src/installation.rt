@@ -4,6 +4,8 @@ ghost use Rattle.rel_disk.specs.Moments.{HasFailed};
 ghost use Rattle.rel_list.specs.Event.{event_of};
 ghost use Rattle.rel_list.specs.Laws.{leaves_permanent, makes_one_shot};
 ghost use Rattle.rel_list.specs.Refusal.{brings_release};
+ghost use Rattle.rel_records.specs.Format.{writes_one_shot};
+ghost use Rattle.rel_records.specs.Writing.{record_of};
 ghost use Rattle.rel_store.specs.State.{HasRoom};
 ghost use Rattle.node_store.specs.Commits.{Commits, IsAppended, IsDone, IsRecordFor};
 ghost use Rattle.node_store.specs.Image.{HasSpace, LeavesBootSpace};
@@ -11,6 +13,7 @@ ghost use Rattle.node_store.specs.Refusals.{IsAllowed};
 ghost use Rattle.node_store.specs.State.{disk_in, extent_in, format_in, list_in, is_dead, start_in, HasStarted, IsReady, IsSound};
 
 use crate::NodeStore;
+use crate::format::{makes_one_shot, writes_one_shot};
 use node_command::HandlerError;
 use rel_disk::Disk;
 use rel_list::Event;
@@ -38,9 +41,10 @@ impl<D: Disk> NodeStore<D> {
         ensures done { OnOk result
             (IsDone D.Disk (event_of event) (length body.now) self.old self.new) }
         ensures dead { OnOk result (is_dead self.new ≡ makes_one_shot (event_of event)) }
-        ensures format { OnOk result (makes_one_shot (event_of event) ≡ true
+        ensures format { OnOk result
+            (writes_one_shot (record_of (event_of event) (list_in self.old)) ≡ true
             → format_in self.new ≡ 2) }
-        ensures same_format { makes_one_shot (event_of event) ≡ false
+        ensures same_format { writes_one_shot (record_of (event_of event) (list_in self.old)) ≡ false
             → format_in self.new ≡ format_in self.old }
         ensures started { OnOk result (HasStarted D.may_leave self.new) }
         ensures start { OnOk result (start_in D.seen self.new ≡ start_in D.seen self.old) }
@@ -56,7 +60,8 @@ impl<D: Disk> NodeStore<D> {
         Ok(())
     }
 
-    // Has the list take an installation, and then the store its record. One with a restart makes the store one of format 2 first.
+    // Has the list take an installation, and then the store its record. Where that writes a one-shot, the store becomes one of
+    // format 2 first.
     fn write_installation(
         &mut self,
         alloc: Global,
@@ -76,26 +81,20 @@ impl<D: Disk> NodeStore<D> {
             (IsAppended D.Disk (event_of event) (length body.now) self.old self.new) }
         ensures ready { OnOk result (IsReady D.seen D.may_leave self.new) }
         ensures start { OnOk result (start_in D.seen self.new ≡ start_in D.seen self.old) }
-        ensures format { OnOk result (makes_one_shot (event_of event) ≡ true
+        ensures format { OnOk result
+            (writes_one_shot (record_of (event_of event) (list_in self.old)) ≡ true
             → format_in self.new ≡ 2) }
-        ensures same_format { makes_one_shot (event_of event) ≡ false
+        ensures same_format { writes_one_shot (record_of (event_of event) (list_in self.old)) ≡ false
             → format_in self.new ≡ format_in self.old }
         ensures dead { is_dead self.new ≡ true }
         ensures device { IfErr result (λ e. e ≡ HandlerError.Device) }
         ensures failed { IfErr result (λ _.
             HasFailed (D.failures (disk_in self.old)) (D.failures (disk_in self.new))) }
     {
-        if !makes_one_shot(&event) {
+        if !writes_one_shot(&event, &self.list) {
             return self.write(alloc, event, body);
         }
         self.allow_one_shots()?;
         self.write(alloc, event, body)
     }
-}
-
-// Whether the event is an installation whose script ends with a restart.
-fn makes_one_shot(event: &Event) -> bool
-    ensures { result ≡ makes_one_shot (event_of event.now) }
-{
-    matches!(event, Event::RestartInstalled(_))
 }

@@ -4,10 +4,11 @@ ghost use Rattle.rel_disk.specs.Moments.{HasFailed};
 ghost use Rattle.rel_files.specs.Release.{Release, release_of};
 ghost use Rattle.rel_list.specs.Event.{event_of};
 ghost use Rattle.rel_list.specs.Releases.{release_at};
-ghost use Rattle.node_store.specs.Commits.{Commits, IsAppended, Keeps, MakesPermanent};
+ghost use Rattle.node_store.specs.Commands.{AppendsEvent};
+ghost use Rattle.node_store.specs.Commits.{Keeps, MakesPermanent};
 ghost use Rattle.node_store.specs.Start.{started};
 ghost use Rattle.node_store.specs.Image.{IsImageAt, start_bytes};
-ghost use Rattle.node_store.specs.Refusals.{CommandRefused, IsStartRefusal};
+ghost use Rattle.node_store.specs.Refusals.{IsStartRefusal};
 ghost use Rattle.node_store.specs.State.{disk_in, extent_in, format_in, list_in, is_dead, HasStarted, IsReady, IsSound};
 ghost use Rattle.node_command.specs.Taking.{change_size};
 ghost use Rattle.rel_store.specs.Layout.{slot_with};
@@ -33,16 +34,9 @@ impl<D: Disk> NodeStore<D> {
         requires sound { IsSound D.seen D.may_leave self.old }
         requires works { is_dead self.old ≡ false }
         requires moves { MakesPermanent vsn.now (event_of event) }
-        ensures commits { Commits D.Disk (event_of event)
-            (change_size (event_of event) (list_in self.old)) self.old self.new }
-        ensures appended { OnOk result (IsAppended D.Disk (event_of event)
-            (change_size (event_of event) (list_in self.old)) self.old self.new) }
-        ensures ready { OnOk result (IsReady D.seen D.may_leave self.new) }
+        ensures appends { AppendsEvent D.Disk (event_of event)
+            (change_size (event_of event) (list_in self.old)) result self.old self.new }
         ensures started { OnOk result (HasStarted D.may_leave self.new) }
-        ensures dead { OnOk result (is_dead self.new ≡ true) }
-        ensures format { format_in self.new ≡ format_in self.old }
-        ensures refused { IfErr result (CommandRefused D.failures (event_of event)
-            (change_size (event_of event) (list_in self.old)) self.old self.new) }
     {
         let start = start_at(alloc, &self.list, vsn)?;
         self.append_change(alloc, event)?;

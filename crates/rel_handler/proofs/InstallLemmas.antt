@@ -9,7 +9,8 @@ use Rattle.rel_list.specs.Laws.{leaves_permanent, makes_one_shot}
 use Rattle.rel_list.specs.Refusal.{brings_release, refusal}
 use Rattle.rel_list.specs.Releases.{Releases, has_current, has_one_shot, status_of}
 use Rattle.rel_list.proofs.OwnRules.{own_of_step}
-use Rattle.rel_records.specs.Writing.{IsOfListed}
+use Rattle.rel_records.specs.Format.{writes_one_shot}
+use Rattle.rel_records.specs.Writing.{IsOfListed, record_of}
 use Rattle.relup_file.specs.Script.{restarts}
 use Rattle.relup_file.specs.Search.{FoundForm}
 use Rattle.node_command.specs.Installing.{installation, script_to, unless_listed_refusal}
@@ -23,7 +24,7 @@ use Rattle.node_upgrade.specs.Running.{IsUntouched, NodeState, RunRefused}
 use Rattle.node_upgrade.specs.Upgrade.{IsNoUpgrade, IsUpgrade, UpgradeForm}
 use Rattle.node_store.specs.Image.{boot_size, Extent, extent_behind, HasSpace, LeavesBootSpace}
 use Rattle.node_store.specs.Compaction.{MayReach}
-use Rattle.rel_handler.specs.Installing.{InstallRefused, ends_with_restart, install_event, install_room, install_size, installation_event, must_boot, needs_restart, room_behind}
+use Rattle.rel_handler.specs.Installing.{InstallRefused, ends_with_restart, install_event, install_room, install_size, installs_one_shot, installation_event, must_boot, needs_restart, room_behind}
 use Rattle.node_store.specs.Commits.{Commits, IsDone}
 use Rattle.node_store.specs.Refusals.{HasNoRoom}
 use Rattle.node_store.specs.State.{extent_in, is_dead, list_in, IsSame}
@@ -114,6 +115,9 @@ module _ (vsn : List ℕ) (es : Releases) (f : FoundForm) (found : installation 
 
   pub room_reported : (size room : ℕ) → size ≡ change_size (installation_event asks vsn) es → room ≡ room_behind asks vsn es → size + room ≡ install_room vsn es
   room_reported size room is room_is = ap (λ n. n + room) (size_reported size is) ∙ ap (λ n. install_size vsn es + n) (room_is ∙ ap (λ b. room_behind b vsn es) reported_so)
+
+  pub written_reported : (event : Event) → event ≡ installation_event asks vsn → writes_one_shot (record_of event es) ≡ installs_one_shot vsn es
+  written_reported event is = ap (λ e. writes_one_shot (record_of e es)) (event_reported event is)
 
   pub dead_reported : (event : Event) → event ≡ installation_event asks vsn → makes_one_shot event ≡ needs_restart vsn es
   dead_reported event is = ap makes_one_shot is ∙ (event_makes_one_shot asks vsn ∙ reported_so)

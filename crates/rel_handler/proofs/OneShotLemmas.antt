@@ -1,5 +1,5 @@
 -- A one-shot that a boot takes away.
-use Rattle.std.proofs.Common.{◌≡◌, inl, inr, ⊎_elim, ℕ, ◌+◌, ◌-◌, ◌≤◌, Bool, true, false, List, [], ◌∷◌, ◌++◌, length, length-append, refl, sym, ap, ◌∙◌, subst, arith}
+use Rattle.std.proofs.Common.{◌≡◌, inl, inr, ⊎_elim, ℕ, ◌+◌, ◌-◌, ◌≤◌, Bool, true, false, List, [], ◌∷◌, ◌++◌, length, length-append, refl, sym, ap, ◌∙◌, subst, arith, true≢false}
 use Rattle.rel_disk.specs.declared.disk.Disk.{Ghosts}
 use Rattle.rel_disk.specs.Moments.{LeavesOnly}
 use Rattle.rel_disk.proofs.Moments.{started, weakened, both}
@@ -7,6 +7,7 @@ use Rattle.rel_list.specs.Releases.{Releases, has_one_shot}
 use Rattle.rel_list.specs.Event.{booted, recorded}
 use Rattle.rel_list.specs.Event.Event.{boot}
 use Rattle.rel_list.proofs.BootLaws.{boot_leaves_no_one_shot}
+use Rattle.rel_records.proofs.FormatLemmas.{only_restarts_write_them}
 use Rattle.rel_store.specs.Changed.{LeavesOthers, IsInRecord}
 use Rattle.rel_store.specs.Layout.{base_of, format_of}
 use Rattle.rel_store.specs.Records.{StandsEither, end_of}
@@ -53,7 +54,7 @@ module _ {D : Type 0} (v : Ghosts D) (h : NodeStore D) (ready : IsReady v.seen v
     none = boot_leaves_no_one_shot (list_in h)
 
     are_next : AreRecordsOf h.store.format (store.records_in h.store ++ body ∷ []) next
-    are_next = with_record h.store.format boot (list_in h) next (store.records_in h.store) body ready.list reported (λ never. absurd cc) refl
+    are_next = with_record h.store.format boot (list_in h) next (store.records_in h.store) body ready.list reported (λ writes. absurd (true≢false (sym writes ∙ only_restarts_write_them boot (list_in h) refl))) refl
 
     far : extent_behind (extent_in h) (length body) ≡ booted_extent (extent_in h) (list_in h)
     far = ap (extent_behind (extent_in h)) long ∙ sym (extent_of_one (extent_in h) (list_in h) one)

@@ -4,6 +4,8 @@ use Rattle.rel_disk.specs.Moments.{HasFailed}
 use Rattle.rel_list.specs.Releases.{Releases, has_one_shot}
 use Rattle.rel_list.specs.Event.{Event, list_restarted}
 use Rattle.rel_list.specs.Event.Event.{installed, restart_installed}
+use Rattle.rel_records.specs.Format.{writes_one_shot}
+use Rattle.rel_records.specs.Writing.{record_of}
 use Rattle.relup_file.specs.Script.{restarts}
 use Rattle.relup_file.specs.Search.{FoundForm}
 use Rattle.node_command.specs.Installing.{installation}
@@ -36,6 +38,10 @@ needs_restart vsn es = ends_with_restart (installation vsn es)
 -- its event
 abbrev pub install_event : List ℕ → Releases → Event
 install_event vsn es = installation_event (needs_restart vsn es) vsn
+
+-- The record of the installation of this version writes a one-shot.
+abbrev pub installs_one_shot : List ℕ → Releases → Bool
+installs_one_shot vsn es = writes_one_shot (record_of (install_event vsn es) es)
 
 -- how many bytes the body of its record has
 abbrev pub install_size : List ℕ → Releases → ℕ

@@ -11,11 +11,9 @@ ghost use Rattle.rel_list.specs.Releases.{permanent};
 ghost use Rattle.rel_records.specs.Startable.{AreStartable};
 ghost use Rattle.relup_file.specs.Search.{found_of};
 ghost use Rattle.start_record.specs.Text.{versions_of};
-ghost use Rattle.node_command.specs.Taking.{change_size};
-ghost use Rattle.node_store.specs.Commits.{Commits, IsDone};
-ghost use Rattle.node_store.specs.Refusals.{CommandRefused};
+ghost use Rattle.node_store.specs.Commands.{CommitsChange};
 ghost use Rattle.node_store.specs.Start.{started};
-ghost use Rattle.node_store.specs.State.{disk_in, format_in, list_in, is_dead, start_in, HasStarted, IsSound};
+ghost use Rattle.node_store.specs.State.{disk_in, format_in, list_in, is_dead, IsSound};
 ghost use Rattle.rel_handler.specs.Checking.{checked};
 ghost use Rattle.rel_handler.specs.Moments.{HasRead};
 ghost use Rattle.rel_handler.specs.Refusals.{StartRefused};
@@ -128,14 +126,7 @@ impl<D: Disk> Handler<D> {
     /// compacted.
     pub fn make_permanent(&mut self, alloc: Global, vsn: &str) -> Result<(), HandlerError>
         requires { IsSound D.seen D.may_leave self.old }
-        ensures commits { Commits D.Disk (made_permanent vsn.now)
-            (change_size (made_permanent vsn.now) (list_in self.old)) self.old self.new }
-        ensures done { OnOk result (IsDone D.Disk (made_permanent vsn.now)
-            (change_size (made_permanent vsn.now) (list_in self.old)) self.old self.new) }
-        ensures works { OnOk result (is_dead self.new ≡ false) }
-        ensures format { format_in self.new ≡ format_in self.old }
-        ensures refused { IfErr result (CommandRefused D.failures (made_permanent vsn.now)
-            (change_size (made_permanent vsn.now) (list_in self.old)) self.old self.new) }
+        ensures { CommitsChange D.Disk (made_permanent vsn.now) result self.old self.new }
     {
         if self.node.dead {
             return Err(HandlerError::Dead);
@@ -153,15 +144,7 @@ impl<D: Disk> Handler<D> {
     /// Refusals, in this order: `Dead`, `NoSuchRelease`, `BadStatus`, `Full`; else as `make_permanent`.
     pub fn reboot_old_release(&mut self, alloc: Global, vsn: &str) -> Result<(), HandlerError>
         requires { IsSound D.seen D.may_leave self.old }
-        ensures commits { Commits D.Disk (reboot_old vsn.now)
-            (change_size (reboot_old vsn.now) (list_in self.old)) self.old self.new }
-        ensures done { OnOk result (IsDone D.Disk (reboot_old vsn.now)
-            (change_size (reboot_old vsn.now) (list_in self.old)) self.old self.new) }
-        ensures started { OnOk result (HasStarted D.may_leave self.new) }
-        ensures dead { OnOk result (is_dead self.new ≡ true) }
-        ensures format { format_in self.new ≡ format_in self.old }
-        ensures refused { IfErr result (CommandRefused D.failures (reboot_old vsn.now)
-            (change_size (reboot_old vsn.now) (list_in self.old)) self.old self.new) }
+        ensures { CommitsChange D.Disk (reboot_old vsn.now) result self.old self.new }
     {
         if self.node.dead {
             return Err(HandlerError::Dead);
@@ -177,15 +160,7 @@ impl<D: Disk> Handler<D> {
     /// as of `set_unpacked`.
     pub fn remove_release(&mut self, alloc: Global, vsn: &str) -> Result<(), HandlerError>
         requires { IsSound D.seen D.may_leave self.old }
-        ensures commits { Commits D.Disk (removed vsn.now)
-            (change_size (removed vsn.now) (list_in self.old)) self.old self.new }
-        ensures done { OnOk result (IsDone D.Disk (removed vsn.now)
-            (change_size (removed vsn.now) (list_in self.old)) self.old self.new) }
-        ensures works { OnOk result (is_dead self.new ≡ false) }
-        ensures start { OnOk result (start_in D.seen self.new ≡ start_in D.seen self.old) }
-        ensures format { format_in self.new ≡ format_in self.old }
-        ensures refused { IfErr result (CommandRefused D.failures (removed vsn.now)
-            (change_size (removed vsn.now) (list_in self.old)) self.old self.new) }
+        ensures { CommitsChange D.Disk (removed vsn.now) result self.old self.new }
     {
         if self.node.dead {
             return Err(HandlerError::Dead);

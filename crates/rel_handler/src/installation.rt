@@ -6,14 +6,14 @@
 // as they were (`IsLost`). After a script that ends with a restart the handler is dead too. The release is a one-shot then,
 // unless it is the permanent one: the next boot starts it, and has room for its record, which was asked for together with that of
 // the installation (`install_room`).
-ghost use Rattle.std.specs.Prelude.{◌≡◌, true, false, IfErr, IfOk, OnOk};
+ghost use Rattle.std.specs.Prelude.{◌≡◌, ◌≢◌, true, false, IfErr, IfOk, OnOk};
 ghost use Rattle.node_upgrade.specs.Following.{HoldsNothing};
 ghost use Rattle.loaded_modules.specs.Loaded.{listed_in};
 ghost use Rattle.node_upgrade.specs.Running.{state};
 ghost use Rattle.node_store.specs.Commits.{Commits, IsDone};
 ghost use Rattle.node_store.specs.Image.{HasSpace};
 ghost use Rattle.node_store.specs.State.{extent_in, format_in, list_in, is_dead, start_in, HasStarted, IsSound};
-ghost use Rattle.rel_handler.specs.Installing.{InstallRefused, IsInstalledBy, install_event, install_room, install_size, must_boot, needs_restart};
+ghost use Rattle.rel_handler.specs.Installing.{InstallRefused, IsInstalledBy, install_event, install_room, install_size, installs_one_shot, must_boot, needs_restart};
 
 use crate::Handler;
 use crate::install_record::InstallRecord;
@@ -33,7 +33,8 @@ impl<D: Disk> Handler<D> {
     ///
     /// Where the script ends with a restart of the runtime system, the release becomes a one-shot, which the next boot starts,
     /// once; a permanent one stays permanent. The handler is dead until that boot (`dead`). The store becomes one of format 2
-    /// (`format`), has room for the record of the boot (`room`), and is compacted only where there is no one-shot.
+    /// for a record that writes a one-shot and for no other (`format`, `same_format`), after the script (`refused_format`). It has
+    /// room for the record of the boot (`room`), and is compacted only where there is no one-shot.
     ///
     /// Refusals, in this order: `Dead`, `NoSuchRelease`, `AlreadyInstalled`, `NoMatchingRelup`; `Refused` for a script that isn't
     /// run; `Full`; `Refused` for an instruction before the point of no return. Nothing has changed then. `MustReboot` for one
@@ -61,10 +62,12 @@ impl<D: Disk> Handler<D> {
         ensures room { OnOk result
             (HasSpace (extent_in self.old) (install_room vsn.now (list_in self.old))) }
         ensures dead { OnOk result (is_dead self.new ≡ needs_restart vsn.now (list_in self.old)) }
-        ensures format { OnOk result (needs_restart vsn.now (list_in self.old) ≡ true
+        ensures format { OnOk result (installs_one_shot vsn.now (list_in self.old) ≡ true
             → format_in self.new ≡ 2) }
-        ensures same_format { needs_restart vsn.now (list_in self.old) ≡ false
+        ensures same_format { installs_one_shot vsn.now (list_in self.old) ≡ false
             → format_in self.new ≡ format_in self.old }
+        ensures refused_format { IfErr result (λ e. e ≢ InstallError.Command HandlerError.Device
+            → format_in self.new ≡ format_in self.old) }
         ensures started { OnOk result (HasStarted D.may_leave self.new) }
         ensures start { OnOk result (start_in D.seen self.new ≡ start_in D.seen self.old) }
         ensures installed { IfOk result (λ i. IsInstalledBy vsn.now (list_in self.old)

@@ -10,11 +10,10 @@ ghost use Rattle.rel_list.specs.Event.Event.{unpacked};
 ghost use Rattle.rel_list.specs.Releases.{first_different, status_of};
 ghost use Rattle.rel_records.specs.Limits.{is_small};
 ghost use Rattle.rel_unpack.specs.Unpacking.{brought_of, libraries_of};
-ghost use Rattle.node_store.specs.Commits.{Commits, IsDone};
 ghost use Rattle.node_command.specs.Files.{HasFileTerms, IsWhole, bundle_brought, unpacked_size};
 ghost use Rattle.node_command.specs.Place.{has_room, own_refusal};
-ghost use Rattle.node_store.specs.Refusals.{CommandRefused};
-ghost use Rattle.node_store.specs.State.{format_in, is_dead, list_in, start_in, IsSound};
+ghost use Rattle.node_store.specs.Commands.{CommitsEvent};
+ghost use Rattle.node_store.specs.State.{format_in, is_dead, list_in, IsSound};
 ghost use Rattle.rel_handler.specs.Unpacking.{IsUnpacked, UnpackingRefused};
 
 use crate::Handler;
@@ -82,16 +81,8 @@ fn take_in<D: Disk>(
     requires room { has_room (list_in node.old) ≡ true }
     requires free { own_refusal (brought_of brought) ≡ None }
     requires whole { IsWhole (brought_of brought) }
-    ensures commits { Commits D.Disk (unpacked (bundle_brought (brought_of brought)))
-        (unpacked_size (brought_of brought) (list_in node.old)) node.old node.new }
-    ensures done { OnOk result (IsDone D.Disk (unpacked (bundle_brought (brought_of brought)))
-        (unpacked_size (brought_of brought) (list_in node.old)) node.old node.new) }
-    ensures works { OnOk result (is_dead node.new ≡ false) }
-    ensures start { OnOk result (start_in D.seen node.new ≡ start_in D.seen node.old) }
-    ensures format { format_in node.new ≡ format_in node.old }
-    ensures refused { IfErr result (CommandRefused D.failures
-        (unpacked (bundle_brought (brought_of brought)))
-        (unpacked_size (brought_of brought) (list_in node.old)) node.old node.new) }
+    ensures { CommitsEvent D.Disk (unpacked (bundle_brought (brought_of brought)))
+        (unpacked_size (brought_of brought) (list_in node.old)) result node.old node.new }
 {
     let NewBundle {
         rel,

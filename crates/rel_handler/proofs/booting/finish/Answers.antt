@@ -1,11 +1,11 @@
-use Rattle.std.proofs.Common.{◌≡◌, Some, sym, ap, ◌∙◌, subst}
+use Rattle.std.proofs.Common.{◌≡◌, Some, sym, ◌∙◌, subst}
 use Rattle.rel_files.specs.Release.{release_of}
 use Rattle.rel_list.specs.Releases.{permanent}
 use Rattle.rel_records.proofs.EventRecords.{one-recorded}
 use Rattle.rel_store.specs.State.{records_in}
 use Rattle.start_record.specs.Text.{AreVersions, versions_of}
 use Rattle.rel_handler.specs.Booting.{FinishRefused}
-use Rattle.node_store.specs.State.{disk_in, list_in}
+use Rattle.node_store.specs.State.{list_in}
 use Rattle.rel_handler.specs.declared.error.BootError.TheVariants.{Device, NoMemory}
 use Rattle.node_store.proofs.Commits.{have_versions, read_nothing}
 use Rattle.node_command.proofs.Refusals.{refuses_with}

@@ -1,5 +1,4 @@
 use Rattle.std.proofs.Common.{◌≡◌, Ok, sym, ap, ◌∙◌, subst, length, map}
-use Rattle.std.specs.Prelude.{IfErr, OnOk}
 use Rattle.library.specs.InMemory.{shared_of}
 use Rattle.rel_list.specs.Event.Event.{unpacked}
 use Rattle.rel_list.specs.Keyed.{bundle_of}
@@ -9,25 +8,29 @@ use Rattle.rel_records.specs.Reading.{Spells}
 use Rattle.rel_records.specs.Writing.{new_libraries, CanBeCarried}
 use Rattle.rel_store.specs.State.{records_in}
 use Rattle.rel_unpack.specs.Unpacking.{brought_of}
-use Rattle.node_store.specs.Commits.{Commits, IsDone, IsRecordFor}
-use Rattle.node_store.specs.Refusals.{CommandRefused}
+use Rattle.node_store.specs.Commands.{CommitsEvent}
+use Rattle.node_store.specs.Commits.{IsRecordFor}
+use Rattle.node_command.specs.declared.error.HandlerError.TheVariants.{NoMemory}
 use Rattle.node_command.specs.Files.{bundle_brought, unpacked_size}
 use Rattle.node_store.specs.State.{list_in}
 use Rattle.node_command.specs.Taking.{commanded}
-use Rattle.node_store.proofs.Commits.{have_libraries, unchanged, unpacked_reported}
+use Rattle.node_store.proofs.CommandAnswers.{refused_at_once}
+use Rattle.node_store.proofs.Commits.{all_same, have_libraries, unpacked_reported}
 use Rattle.node_command.proofs.ReleaseLemmas.{carried_rel, carried_relup, carried_says, own_libraries, shared_bundle, takes_it, written_size}
 use Rattle.rel_handler.proofs.unpacking.take_in.Goals as goal
 
 -- no memory for its libraries, or for its record
-pub returns-in_err-libraries-clause-commits : goal.returns-in_err-libraries-clause-commits
-returns-in_err-libraries-clause-commits g c =
+pub returns-in_err-libraries : goal.returns-in_err-libraries
+returns-in_err-libraries g c =
+    let h = c.args.node.now in
     let b = brought_of c.args.brought in
-    unchanged g.D.Disk c.args.node.now c.requires.sound (g.met.D.Disk.only_now _) (unpacked (bundle_brought b)) (unpacked_size b (list_in c.args.node.now))
+    refused_at_once g.D.Disk h c.requires.sound (g.met.D.Disk.only_now _) (unpacked (bundle_brought b)) (unpacked_size b (list_in h)) c.from_residual.result NoMemory c.from_residual.ensures (c.requires.alive, all_same h)
 
-pub returns-in_err-body-clause-commits : goal.returns-in_err-body-clause-commits
-returns-in_err-body-clause-commits g c =
+pub returns-in_err-body : goal.returns-in_err-body
+returns-in_err-body g c =
+    let h = c.args.node.now in
     let b = brought_of c.args.brought in
-    unchanged g.D.Disk c.args.node.now c.requires.sound (g.met.D.Disk.only_now _) (unpacked (bundle_brought b)) (unpacked_size b (list_in c.args.node.now))
+    refused_at_once g.D.Disk h c.requires.sound (g.met.D.Disk.only_now _) (unpacked (bundle_brought b)) (unpacked_size b (list_in h)) c.from_residual-in_err-body.result NoMemory c.from_residual-in_err-body.ensures (c.requires.alive, all_same h)
 
 -- a record can carry it
 pub unpacked_body-requires-clause-rel : goal.unpacked_body-requires-clause-rel
@@ -76,8 +79,9 @@ commit-requires-clause-reported g c =
     (subst (λ ls. Spells c.as_str.result.now (adds p.release (new_libraries (list_in h) ls) p.relup)) (ap (map shared_of) c.as_slice.ensures.value ∙ own) spelled)
     have c.requires.whole.complete takes.1)
 
-pub returns-clause-commits : goal.returns-clause-commits
-returns-clause-commits g c =
+-- the event was committed, or that was refused
+pub returns : goal.returns
+returns g c =
     let h = c.args.node.now in
     let b = brought_of c.args.brought in
     let n = c.new_bundle-rel.result in
@@ -85,29 +89,5 @@ returns-clause-commits g c =
     let own = own_libraries (list_in h) b (bundle_of n.bundle) (map shared_of c.in_ok-libraries.libraries.items) have c.requires.whole.carried c.requires.agree c.new_bundle-rel.ensures.bundle c.in_ok-libraries.ensures in
     let same = shared_bundle b (bundle_of n.bundle) (map shared_of c.in_ok-libraries.libraries.items) c.new_bundle-rel.ensures.bundle own in
     let long = written_size b (list_in h) (files_of n.rel n.relup) (map shared_of c.as_slice.result.now) c.as_str.result.now c.new_bundle-rel.ensures.terms (ap (map shared_of) c.as_slice.ensures.value ∙ own) (λ r o. c.as_str.ensures.value ∙ c.in_ok-body.ensures.body r o) in
-    subst (λ m. Commits g.D.Disk (unpacked (bundle_brought b)) m h c.commit.new.self) long
-    (subst (λ q. Commits g.D.Disk (unpacked q) (length c.as_str.result.now) h c.commit.new.self) same c.commit.ensures.commits)
-
-pub returns-clause-done : goal.returns-clause-done
-returns-clause-done g c =
-    let h = c.args.node.now in
-    let b = brought_of c.args.brought in
-    let n = c.new_bundle-rel.result in
-    let have = have_libraries h.store.format (records_in h.store) (list_in h) (c.requires.sound.ready c.requires.alive).list in
-    let own = own_libraries (list_in h) b (bundle_of n.bundle) (map shared_of c.in_ok-libraries.libraries.items) have c.requires.whole.carried c.requires.agree c.new_bundle-rel.ensures.bundle c.in_ok-libraries.ensures in
-    let same = shared_bundle b (bundle_of n.bundle) (map shared_of c.in_ok-libraries.libraries.items) c.new_bundle-rel.ensures.bundle own in
-    let long = written_size b (list_in h) (files_of n.rel n.relup) (map shared_of c.as_slice.result.now) c.as_str.result.now c.new_bundle-rel.ensures.terms (ap (map shared_of) c.as_slice.ensures.value ∙ own) (λ r o. c.as_str.ensures.value ∙ c.in_ok-body.ensures.body r o) in
-    subst (λ m. OnOk c.commit.result (IsDone g.D.Disk (unpacked (bundle_brought b)) m h c.commit.new.self)) long
-    (subst (λ q. OnOk c.commit.result (IsDone g.D.Disk (unpacked q) (length c.as_str.result.now) h c.commit.new.self)) same c.commit.ensures.done)
-
-pub returns-clause-refused : goal.returns-clause-refused
-returns-clause-refused g c =
-    let h = c.args.node.now in
-    let b = brought_of c.args.brought in
-    let n = c.new_bundle-rel.result in
-    let have = have_libraries h.store.format (records_in h.store) (list_in h) (c.requires.sound.ready c.requires.alive).list in
-    let own = own_libraries (list_in h) b (bundle_of n.bundle) (map shared_of c.in_ok-libraries.libraries.items) have c.requires.whole.carried c.requires.agree c.new_bundle-rel.ensures.bundle c.in_ok-libraries.ensures in
-    let same = shared_bundle b (bundle_of n.bundle) (map shared_of c.in_ok-libraries.libraries.items) c.new_bundle-rel.ensures.bundle own in
-    let long = written_size b (list_in h) (files_of n.rel n.relup) (map shared_of c.as_slice.result.now) c.as_str.result.now c.new_bundle-rel.ensures.terms (ap (map shared_of) c.as_slice.ensures.value ∙ own) (λ r o. c.as_str.ensures.value ∙ c.in_ok-body.ensures.body r o) in
-    subst (λ m. IfErr c.commit.result (CommandRefused g.D.Disk.failures (unpacked (bundle_brought b)) m h c.commit.new.self)) long
-    (subst (λ q. IfErr c.commit.result (CommandRefused g.D.Disk.failures (unpacked q) (length c.as_str.result.now) h c.commit.new.self)) same c.commit.ensures.refused)
+    subst (λ m. CommitsEvent g.D.Disk (unpacked (bundle_brought b)) m c.commit.result h c.commit.new.self) long
+    (subst (λ q. CommitsEvent g.D.Disk (unpacked q) (length c.as_str.result.now) c.commit.result h c.commit.new.self) same c.commit.ensures)

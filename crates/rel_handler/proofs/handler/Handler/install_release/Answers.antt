@@ -21,7 +21,7 @@ use Rattle.node_store.specs.Refusals.{HasNoRoom}
 use Rattle.node_store.specs.State.{disk_in, extent_in, list_in, store_extent}
 use Rattle.node_store.proofs.Commits.{all_same, extent_kept, have_versions, rested, same_with, unchanged}
 use Rattle.node_store.proofs.CompactionLemmas.{with_dead}
-use Rattle.rel_handler.proofs.InstallLemmas.{committed, dead_reported, done_behind, event_brings_none, event_stays, event_reported, installation_is_commanded, no_room_for, no_upgrade, not_run, not_run_commits, room_for_body, room_left, room_reported, script_allows, size_reported}
+use Rattle.rel_handler.proofs.InstallLemmas.{committed, dead_reported, done_behind, event_brings_none, event_stays, event_reported, written_reported, installation_is_commanded, no_room_for, no_upgrade, not_run, not_run_commits, room_for_body, room_left, room_reported, script_allows, size_reported}
 use Rattle.rel_handler.proofs.handler.Handler.install_release.Goals as goal
 
 -- there is no script that may begin
@@ -229,3 +229,10 @@ pub returns-clause-installed : goal.returns-clause-installed
 returns-clause-installed g c =
     rw (← c.self.view_is)
     (upgrade_of c.in_ok-upgrade.upgrade, c.in_ok-upgrade.ensures.found, c.in-Ok.ensures.installed)
+
+-- the format
+pub returns-clause-format : goal.returns-clause-format
+returns-clause-format g c =
+    rw (← c.self.view_is)
+    (λ writes. c.in_ok-commit_installation.ensures.format
+    (written_reported c.args.vsn.now (list_in c.self.inside.node) (upgrade_of c.in_ok-upgrade.upgrade).found c.in_ok-upgrade.ensures.found.found c.restarts.result c.restarts.ensures _ c.in_ok-event.ensures.event ∙ writes))

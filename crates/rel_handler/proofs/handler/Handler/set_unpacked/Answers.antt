@@ -120,7 +120,7 @@ returns-clause-unpacked g c =
       free = brought_free (brought_of b) h.list (still_agree h.list c.in_ok-brought.brought b same agree) (still_free (has_room h.list) c.in_ok-brought.brought b same (subst (λ r. refusal_with r (brought_of c.in_ok-brought.brought) ≡ None) c.has_room.ensures c.in_ok-brought-2.ensures.free));
       commits = c.in_ok-take_in.ensures.commits;
       done = c.in_ok-take_in.ensures.done;
-      works = c.in_ok-take_in.ensures.works;
-      start = c.in_ok-take_in.ensures.start;
+      works = c.in_ok-take_in.ensures.dead;
+      start = c.in_ok-take_in.ensures.start refl;
       version = search rules;
     })
