@@ -127,7 +127,8 @@ fn calls_by_four<R: Threads + Wait + Sync + Clock + CpuClock + Eprint>(
     by_four(rt, what, first, second)
 }
 
-// Calls of one process, and of four at once. The words of eight slots side by side lie in one line of a processor's cache.
+// Calls of one process, and of four at once. The table lays the words of slots that are 32 apart side by side, eight of them in
+// one line of a processor's cache.
 fn calls_at<R: Threads + Wait + Sync + Clock + CpuClock + Eprint>(
     rt: &R,
     table: &ProcTable,
@@ -138,13 +139,15 @@ fn calls_at<R: Threads + Wait + Sync + Clock + CpuClock + Eprint>(
     let of_one = "calls of one process";
     let side_by_side = "calls of four processes side by side";
     let apart = "calls of four processes in slots apart";
+    let in_one_line = "calls of four processes in one line of the cache";
     let pid = Pid::new(0, 1)?;
     by_one(rt, of_one, Calls::new(table, seat, pid))?;
     let two = two_clients(table, seat, 0, 0)?;
     by_two(rt, of_one, two)?;
     calls_by_four(rt, of_one, table, seat, [0, 0, 0, 0])?;
     calls_by_four(rt, side_by_side, table, seat, [0, 1, 2, 3])?;
-    calls_by_four(rt, apart, table, seat, [8, 24, 40, 56])
+    calls_by_four(rt, apart, table, seat, [0, 9, 18, 27])?;
+    calls_by_four(rt, in_one_line, table, seat, [0, 32, 64, 96])
 }
 
 // Calls the processes of a new table.

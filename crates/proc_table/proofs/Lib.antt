@@ -7,8 +7,9 @@ pub mod StepKinds
 pub mod JoinLemmas
 pub mod Runs
 pub mod WordLemmas
-pub mod StepLemmas
 pub mod Slots
+pub mod PlaceLemmas
+pub mod StepLemmas
 pub mod PartViews
 pub mod PassLemmas
 pub mod HoldLemmas

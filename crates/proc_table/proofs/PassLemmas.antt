@@ -17,6 +17,7 @@ use Rattle.proc_history.specs.Outcomes.{outcome_in, state_in, after_call, call_e
 use Rattle.proc_table.specs.Views.{seen, mine, is_out, taken}
 use Rattle.proc_table.specs.Agrees.{slots}
 use Rattle.proc_history.specs.Events.{MayAdd}
+use Rattle.proc_table.specs.Places.{LiesAt}
 use Rattle.proc_table.specs.Steps.{Me, Ready, Fresh, Took, Adding, InHand, given, Known}
 use Rattle.proc_table.specs.Seats.{IsPass}
 use Rattle.proc_table.specs.Calls.{Looked, Called, Answers, Shows, tried_of, peeked_of}
@@ -68,18 +69,18 @@ front_or y [] = y
 front_or y (x ∷ xs) = x.1
 
 -- what is lent of a slot in hand is its value
-pub lent : (p : ℕ) (me : Me) (x : Value) → InHand p me → me.1 ≡ (p, x) ∷ rest me.1 → (x ≡ replay (seen me.0 p)) × (rest me.1 ≡ [])
-lent p me x hand is =
+pub lent : (p i : ℕ) (me : Me) (x : Value) → InHand p me → me.1 ≡ (i, x) ∷ rest me.1 → (x ≡ replay (seen me.0 p)) × (rest me.1 ≡ [])
+lent p i me x hand is =
     let y = replay (seen me.0 p) in
     (ap (front_or y) (sym is) ∙ ap (front_or y) hand.value, ap rest hand.value)
 
 -- a seat that has a slot in hand may add a call of its process
-pub call_adds : (p round input : ℕ) (me : Me) (x y : Value) (o : Option Outcome) → InHand p me → me.0.number ≢ 0 → me.1 ≡ (p, x) ∷ rest me.1
-    → o ≡ outcome_in round input x → y ≡ after_call x input o → Adding (call_entries me.0.number input o) p (me.0, (p, y) ∷ rest me.1)
-call_adds p round input me x y o hand pass lends is next =
+pub call_adds : (p i round input : ℕ) (me : Me) (x y : Value) (o : Option Outcome) → LiesAt p i → InHand p me → me.0.number ≢ 0 → me.1 ≡ (i, x) ∷ rest me.1
+    → o ≡ outcome_in round input x → y ≡ after_call x input o → Adding (call_entries me.0.number input o) p (me.0, (i, y) ∷ rest me.1)
+call_adds p i round input me x y o at hand pass lends is next =
     let es = call_entries me.0.number input o in
     let h = seen me.0 p in
-    let l = lent p me x hand lends in
+    let l = lent p i me x hand lends in
     let is' : o ≡ outcome_in round input (replay h) = is ∙ ap (outcome_in round input) l.0 in
     let left : y ≡ replay (h ++ es) = next ∙ (ap (λ z. after_call z input o) l.0 ∙ (sym (replay_call me.0.number input (replay h) o) ∙ sym (replay-append nothing h es))) in
     record {
@@ -87,7 +88,7 @@ call_adds p round input me x y o hand pass lends is next =
       out = hand.out;
       may = may_call me.0.number input o pass;
       legal = legal-append nothing h es hand.legal (legal_call me.0.number round input (replay h) o pass is');
-      value = λ i. (p, left i) ∷ l.1 i;
+      value = λ j. (at.is j, left j) ∷ l.1 j;
     }
 
 pub is_taken : (p : ℕ) (v : View) (h : List HistoryEntry) → p < slots → length v.parts ≡ slots → PartNow p v (taken v p h) h (mine v p) true false

@@ -10,6 +10,7 @@ pub mod Views
 pub mod Agrees
 pub mod Moves
 pub mod Words
+pub mod Places
 pub mod Steps
 pub mod Seats
 pub mod Calls

@@ -9,9 +9,10 @@ use Rattle.proc_table.specs.Parts.{Guest, part, part_of}
 use Rattle.proc_history.specs.Histories.{replay, IsLegal}
 use Rattle.proc_table.specs.Views.{seen, mine, is_out, with_part, taken, found_more, no_guest}
 use Rattle.proc_table.specs.Agrees.{slots}
+use Rattle.proc_table.specs.Places.{place_of, slot_at, hand}
 use Rattle.proc_history.specs.Events.{MayAdd}
 
--- a view, and the slots that are out with it
+-- a view, and the values that are out with it, each with the place of its slot
 abbrev pub Me : Type 0
 Me = table.Me Value View
 
@@ -34,7 +35,7 @@ pub record Fresh (v : View) (p : ℕ) (h : List HistoryEntry) : Type 0 where
 pub record Took (p : ℕ) (me w : Me) : Type 0 where
   pub h : List HistoryEntry
   pub fresh : Fresh me.0 p h
-  pub is : w ≡ (taken me.0 p h, (p, replay h) ∷ me.1)
+  pub is : w ≡ (taken me.0 p h, (place_of p, replay h) ∷ me.1)
 
 -- another has the slot: a pass at word 1, the handler at word 2
 pub record Missed (p n : ℕ) (me w : Me) : Type 0 where
@@ -42,7 +43,7 @@ pub record Missed (p n : ℕ) (me w : Me) : Type 0 where
   pub is : w ≡ (found_more me.0 p n, me.1)
 
 abbrev pub took_or_missed : table.Step Value → Me → ℕ → Me → Type 0
-took_or_missed st me n w = MatchBool (n == 0) (Took st.word me w) (Missed st.word n me w)
+took_or_missed st me n w = MatchBool (n == 0) (Took (slot_at st.word) me w) (Missed (slot_at st.word) n me w)
 
 -- The seat may add these entries to the slot's history and give back its value, which is then what the history leaves.
 pub record Adding (entries : List HistoryEntry) (p : ℕ) (me : Me) : Type 0 where
@@ -50,22 +51,22 @@ pub record Adding (entries : List HistoryEntry) (p : ℕ) (me : Me) : Type 0 whe
   pub out : is_out me.0 p ≡ true
   pub may : MayAdd me.0.number entries
   pub legal : IsLegal (seen me.0 p ++ entries)
-  pub value : me.1 ≡ (p, replay (seen me.0 p ++ entries)) ∷ []
+  pub value : me.1 ≡ hand p (replay (seen me.0 p ++ entries))
 
 abbrev pub given : View → ℕ → List HistoryEntry → View
 given v p entries = with_part v p (part (seen v p ++ entries) (mine v p ++ entries) false false)
 
 abbrev pub gave : List HistoryEntry → table.Step Value → Me → ℕ → Me → Type 0
-gave entries st me n w = w ≡ (given me.0 st.word entries, [])
+gave entries st me n w = w ≡ (given me.0 (slot_at st.word) entries, [])
 
 abbrev pub with_laid : View → ℕ → Bool → View
 with_laid v p laid = with_part v p (part (seen v p) (mine v p) true laid)
 
 abbrev pub laid_down : table.Step Value → Me → ℕ → Me → Type 0
-laid_down st me n w = w ≡ (with_laid me.0 st.word true, [])
+laid_down st me n w = w ≡ (with_laid me.0 (slot_at st.word) true, [])
 
 abbrev pub lifted : table.Step Value → Me → ℕ → Me → Type 0
-lifted st me n w = (y : Value) × (w ≡ (with_laid me.0 st.word false, (st.word, y) ∷ []))
+lifted st me n w = (y : Value) × (w ≡ (with_laid me.0 (slot_at st.word) false, (st.word, y) ∷ []))
 
 -- what was seen of each slot is legal, and the own entries in it are `mine`
 pub record Known (v : View) : Type 0 where
@@ -95,4 +96,4 @@ pub record InHand (p : ℕ) (me : Me) : Type 0 where
   pub ready : Ready me.0
   pub out : is_out me.0 p ≡ true
   pub legal : IsLegal (seen me.0 p)
-  pub value : me.1 ≡ (p, replay (seen me.0 p)) ∷ []
+  pub value : me.1 ≡ hand p (replay (seen me.0 p))

@@ -6,6 +6,7 @@ ghost use Rattle.proc_history.specs.Outcomes.{outcome_in, state_in, call_entries
 ghost use Rattle.proc_table.specs.Steps.{Adding, InHand, given};
 ghost use Rattle.proc_table.specs.Views.{seen};
 
+use crate::place::place_of;
 use crate::rule::Adds;
 use crate::{Pass, Peeked, Pid, ProcTable, Tried, View};
 use atomic_table::Seat;
@@ -59,8 +60,9 @@ impl ProcTable {
         ensures gave { seat.new.me
             ≡ (given seat.old.me.0 pid.slot (call_entries seat.old.me.0.number input result), []) }
     {
+        let place = place_of(pid.slot);
         let outcome = seat
-            .slot_mut(&self.table.shared, pid.slot)
+            .slot_mut(&self.table.shared, place)
             .call(pid.round, input);
         self.give_call::<Brand>(seat, pid, input, outcome);
         outcome
@@ -94,7 +96,8 @@ impl ProcTable {
         ensures state { result ≡ state_in pid.round (replay (seen seat.old.me.0 pid.slot)) }
         ensures gave { seat.new.me ≡ (given seat.old.me.0 pid.slot [], []) }
     {
-        let state = seat.slot_mut(&self.table.shared, pid.slot).state(pid.round);
+        let place = place_of(pid.slot);
+        let state = seat.slot_mut(&self.table.shared, place).state(pid.round);
         self.give::<Brand>(seat, pid.slot);
         state
     }

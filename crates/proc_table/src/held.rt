@@ -15,6 +15,7 @@ ghost use Rattle.proc_history.specs.Values.{after, MayCome};
 ghost use Rattle.proc_table.specs.Views.{seen, is_out};
 
 use crate::free::note;
+use crate::place::place_of;
 use crate::rule::Adds;
 use crate::{HandlerSeat, Pid, ProcTable, View};
 use atomic_table::Seat;
@@ -214,7 +215,7 @@ impl ProcTable {
         ensures gave { seat.new.me ≡ (given (with_laid seat.old.me.0 slot false) slot E.added, []) }
     {
         self.lift(seat, slot);
-        let _laid = self.table.shared.exchange(seat, slot, value);
+        let _laid = self.table.shared.exchange(seat, place_of(slot), value);
         self.give::<E>(seat, slot);
     }
 
@@ -227,7 +228,8 @@ impl ProcTable {
         ensures value { result ≡ replay (seen seat.old.me.0 pid.slot) }
         ensures laid { seat.new.me ≡ (with_laid seat.old.me.0 pid.slot true, []) }
     {
-        let value = self.table.shared.exchange(seat, pid.slot, Value::nothing());
+        let place = place_of(pid.slot);
+        let value = self.table.shared.exchange(seat, place, Value::nothing());
         self.lay(seat, pid.slot);
         value
     }

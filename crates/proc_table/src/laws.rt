@@ -2,6 +2,7 @@
 ghost use Rattle.proc_table.specs.Alone.{AloneSeesAll};
 ghost use Rattle.proc_table.specs.Free.{BeginsTakeOne, HandlerKnows};
 ghost use Rattle.proc_table.specs.Moves.{RunsAgree, ReachedAgrees, HeldAlone};
+ghost use Rattle.proc_table.specs.Places.{SlotsLieApart};
 ghost use Rattle.proc_table.specs.Together.{TwoClients, CallsStandApart};
 ghost use Rattle.proc_table.specs.Waits.{HoldsAndReleases};
 ghost use Rattle.proc_table.specs.Words.{WordsShow};
@@ -58,4 +59,10 @@ pub fn a_begin_takes_one_free_slot()
 /// While the handler has lent no pass, it has seen all of each history: what it holds, after waiting or not, is what it knew.
 pub fn a_handler_alone_sees_all()
     ensures { AloneSeesAll }
+{}
+
+/// Each slot has a place of its own in the base table. Neighbouring slots, and any two of the lowest 32, have places that are
+/// eight or more apart.
+pub fn neighbouring_slots_lie_apart()
+    ensures { SlotsLieApart }
 {}

@@ -12,8 +12,9 @@
 //! [`HandlerSeat::lowest_free`] reports where a process can begin, and [`ProcTable::begin_lowest`] begins one there
 //! (specs/Free). While the handler has lent no pass, nobody else adds to a history, and [`ProcTable::call_alone`] says
 //! all of its call (specs/Alone). Words, values and what each seat knows agree at any time (specs/Agrees). The table
-//! keeps that a run of the kinds of step leads to what it is (specs/Moves); the functions of `laws` say that every run
-//! keeps agreement.
+//! keeps that a run of the kinds of step leads to what it is in the order of its slots (specs/Moves); the functions of
+//! `laws` say that every run keeps agreement. Each slot lies at a place of its own, neighbouring slots far apart
+//! (specs/Places), so that clients of neighbouring processes share no line of the cache.
 //!
 //! Only tested: that a call is answered where nobody has the process. Trusted: the toolchain alone, `atomic_table` with
 //! it.
@@ -28,6 +29,7 @@ mod held;
 pub mod laws;
 mod pass;
 mod pid;
+mod place;
 mod rule;
 mod table;
 mod view;

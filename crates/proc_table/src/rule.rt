@@ -2,7 +2,7 @@
 ghost use Rattle.std.specs.Prelude.{List, []};
 ghost use Rattle.proc_history.specs.Events.{HistoryEntry};
 ghost use Rattle.proc_table.specs.Agrees.{slots};
-ghost use Rattle.proc_table.specs.Moves.{Reached};
+ghost use Rattle.proc_table.specs.Places.{ReachedBySlot};
 ghost use Rattle.proc_table.specs.Steps.{took_or_missed, gave, laid_down, lifted, learnt};
 ghost use Rattle.proc_table.specs.Views.{handler_view, one_more, new_pass, joined, gone};
 
@@ -11,11 +11,11 @@ use atomic_table::{Join, Play, Split, TableRule};
 use proc_history::Value;
 use std::marker::{Brand, PhantomData};
 
-/// The rule: some run of the kinds of step leads from the start to what the table is.
+/// The rule: some run of the kinds of step leads from the start to what the table is, in the order of the slots.
 pub struct Agreement;
 
 impl TableRule<Value, View, ()> for Agreement {
-    ghost holds = { λ _. Reached };
+    ghost holds = { λ _. ReachedBySlot };
 
     ghost first = { λ _. handler_view slots };
 }

@@ -4,10 +4,12 @@ ghost use Rattle.atomic_table.specs.Seated.{TableId, table_id_coded};
 ghost use Rattle.proc_table.specs.Agrees.{slots};
 ghost use Rattle.proc_history.specs.declared.value.Value.{Value};
 ghost use Rattle.proc_table.specs.Parts.{part_of};
+ghost use Rattle.proc_table.specs.Places.{hand};
 ghost use Rattle.proc_table.specs.Steps.{Ready, Took, Missed, Adding, given, with_laid, Learnt};
 ghost use Rattle.proc_table.specs.Views.{word_of, is_out, one_more, new_pass, joined};
 
 use crate::View;
+use crate::place::place_of;
 use crate::rule::{Adds, Agreement, Cut, Give, Glue, Lay, Learn, Lift, Take};
 use atomic_table::{Seat, Table};
 use proc_history::Value;
@@ -46,9 +48,10 @@ impl ProcTable {
         ensures reported { MatchBool (result == 0)
             (Took slot seat.old.me seat.new.me) (Missed slot result seat.old.me seat.new.me) }
     {
+        let place = place_of(slot);
         self.table
             .shared
-            .compare_exchange::<Take>(seat, slot, 0, mark)
+            .compare_exchange::<Take>(seat, place, 0, mark)
     }
 
     // Puts the value back, with these entries after the history.
@@ -59,7 +62,8 @@ impl ProcTable {
         ensures table { seat.new.table_id ≡ seat.old.table_id }
         ensures gave { seat.new.me ≡ (given seat.old.me.0 slot E.added, []) }
     {
-        self.table.shared.store::<Give<E>>(seat, slot, 0);
+        let place = place_of(slot);
+        self.table.shared.store::<Give<E>>(seat, place, 0);
     }
 
     // Lays the value down in the slot, which stays out.
@@ -69,11 +73,12 @@ impl ProcTable {
         requires ready { Ready seat.old.me.0 }
         requires handler { seat.old.me.0.number ≡ 0 }
         requires out { is_out seat.old.me.0 slot ≡ true }
-        requires has { (y : Value) × (seat.old.me.1 ≡ (slot, y) ∷ []) }
+        requires has { (y : Value) × (seat.old.me.1 ≡ hand slot y) }
         ensures table { seat.new.table_id ≡ seat.old.table_id }
         ensures laid { seat.new.me ≡ (with_laid seat.old.me.0 slot true, []) }
     {
-        self.table.shared.load::<Lay>(seat, slot);
+        let place = place_of(slot);
+        self.table.shared.load::<Lay>(seat, place);
     }
 
     // Takes up the value that was laid down.
@@ -87,9 +92,10 @@ impl ProcTable {
         requires empty { seat.old.me.1 ≡ [] }
         ensures table { seat.new.table_id ≡ seat.old.table_id }
         ensures lifted { (y : Value)
-            × (seat.new.me ≡ (with_laid seat.old.me.0 slot false, (slot, y) ∷ [])) }
+            × (seat.new.me ≡ (with_laid seat.old.me.0 slot false, hand slot y)) }
     {
-        self.table.shared.load::<Lift>(seat, slot);
+        let place = place_of(slot);
+        self.table.shared.load::<Lift>(seat, place);
     }
 
     // Asks the table about what the seat knows.

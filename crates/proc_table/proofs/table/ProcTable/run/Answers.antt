@@ -9,5 +9,5 @@ slot_mut-requires c = (search rules, (replay (seen c.args.seat.now.me.0 c.args.p
 
 pub give_call-requires-clause-adds : goal.give_call-requires-clause-adds
 give_call-requires-clause-adds c =
-    call_adds c.args.pid.slot c.args.pid.round c.args.input c.args.seat.now.me c.slot_mut.result.now c.call-outcome.new.self c.call-outcome.result
-    c.requires.hand c.requires.pass c.slot_mut.ensures.value c.call-outcome.ensures.outcome c.call-outcome.ensures.value
+    call_adds c.args.pid.slot c.place_of-place.result c.args.pid.round c.args.input c.args.seat.now.me c.slot_mut.result.now c.call-outcome.new.self c.call-outcome.result
+    c.place_of-place.ensures c.requires.hand c.requires.pass c.slot_mut.ensures.value c.call-outcome.ensures.outcome c.call-outcome.ensures.value
