@@ -119,7 +119,7 @@ impl<D: Disk> Handler<D> {
     }
 
     /// Makes the current release, of this version, the permanent one: the list is committed, then the start record, and then a
-    /// long store is compacted. At `Ok` both are acknowledged (`done`; `sound` of `commits` has `started`).
+    /// long store is compacted. At `Ok` both are acknowledged (`done`, `started`).
     ///
     /// Refusals, in this order: `Dead`, `NoSuchRelease`, `BadStatus`, `Full`; `NoMemory` as of `set_unpacked`. After a
     /// `Device` the list has the event or not, the start record is the old one or the new, and a store with both may be
