@@ -1,6 +1,6 @@
 -- What a call answers that commits an event, from what its parts leave.
-use Rattle.std.proofs.Common.{◌≡◌, ℕ, true, false, List, Result, Ok, Err, refl, sym, ap, ◌∙◌, subst, rules, true≢false}
-use Rattle.std.specs.Prelude.{IfErr, IsErr, IsErrAnd, OnOk}
+use Rattle.std.proofs.Common.{◌≡◌, inl, inr, ℕ, Bool, true, false, List, Result, Ok, Err, refl, sym, ap, ◌∙◌, subst, true≢false}
+use Rattle.std.specs.Prelude.{IsErr, IsErrAnd}
 use Rattle.rel_disk.specs.declared.disk.Disk.{Ghosts}
 use Rattle.rel_disk.specs.Moments.{HasFailed}
 use Rattle.rel_list.specs.Event.{Event}
@@ -10,13 +10,13 @@ use Rattle.node_command.specs.declared.error.HandlerError.{HandlerError}
 use Rattle.node_command.specs.declared.error.HandlerError.TheVariants.{Dead, Device, Exists, Full, NoMemory}
 use Rattle.node_store.specs.Commands.{AppendsEvent, CommitsEvent, asks_for_boot}
 use Rattle.node_command.specs.Taking.{commanded}
-use Rattle.node_store.specs.Commits.{Commits, Compacts, IsCompacted}
+use Rattle.node_store.specs.Commits.{Commits, Compacts, IsCompacted, MakesPermanent}
 use Rattle.node_store.specs.Image.{extent_behind, HasSpace}
 use Rattle.node_store.specs.Refusals.{CommandRefused}
 use Rattle.node_store.specs.State.{disk_in, format_in, list_in, start_in, IsSame, IsSound}
 use Rattle.node_store.specs.declared.node_store.NodeStore.{NodeStore}
-use Rattle.node_store.proofs.Commits.{commits_behind, revived, unchanged}
-use Rattle.node_store.proofs.CompactionLemmas.{commits_alive, commits_compacting, fails_compacting, is_done, is_done_with, right_still, HasCommitted}
+use Rattle.node_store.proofs.Commits.{commits_behind, lost_commits, revived, unchanged}
+use Rattle.node_store.proofs.CompactionLemmas.{commits_alive, commits_compacting, fails_compacting, is_done_with, right_still, with_dead, HasCommitted}
 
 -- A call that answers this error appended no record.
 pub refused_append : {D X : Type 0} (v : Ghosts D) (e : Event) (size : ℕ) (old new : NodeStore D) → Commits v e size old new → format_in new ≡ format_in old
@@ -94,6 +94,11 @@ asks_for_none (restart_installed vsn) other leaves = absurd (true≢false other)
 asks_for_none (made_permanent vsn) other leaves = refl
 asks_for_none (reboot_old vsn) other leaves = absurd (true≢false (sym leaves))
 
+-- An event that makes a release the permanent one doesn't leave the permanent release.
+pub moves_start : (vsn : List ℕ) (e : Event) → MakesPermanent vsn e → leaves_permanent e ≡ false
+moves_start vsn e (inl is) = ap leaves_permanent is
+moves_start vsn e (inr is) = ap leaves_permanent is
+
 -- A command committed its event, and then had the store compacted.
 module _ {D X : Type 0} (v : Ghosts D) (old : NodeStore D) (e : Event) (size : ℕ) (mid : NodeStore D) (committed : HasCommitted v e size old mid) (reads : (d : D) → v.may_leave d (v.seen d)) (new : NodeStore D) (compacts : Compacts v mid new) (format : format_in new ≡ format_in old) where
   -- The device failed in the compaction.
@@ -115,21 +120,16 @@ module _ {D X : Type 0} (v : Ghosts D) (old : NodeStore D) (e : Event) (size : �
           refused = tt;
         }
 
-    -- The node is dead until it boots.
-    pub done_until_boot : asks_for_boot e ≡ true → CommitsEvent v e size (Ok x) old new
-    done_until_boot asks =
+    -- The node works again, or is dead where the command asks for a boot.
+    pub settled_command : makes_one_shot e ≡ false → (dead : Bool) → dead ≡ asks_for_boot e → CommitsEvent v e size (Ok x) old (with_dead new dead)
+    settled_command other false is = done_command other (sym is)
+    settled_command other true is =
         record {
-          commits = commits_compacting v old e size mid committed reads new compacts;
-          done = is_done v old e size mid committed reads new compacts done;
+          commits = lost_commits v e size old new (commits_compacting v old e size mid committed reads new compacts);
+          done = is_done_with v old e size mid committed reads new compacts done true;
           started = right_still v old e size mid committed reads new compacts done;
           start = λ leaves. done.start ∙ start leaves;
-          dead = compacts.dead ∙ sym asks;
+          dead = is;
           format = format;
           refused = tt;
         }
-
-  -- The command answers what the compaction does, and asks for a boot.
-  pub ended_command : (r : Result X HandlerError) → OnOk r (IsCompacted v mid new) → IfErr r (λ f. f ≡ Device) → IfErr r (λ _. HasFailed (v.failures (disk_in mid)) (v.failures (disk_in new)))
-      → (leaves_permanent e ≡ true → start_in v.seen mid ≡ start_in v.seen old) → asks_for_boot e ≡ true → CommitsEvent v e size r old new
-  ended_command (Ok x) done device failed start asks = done_until_boot done start x asks
-  ended_command (Err why) done device failed start asks = failed_command (Err why) why (search rules, refl) device failed

@@ -4,7 +4,7 @@ ghost use Rattle.rel_disk.specs.Moments.{HasFailed};
 ghost use Rattle.rel_files.specs.Release.{Release, release_of};
 ghost use Rattle.rel_list.specs.Event.{event_of};
 ghost use Rattle.rel_list.specs.Releases.{release_at};
-ghost use Rattle.node_store.specs.Commands.{AppendsEvent};
+ghost use Rattle.node_store.specs.Commands.{AppendsEvent, CommitsChange, asks_for_boot};
 ghost use Rattle.node_store.specs.Commits.{Keeps, MakesPermanent};
 ghost use Rattle.node_store.specs.Start.{started};
 ghost use Rattle.node_store.specs.Image.{IsImageAt, start_bytes};
@@ -23,14 +23,28 @@ use start_record::{Start, write_start};
 use std::alloc::{AllocError, Global};
 
 impl<D: Disk> NodeStore<D> {
-    /// Commits an event that makes the release of this version the permanent one: the list, and then the start record.
-    /// After it the node is dead.
+    /// Commits an event that makes the release of this version the permanent one: the list, then the start record, and then
+    /// a long store is compacted. The node is dead after it only if the event asks for a boot.
     pub fn move_permanent(
         &mut self,
         alloc: Global,
         vsn: &str,
         event: Event,
     ) -> Result<(), HandlerError>
+        requires sound { IsSound D.seen D.may_leave self.old }
+        requires works { is_dead self.old ≡ false }
+        requires moves { MakesPermanent vsn.now (event_of event) }
+        ensures { CommitsChange D.Disk (event_of event) result self.old self.new }
+    {
+        let boots = asks_for_boot(&event);
+        self.append_move(alloc, vsn, event)?;
+        self.compact(alloc)?;
+        self.dead = boots;
+        Ok(())
+    }
+
+    // Appends the record of such an event, and then writes the start record. The node is dead after it.
+    fn append_move(&mut self, alloc: Global, vsn: &str, event: Event) -> Result<(), HandlerError>
         requires sound { IsSound D.seen D.may_leave self.old }
         requires works { is_dead self.old ≡ false }
         requires moves { MakesPermanent vsn.now (event_of event) }
@@ -63,6 +77,13 @@ impl<D: Disk> NodeStore<D> {
         }
         Ok(())
     }
+}
+
+// Whether a command with this event asks for a boot.
+fn asks_for_boot(event: &Event) -> bool
+    ensures { result ≡ asks_for_boot (event_of event.now) }
+{
+    matches!(event, Event::RebootOld(_) | Event::RestartInstalled(_))
 }
 
 // What a node starts once the release of this version is its permanent one.

@@ -131,11 +131,8 @@ impl<D: Disk> Handler<D> {
         if self.node.dead {
             return Err(HandlerError::Dead);
         }
-        let event = Event::MadePermanent(String::from_str(alloc, vsn)?);
-        self.node.move_permanent(alloc, vsn, event)?;
-        self.node.compact(alloc)?;
-        self.node.dead = false;
-        Ok(())
+        let promotion = Event::MadePermanent(String::from_str(alloc, vsn)?);
+        self.node.move_permanent(alloc, vsn, promotion)
     }
 
     /// Makes an old release the permanent one, and has the node boot: the list is committed, then the start record, and then a
@@ -150,8 +147,7 @@ impl<D: Disk> Handler<D> {
             return Err(HandlerError::Dead);
         }
         let reboot = Event::RebootOld(String::from_str(alloc, vsn)?);
-        self.node.move_permanent(alloc, vsn, reboot)?;
-        self.node.compact(alloc)
+        self.node.move_permanent(alloc, vsn, reboot)
     }
 
     /// Takes a release out of the list, and then compacts a long store. At `Ok` the removal is acknowledged (`done`).
