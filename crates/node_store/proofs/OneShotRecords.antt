@@ -13,7 +13,7 @@ use Rattle.rel_records.specs.Format.{writes_one_shot}
 use Rattle.rel_records.specs.Record.{Assignment}
 use Rattle.rel_records.specs.Writing.{assignment_of, changes, is_changed, record_of}
 use Rattle.rel_records.proofs.FormatLemmas.{only_restarts_write_them}
-use Rattle.status_changes.specs.Statuses.{is_same}
+use Rattle.rel_records.specs.StatusChanges.{is_same}
 
 -- one of these assignments is of a one-shot
 abbrev pub any_one_shot : List Assignment → Bool
