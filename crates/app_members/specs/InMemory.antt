@@ -48,13 +48,13 @@ abbrev pub Reports : {X : Type 0} → Result X MembersError → Option StartFaul
 Reports (Ok x) f = f ≡ None
 Reports (Err e) f = FaultIs e f
 
--- These are more than there may be; or no memory was left.
+-- Why members can't be kept: there are more than 4,096 of them, or no memory was left.
 abbrev pub AreTooMany : List walk.NewMember → MembersError → Type 0
 AreTooMany all Unsupported = 4096 < length all
 AreTooMany all NoMemory = Unit {0}
 AreTooMany all e = ⊥
 
--- These members were added, unless there are too many.
+-- The members were added at the end of the list, unless there are too many of them or no memory was left.
 abbrev pub Adds : {X : Type 0} → List NewMember → List walk.NewMember → Result X MembersError → List NewMember → Type 0
 Adds old ms (Ok x) new = (new_members_of new ≡ new_members_of old ++ ms) × (length new ≤ 4096)
 Adds old ms (Err e) new = AreTooMany (new_members_of old ++ ms) e
@@ -72,7 +72,7 @@ TopIs tables top (Err e) = (f : StartFault) × (worker_at_top tables top ≡ Som
 TopIs tables top (Ok None) = (worker_at_top tables top ≡ None) × (top_children tables top ≡ []) × (app_members tables top ≡ [])
 TopIs tables top (Ok (Some m)) = IsTop tables top (new_member_of m)
 
--- These members, if there is no fault.
+-- The result has all these members where there is no fault; otherwise its error is the fault, or says that no memory was left.
 abbrev pub AreUnlessFault : Option StartFault → List walk.NewMember → Result (Vec NewMember Global) MembersError → Type 0
 AreUnlessFault fault all (Ok ms) = (fault ≡ None) × (new_members_of ms.items ≡ all)
 AreUnlessFault fault all (Err e) = FaultIs e fault

@@ -7,9 +7,9 @@ pub enum PatternFault {
     /// The crate `regex` doesn't take it: it isn't UTF-8, isn't in the crate's grammar, as one with a look-around or a back
     /// reference, or is nested deeper than 250.
     NoPattern,
-    /// It has a form that OTP's `re` and the crate `regex` both take and read in different ways: a possessive quantifier (`*+`,
-    /// `++`, `?+`, `}+`), a class with `&&`, `--`, `~~` or `[` in it, `\<`, `\>`, `\b{`, flags (as `(?x)`), or a byte that no
-    /// version has (a blank, or one that isn't ASCII).
+    /// The pattern has a form that OTP's `re` and the crate `regex` both accept and read in different ways: a possessive
+    /// quantifier (`*+`, `++`, `?+`, `}+`), a class with `&&`, `--`, `~~` or `[` in it, `\<`, `\>`, `\b{`, flags (as `(?x)`),
+    /// or a byte that no version has (a blank, or one that isn't ASCII).
     Ambiguous,
     /// Its compiled form is over the crate's limit of 10 MiB.
     TooBig,

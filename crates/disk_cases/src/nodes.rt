@@ -27,7 +27,7 @@ fn push_releases<D: Disk>(node: &Handler<D>, answer: &mut Answer) {
     }
 }
 
-// Has a node take a further release in, and appends its version.
+// Gives the node a further release with `set_unpacked`, and appends its version.
 fn unpack<D: Disk>(alloc: Global, node: &mut Handler<D>, release: &str, answer: &mut Answer)
     requires { IsSound D.seen D.may_leave node.old }
     ensures { IsSound D.seen D.may_leave node.new }
@@ -38,7 +38,7 @@ fn unpack<D: Disk>(alloc: Global, node: &mut Handler<D>, release: &str, answer: 
     }
 }
 
-// Has it install the release of this version where no process runs, and appends the version that the script's entry has.
+// Installs the release of this version where no process runs, and appends the version that the script's entry has.
 fn install<H: Wait, D: Disk>(
     rt: &H,
     alloc: Global,
@@ -96,7 +96,7 @@ fn push_done(done: Result<(), HandlerError>, answer: &mut Answer) {
     }
 }
 
-// Has it follow a command, where one is given, and appends what it answers, with a blank before it.
+// Gives the node a command, where there is one, and appends its answer, with a blank before it.
 fn follow_command<H: Wait, D: Disk>(
     rt: &H,
     alloc: Global,
@@ -146,7 +146,7 @@ fn push_followed<H: Wait, D: Disk>(
     }
 }
 
-// Has it follow these commands, or with `unpack` take a further release in and no more.
+// Gives the node these commands; or, with `unpack`, a further release and nothing more.
 fn follow_node<H: Wait, D: Disk + Drop>(
     rt: &H,
     alloc: Global,

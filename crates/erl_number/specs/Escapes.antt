@@ -51,7 +51,7 @@ braced xs =
 abbrev pub paired : ℕ → List ℕ → Character
 paired x xs = with_next xs (λ y ys. if is_digit y 16 then means (digits_value 16 (x ∷ y ∷ [])) 3 else senseless)
 
--- after `x`
+-- the character of the bytes after `\x`
 abbrev pub hexadecimal : List ℕ → Character
 hexadecimal xs = with_next xs (λ y ys. if y == 123 then braced ys else if is_digit y 16 then paired y ys else senseless)
 
@@ -66,7 +66,7 @@ letter_character x =
     else if x == 102 then Some 12 else if x == 110 then Some 10 else if x == 114 then Some 13
     else if x == 115 then Some 32 else if x == 116 then Some 9 else if x == 118 then Some 11 else None
 
--- by its name, or else the character itself
+-- the character that a name means after a backslash, or else the character itself
 abbrev pub by_name : Option ℕ → ℕ → List ℕ → Character
 by_name (Some c) x xs = means c 1
 by_name None x xs = itself x xs

@@ -53,12 +53,12 @@ in_base start base size xs =
     unless_float start (drop (length row) xs)
     (if is_in 2 36 base && bytes_eq (digit_row base xs) row then whole (spelled_by base row) (size + length row) else faulty (BadNumber start))
 
--- after a base and `#`: at is the place of what stands there
+-- the number after a base and `#`: `at` is the place of what stands there
 abbrev pub behind_base : ℕ → ℕ → ℕ → ℕ → List ℕ → Numeral
 behind_base start base size at [] = cut_off
 behind_base start base size at (x ∷ xs) = if is_alphanumeric x then in_base start base size (x ∷ xs) else faulty (BadToken at)
 
--- after a row of decimal digits
+-- the number after a row of decimal digits
 abbrev pub behind_digits : ℕ → ℕ → List ℕ → List ℕ → Numeral
 behind_digits start at row [] = whole (spelled_by 10 row) (length row)
 behind_digits start at row (x ∷ xs) =
@@ -69,7 +69,7 @@ behind_digits start at row (x ∷ xs) =
 abbrev pub digits_numeral : ℕ → ℕ → List ℕ → Numeral
 digits_numeral start at xs = let row = digit_row 10 xs in behind_digits start at row (drop (length row) xs)
 
--- where the bytes end: they may go on with what isn't UTF-8
+-- what a number is where the bytes end: they may go on with what isn't UTF-8
 abbrev pub ended : ℕ → List ℕ → Numeral
 ended at [] = cut_off
 ended at (x ∷ xs) = if nat_lt 255 x then faulty (BadToken at) else ended (at + 1) xs
@@ -80,7 +80,7 @@ character_number size at xs (means c n) = whole c (size + n)
 character_number size at xs senseless = faulty (BadToken at)
 character_number size at xs unfinished = ended (at + 1) xs
 
--- after `$`
+-- the number of a character, after `$`
 abbrev pub character_numeral : ℕ → List ℕ → Numeral
 character_numeral at [] = cut_off
 character_numeral at (x ∷ xs) =

@@ -75,7 +75,7 @@ quoted-run quote from at (x ∷ xs) = go (is_plain quote x) refl (quoted-run quo
         let place : at ≡ at + 0 = omega arith in
         sym (behind-nothing (quoted quote from at 0 (x ∷ xs))) ∙ ap (λ a. behind [] 0 (quoted quote from a 0 (x ∷ xs))) place
 
--- So much of what stands between the quotes has been read, up to a place.
+-- What stands between the quotes has been read up to this place.
 pub record IsRead (quote from : ℕ) (bytes content : List ℕ) (at : ℕ) : Type 0 where
   pub onward : from + 1 ≤ at
   pub so_far : quoted quote from (from + 1) 0 (drop (from + 1) bytes) ≡ behind content (at - (from + 1)) (quoted quote from at 0 (drop at bytes))

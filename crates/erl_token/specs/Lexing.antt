@@ -87,7 +87,7 @@ numbered at sign size cut_off = alone (cut some_number)
 abbrev pub sign_of : ℕ → ℕ → ℤ
 sign_of x n = if x == 45 then neg_ℤ (pos n) else pos n
 
--- after a sign: blanks, and a number
+-- what stands after a sign: blanks, and a number
 abbrev pub signed : ℕ → ℕ → List ℕ → Spelling
 signed at x xs = let n = length (leading (λ y. nat_le y 32) xs) in numbered at (sign_of x) (n + 1) (numeral at (at + 1 + n) (drop n xs))
 

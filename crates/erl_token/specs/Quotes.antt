@@ -10,17 +10,17 @@ pub data Quoted : Type 0 where
   closed : List ℕ → ℕ → Quoted
   faulty : TermFault → Quoted
 
--- after so many bytes that stand for these
+-- what stands between quotes, with these bytes in front that so many bytes spell
 abbrev pub behind : List ℕ → ℕ → Quoted → Quoted
 behind text size (closed rest n) = closed (text ++ rest) (size + n)
 behind text size q = q
 
--- where the bytes end: at is their place, and from that of the quote that is open
+-- why a quote isn't closed where the bytes end: `at` is the place of the end, and `from` that of the quote that is open
 abbrev pub unclosed : ℕ → ℕ → List ℕ → TermFault
 unclosed from at [] = Unclosed from
 unclosed from at (x ∷ xs) = if nat_lt 255 x then BadToken at else unclosed from (at + 1) xs
 
--- after the backslash at this place, an escape and what follows it by its length
+-- what stands between quotes from the backslash at this place on: an escape, and what follows it by its length
 abbrev pub escaped : ℕ → ℕ → List ℕ → (ℕ → Quoted) → Character → Quoted
 escaped from at xs rest (means c size) = behind (encode_utf8 c) 1 (rest size)
 escaped from at xs rest senseless = faulty (BadToken at)

@@ -113,7 +113,7 @@ ProcessEndsHeld first stay pid cs v GivenUp hs w =
     (held_stays stay pid (values_seen v) cs ≡ false) × ((cs pid.slot).hold ≢ not_held) × AllFollow first (give_up_at pid.slot cs) hs w
 ProcessEndsHeld first stay pid cs v NotHeld hs w = ((cs pid.slot).hold ≡ not_held) × AllFollow first cs hs w × (w ≡ v)
 
--- So it is of the process of a child, where one stands for it.
+-- What became of the process of a child that may be held, where one stands for the child. Without a process nothing is held.
 abbrev pub StateEndsHeld : View → Stay → MemberState → Courses → View → HeldEnd → HeldSlots → View → Type 0
 StateEndsHeld first stay (Process q) cs v e hs w = ProcessEndsHeld first stay q.pid cs v e hs w
 StateEndsHeld first stay m cs v e hs w = (e ≡ NotHeld) × AllFollow first cs hs w

@@ -62,7 +62,8 @@ pub record Follows (lent : List ℕ) (p : ℕ) (first : Part) (c : Course) (x : 
   pub stand : Stand lent first.seen c.blocks x.seen
   pub at : IsAt p c x h
 
--- So it is of each slot, since the moment at which the handler's view was `first`.
+-- The handler has followed the course of each slot since the moment at which its view was `first`: what it knows of the slot,
+-- and what it holds of it, is what the course says.
 pub record AllFollow (first : View) (cs : Courses) (hs : HeldSlots) (v : View) : Type 0 where
   pub handler : v.number ≡ 0
   pub count : v.count ≡ first.count

@@ -28,12 +28,13 @@ pub record IsFollowed (past : SlotPast) (p : ℕ) (c : Course) (v : View) (place
   pub lent : v.lent ≡ past.lent
   pub follows : Follows past.lent p past.first c (part_of v.parts p) place
 
--- It follows this course after a step, in which nothing else changed.
+-- After a step at one slot the handler follows this course of the slot, and nothing else has changed.
 pub record Steps (past : SlotPast) (p : ℕ) (c : Course) (v : View) (place : Option HeldForm) (w : View) : Type 0 where
   pub follows : Follows past.lent p past.first c (part_of w.parts p) place
   pub elsewhere : Elsewhere p v w
 
--- It follows the course after the operation, or, where that failed, the course as it was.
+-- After an operation at a slot the handler follows the course with the operation in it, or, where the operation failed, the
+-- course as it was.
 abbrev pub StepsBy : {X E : Type 0} → SlotPast → ℕ → Operation → View → Result X E → Option HeldForm → View → Type 0
 StepsBy past p op v (Ok x) place w = Steps past p (course_after op past.course) v place w
 StepsBy past p op v (Err e) place w = Steps past p past.course v place w

@@ -65,7 +65,7 @@ impl HeldProcesses {
         let _ = tree.stop_app(rt, table, seat, app.name);
     }
 
-    /// Those of the processes of these members that are held are given up and let go.
+    /// Gives up the processes of these members that are held, and lets them go.
     pub(crate) fn give_up_all(
         &mut self,
         table: &ProcTable,

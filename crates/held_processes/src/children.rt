@@ -14,11 +14,11 @@ use sup_tree::{Member, NoSuper, Stay, Tree};
 /// What becomes of the process of a child that may be held.
 #[derive(Clone, Copy)]
 pub(crate) enum HeldEnd {
-    /// It is held, and stays.
+    /// The process of the child is held, and stays.
     Stays,
-    /// It was held, and is given up and let go.
+    /// The process of the child was held; it is given up and let go.
     GivenUp,
-    /// None is held.
+    /// No process of the child is held.
     NotHeld,
 }
 

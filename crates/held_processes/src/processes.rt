@@ -42,9 +42,9 @@ impl Model for HeldProcesses {
 /// Which processes are let go.
 #[derive(Clone, Copy)]
 enum Which<'a> {
-    /// Those of this module.
+    /// The processes that use this module.
     Of(Users<'a>),
-    /// Those that are held for a load.
+    /// The processes that are held for a load alone, until the point of no return.
     UntilPoint,
 }
 

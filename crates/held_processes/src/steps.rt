@@ -23,9 +23,9 @@ use std::sync::Wait;
 /// What is done to a process, for which it is held if it isn't yet.
 #[derive(Clone, Copy)]
 pub(crate) enum Step<'a> {
-    /// It is held until it is resumed.
+    /// The process is held until it is resumed.
     Suspend(Global),
-    /// It gets this table. One that isn't held is held until the point of no return, or for the load alone.
+    /// The process gets this table. One that isn't held yet is held until the point of no return, or for the load alone.
     Load(Global, &'a Worker, bool),
     Stop,
     Start,
@@ -37,7 +37,7 @@ pub struct Undone {
     pub slot: usize,
 }
 
-/// Does a step for the process of the slot.
+/// Carries out a step on the process of the slot.
 pub(crate) fn perform<R: Wait>(
     rt: &R,
     table: &ProcTable,

@@ -73,7 +73,7 @@ is_at name vsn l = bytes_eq l.app.name name && bytes_eq l.app.vsn vsn
 abbrev pub library_at : List ℕ → List ℕ → List Library → Option Library
 library_at name vsn ls = find (is_at name vsn) ls
 
--- These are the libraries of these applications, in their order.
+-- The libraries are those of these applications, in the order of the applications.
 abbrev pub AreLibrariesOf : List Application → List Library → Type 0
 AreLibrariesOf [] [] = Unit {0}
 AreLibrariesOf (a ∷ as') (l ∷ ls) = IsLibrary l × (is_at a.name a.vsn l ≡ true) × AreLibrariesOf as' ls

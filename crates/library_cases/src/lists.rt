@@ -37,7 +37,7 @@ fn push_events(
     }
 }
 
-// Has the list take the event of these words, and appends what it answers.
+// Gives the list the event of these words, and appends the list's answer.
 fn push_event(alloc: Global, list: &mut ReleaseList, words: &str, answer: &mut Answer) {
     match event(alloc, list, words) {
         Some(event) => push_taken(list.accept(alloc, event), answer),

@@ -9,11 +9,11 @@ use Rattle.relup_file.specs.Search.{FoundForm}
 use Rattle.node_answer.specs.Refusals.{refusal_line, refusal_of}
 use Rattle.rel_files.specs.Terms.{text_term, atoms_term}
 
--- that a command was done, and with which version
+-- the line that reports that a command was done, and with which version
 abbrev pub ok_line : List ℕ → List ℕ
 ok_line vsn = codes "ok " ++ (vsn ++ codes "\n")
 
--- that a command was done, with these details
+-- the line that reports that a command was done, with these details
 abbrev pub done_line : List ℕ → List ℕ
 done_line details = codes "ok" ++ (details ++ codes "\n")
 

@@ -129,7 +129,7 @@ shared_so es ls have all agree = shared_own es ls have (libraries ls all) agree
     libraries [] all = tt
     libraries (k ∷ ks) all = (all.0.0, libraries ks all.1)
 
--- So the bundle that a list takes, with the libraries that it shares, is what was brought.
+-- The bundle that a list takes, with the libraries that the list shares with it, is what was brought.
 pub own_libraries : (es : Releases) (b : Brought) (p : Bundle) (ls : List Library) → HaveLibraries es → CanBeCarried b.libraries → first_different es b.libraries ≡ None → p ≡ bundle_brought b
     → ls ≡ shared es p.libraries → ls ≡ b.libraries
 own_libraries es b p ls have all agree is own = own ∙ ap (λ (q : Bundle). shared es q.libraries) is ∙ shared_so es b.libraries have all agree

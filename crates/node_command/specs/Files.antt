@@ -61,7 +61,7 @@ pub record IsOfFiles (source : Source) (path : List ℕ) (e : HandlerError) : Ty
   pub reported : e ≡ reported_files error
   pub read : error ≢ files.NoMemory → Brings source path (Err (refusal_of error))
 
--- This refusal of a release for its other files is reported so.
+-- The error reports this refusal of a release for its other files.
 pub record IsReportedAs (refusal : Option Refusal) (e : HandlerError) : Type 0 where
   pub error : UnpackError
   pub reported : e ≡ reported_files error

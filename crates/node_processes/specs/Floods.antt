@@ -15,7 +15,7 @@ counts_line done crashed ended down =
     codes "ok done " ++ (decimal done ++ (codes " crashed " ++ (decimal crashed ++ (codes " ended " ++ (decimal ended
     ++ (codes " down " ++ (decimal down ++ codes "\n")))))))
 
--- so many calls had these outcomes; the others found the process down
+-- the line that reports a flood of so many calls, of which some had these outcomes; the others found the process down
 abbrev pub outcomes_line : ℕ → List Outcome → List ℕ
 outcomes_line times os = counts_line (done_in os) (crashed_in os) (ended_in os) (times - length os)
 

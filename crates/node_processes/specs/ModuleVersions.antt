@@ -13,7 +13,7 @@ use Rattle.node_processes.specs.Processes.{Processes}
 abbrev pub HasModuleVersion : Value → Type 0
 HasModuleVersion v = (n : Now) → v.now ≡ Some n → IsVersion n.table.vsn
 
--- so has the table of a worker
+-- The table of a worker has a version of files.
 abbrev pub HasTableVersion : Option Table → Type 0
 HasTableVersion (Some (Worker w)) = IsVersion w.vsn
 HasTableVersion t = Unit {0}

@@ -165,7 +165,7 @@ leaves_value (Some b) = refl
 pub begun_values : (bs : List Beginning) (v : View) → HaveJustBegun bs v → values_in v ≡ first_values bs
 begun_values bs v each = (λ i. map (λ q. (ap replay (each q) ∙ leaves_value (slice_get bs q)) i) (range_with_len 0 slots))
 
--- So the processes of a node after a boot are those that begin in a new table, and nothing else has happened there.
+-- The processes of a node after a boot are those that begin in a new table, and nothing else has happened in the table.
 pub fresh_so : (ls : List Library) (ps : List Part) (apps : List App) (v w : View) → v ≡ handler_view slots → StartedAll (tables_in ls) ps [] v apps w
     → (values_in w ≡ first_values (beginnings (tables_in ls) ps)) × (apps ≡ apps_from 0 (tables_in ls) ps) × HaveJustBegun (beginnings (tables_in ls) ps) w
 fresh_so ls ps apps v w new started =

@@ -173,7 +173,7 @@ module _ (tables : Tables) (as' : List RelApp) (rcs : List (Rc declared.Library 
       let same = split false starts in
       (subst (λ ps. AreReady tables ps mid u) same ready, subst (λ ps. Completes tables all apps v ps mid u) same so_far)
 
--- So much was started of a release, and the applications from this place on are left.
+-- The applications of a release before this place have been started, and those from it on are left to start.
 abbrev pub AreStartedTo : Started → View → List RelApp → List (Rc declared.Library Global) → ℕ → Started → View → Type 0
 AreStartedTo old v as' rcs k s u =
     let tables = tables_of (modules_in old.loaded) in

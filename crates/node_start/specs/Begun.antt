@@ -28,6 +28,6 @@ abbrev pub first_history : Option Beginning → List HistoryEntry
 first_history None = []
 first_history (Some b) = entry 0 (begin 1 b) ∷ []
 
--- These began, one in each slot from the first one on, and nothing else has happened in any slot.
+-- The processes began, one in each slot from the first one on, and nothing else has happened in any slot.
 abbrev pub HaveJustBegun : List Beginning → View → Type 0
 HaveJustBegun bs v = (p : ℕ) → seen v p ≡ first_history (slice_get bs p)

@@ -48,7 +48,7 @@ abbrev pub disk_after : {D : Type 0} → Result (Node D) (D × BootError) → D
 disk_after (Ok node) = disk_in node.handler
 disk_after (Err refusal) = refusal.0
 
--- its handler alone, or why there is none
+-- the handler of a node that was booted, or why there is none
 abbrev pub handled : {D : Type 0} → Result (Node D) (D × BootError) → Result (NodeStore D) (BootError × D)
 handled (Ok node) = Ok node.handler
 handled (Err refusal) = Err (refusal.1, refusal.0)
@@ -57,7 +57,7 @@ handled (Err refusal) = Err (refusal.1, refusal.0)
 abbrev pub IsLack : BootError → Type 0
 IsLack why = (why ≡ Device) ⊎ (why ≡ NoMemory)
 
--- This disk is that of a handler that was booted from the other.
+-- The new disk is that of a handler that was booted from the old one.
 abbrev pub IsDiskOfBoot : {D : Type 0} → Ghosts D → D → D → Type 0
 IsDiskOfBoot {D} v disk new = (handler : NodeStore D) × IsBootedFrom v disk handler × (new ≡ disk_in handler)
 

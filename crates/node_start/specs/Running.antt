@@ -30,11 +30,12 @@ pub record IsRunOut (r : Release) (es : Releases) : Type 0 where
   pub of_release : entry.release ≡ r
   pub settled : IsSettledStatus entry.status
 
--- These bytes stand for such a list, as records report it.
+-- The bytes stand for a list, as records report it, that has the release as permanent or unpacked, and none as a one-shot.
 abbrev pub StartsNoOneShot : Release → List ℕ → Type 0
 StartsNoOneShot r image = (es : Releases) × IsImageOf image es × (recorded es ≡ es) × IsRunOut r es
 
--- So does each that a crash now leaves of a handler's disk, for the release that runs.
+-- Whatever a crash now leaves of a handler's disk, a later boot starts the release that runs for being permanent, or not at
+-- all.
 abbrev pub RunsOnce : {D : Type 0} → (D → List ℕ → Type 0) → NodeStore D → Type 0
 RunsOnce may_leave h =
     (r : Release) → running (list_in h) ≡ Some r → (c : List ℕ) → may_leave (disk_in h) c → StartsNoOneShot r c

@@ -25,14 +25,15 @@ HasNoFault tables p = app_fault tables p.library.app.top ≡ None
 abbrev pub starts_in_all : Tables → List Part → ℕ
 starts_in_all tables ps = sum_by (λ p. length (part_starts tables p)) ps
 
--- None of them is started or stands twice, nothing is wrong below their tops, and there are slots for all their processes.
+-- The applications can start: none of them is started or stands twice, nothing is wrong below their tops, and there are slots
+-- for all their processes.
 pub record AreReady (tables : Tables) (ps : List Part) (apps : List App) (v : View) : Type 0 where
   pub new : AllByRecursion (IsNew apps) ps
   pub distinct : AreDistinct (map part_name ps)
   pub sound : AllByRecursion (HasNoFault tables) ps
   pub room : starts_in_all tables ps ≤ free_count v
 
--- one after another is started
+-- The applications were started one after another.
 abbrev pub StartedAll : Tables → List Part → List App → View → List App → View → Type 0
 StartedAll tables [] apps v apps' w = (apps' ≡ apps) × (w ≡ v)
 StartedAll tables (p ∷ ps) apps v apps' w =

@@ -9,8 +9,8 @@
 //! stops come, also in that boot. The law `a_release_that_passed_the_tests_starts` says that a release that passed the tests of
 //! `rel_check` has no fault for which its applications would not start.
 //!
-//! It waits for slots, which nobody else has. Only tested: that it returns, and succeeds where memory is there. To be read in
-//! `begin_processes`: that no further table is made. Trusted: the toolchain, with what the crates below trust.
+//! [`boot`] waits for slots, which nobody else has. Only tested: that it returns, and succeeds where memory is there. To be
+//! read in `begin_processes`: that no further table is made. Trusted: the toolchain, with what the crates below trust.
 #![tactic(auto)]
 
 pub mod laws;

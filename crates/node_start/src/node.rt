@@ -76,8 +76,8 @@ pub fn boot<D: Disk, R: Wait>(rt: &R, alloc: Global, disk: D) -> Result<Node<D>,
     // A disk that stands for a list is refused for memory or the device alone.
     ensures only { (es : Releases) → IsImageOf (D.seen disk) es → IfErr result (λ e. IsLack e.1) }
 
-    // So whatever a crash left of a node is booted to the list of a prefix of its accepted events that holds every
-    // acknowledged one.
+    // Whatever a crash left of a node is booted to the list of a prefix of its accepted events that holds every acknowledged
+    // one.
     ensures recovers { (k : Known) → ((c : List ℕ) → D.may_leave disk c → IsOfPrefix k c)
         → MatchResult result (λ node. BootsTo k (list_in node.handler)) (λ e. IsLack e.1) }
 

@@ -161,7 +161,8 @@ lost_commits v e size h mid c = record { sound = dead_is_sound v (lost mid) refl
 abbrev pub revived : {D : Type 0} → NodeStore D → NodeStore D
 revived h = record { store = h.store; list = h.list; dead = false }
 
--- It is sound where it is ready, has the start record of its list, and no release of that is a one-shot.
+-- A node that works again is sound where it is ready, has the start record of its list, and no release of the list is a
+-- one-shot.
 pub revived_is_sound : {D : Type 0} (v : Ghosts D) (h : NodeStore D) → IsReady v.seen v.may_leave h → HasStarted v.may_leave h → has_one_shot (list_in h) ≡ false → IsSound v.seen v.may_leave (revived h)
 revived_is_sound v h ready started free = record { ready = λ alive. record { store = ready.store; list = ready.list; room = ready.room }; started = λ alive. started; free = λ alive. free }
 
@@ -198,7 +199,7 @@ module _ {D : Type 0} (v : Ghosts D) (h : NodeStore D) (ready : IsReady v.seen v
     keeps base records end counted =
         record { dead = refl; list = refl; extent = same_extent (store_extent new) (extent_in h) base end (ap (λ bodies. length bodies) records); any_moment = starting; counted = counted }
 
-  -- It is there, and the node is ready.
+  -- The start record was written, and the node is ready.
   module _ (new : Store D) (settled : store.IsSettled v.seen v.may_leave new) (records : store.records_in new ≡ store.records_in h.store) (base : store.base_in new ≡ store.base_in h.store) (end : store.end_in new ≡ store.end_in h.store) (format : store.format_in new ≡ store.format_in h.store) where
     pub ready_still : IsReady v.seen v.may_leave (record { store = new; list = h.list; dead = true })
     ready_still = record {
@@ -264,7 +265,7 @@ module _ {D : Type 0} (v : Ghosts D) (h : NodeStore D) (s : IsSound v.seen v.may
         counted = subst (λ d. v.failures d ≤ v.failures (store.disk_in new)) same.disk counted;
       }
 
-    -- It is there.
+    -- The record was appended.
     module _ (new : Store D) (settled : store.IsSettled v.seen v.may_leave new) (added : store.records_in new ≡ store.records_in reserved ++ body ∷ [])
         (base : store.base_in new ≡ store.base_in reserved) (end : store.end_in new ≡ store.end_in reserved + (5 + length body)) (format : store.format_in new ≡ store.format_in reserved) where
       reaches_behind : store_extent new ≡ extent_behind (extent_in h) (length body)

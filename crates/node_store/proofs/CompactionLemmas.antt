@@ -174,7 +174,8 @@ module _ {D : Type 0} (v : Ghosts D) (h : NodeStore D) (ready : IsReady v.seen v
         }
         go false unfit = not_compacted new (kept_as_full r full refused unfit) dead only_now
 
-    -- It is there.
+    -- After a compaction that was done the store has the image as its only record, and reaches as far as a compaction leaves
+    -- it.
     reaches_image : AnswersFull (Ok tt) → store.records_in new ≡ image ∷ [] → store.base_in new ≡ image_place (store.base_in h.store) (store.end_in h.store) (length image)
         → store.end_in new ≡ image_end (store.base_in h.store) (store.end_in h.store) (length image) → store_extent new ≡ compacted (extent_in h) (list_in h)
     reaches_image full records base end = go (fits_image (extent_in h) (length image)) refl
@@ -224,7 +225,7 @@ pub record HasCommitted {D : Type 0} (v : Ghosts D) (e : Event) (size : ℕ) (h 
   pub appended : IsAppended v e size h mid
   pub right : HasStarted v.may_leave mid
 
--- It has where the event leaves the permanent release.
+-- After a committed event that leaves the permanent release as it is, the start record is still that of the list.
 pub committed_change : {D : Type 0} (v : Ghosts D) (h : NodeStore D) → IsSound v.seen v.may_leave h → is_dead h ≡ false → (e : Event) (size : ℕ) (mid : NodeStore D) → Commits v e size h mid → IsAppended v e size h mid
     → IsReady v.seen v.may_leave mid → start_in v.seen mid ≡ start_in v.seen h → ((d : D) → v.may_leave d (v.seen d)) → leaves_permanent e ≡ true → HasCommitted v e size h mid
 committed_change v h s alive e size mid commits appended ready stays reads leaves =
@@ -253,7 +254,7 @@ module _ {D : Type 0} (v : Ghosts D) (h : NodeStore D) (e : Event) (size : ℕ) 
       subst (CommandRefused v.failures e size h new) (sym device)
       ((committed.appended.worked, (list_in mid, committed.appended.accepted), committed.appended.fits), failed_since _ _ _ committed.commits.counted compacts.counted failed, compacts.dead)
 
-  -- It is done.
+  -- The compaction was done.
   module _ (done : IsCompacted v mid new) where
     pub right_still : HasStarted v.may_leave new
     right_still c now =

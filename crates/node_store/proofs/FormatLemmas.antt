@@ -82,7 +82,7 @@ module _ {D : Type 0} (v : Ghosts D) (h : NodeStore D) (ready : IsReady v.seen v
     counted = counted;
   }
 
-  -- It was done.
+  -- After its change to format 2 the store is ready.
   pub ready_in_format_2 : store.IsSettled v.seen v.may_leave new → store.format_in new ≡ 2 → IsReady v.seen v.may_leave (record { store = new; list = h.list; dead = dead })
   ready_in_format_2 settled two = record {
     store = settled;

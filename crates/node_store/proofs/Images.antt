@@ -48,7 +48,7 @@ pub extent_so : (bytes : List ℕ) (bodies : List (List ℕ)) (base : ℕ) → r
 extent_so bytes bodies base read at =
     same_extent (extent_of bytes) (extent_with_records base bodies) at (ends_so bytes bodies base read at) (ap (λ r. length (records_or_none r)) read)
 
--- It reaches so far too where it is known to end there.
+-- A store that is known to end right after these records reaches as far as these records do.
 pub extent_by_end : (bytes : List ℕ) (bodies : List (List ℕ)) (base end : ℕ) → records_of bytes ≡ Ok bodies → end_of bytes ≡ end → end ≡ (base + space bodies) + 1 → extent_of bytes ≡ extent_with_records base bodies
 extent_by_end bytes bodies base end read ends is =
     let reported = ends_so bytes bodies (base_of bytes) read refl in
@@ -187,7 +187,7 @@ either_image format es next bodies body text are behind base x at room room_then
 pub leaves_boot_space : (e : Event) → makes_one_shot e ≡ false → (size : ℕ) (x : Extent) (es : Releases) → LeavesBootSpace e size x es
 leaves_boot_space e other size x es next is = no_boot_space (extent_behind x size) next (one_shots_come_from_restarts e es next other is)
 
--- So it is while a command appends the record of its event.
+-- While a command appends the record of its event, a crash leaves a store with the list from before the event or after it.
 pub while_committing : (format : ℕ) (e : Event) (es next : Releases) (bodies : List (List ℕ)) (body text : List ℕ) (events : List Event)
     → AreRecordsOf format bodies es → IsRecordFor body e es → (writes_one_shot (record_of e es) ≡ true → format ≡ 2) → step e es ≡ Some next → list_after events ≡ Some es
     → (base : ℕ) (x : Extent) → extent_with_records base bodies ≡ x → HasBootSpace x es → HasBootSpace (extent_behind x (length body)) next → (old : List ℕ) → start_bytes old ≡ text → IsStarted es old

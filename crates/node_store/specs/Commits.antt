@@ -15,7 +15,7 @@ use Rattle.node_store.specs.State.{disk_in, extent_in, list_in, is_dead, start_i
 use Rattle.node_command.specs.Taking.{commanded}
 use Rattle.node_store.specs.declared.node_store.NodeStore.{NodeStore}
 
--- This body is that of the event's record, of which a boot makes what the event makes of the list.
+-- The body is that of the event's record, of which a boot makes what the event makes of the list.
 pub record IsRecordFor (body : List ℕ) (e : Event) (es : Releases) : Type 0 where
   pub spells : Spells body (record_of e es)
   pub reports : Reports e es
@@ -37,16 +37,16 @@ pub record IsTaken {D : Type 0} (v : Ghosts D) (e : Event) (size : ℕ) (Reaches
   pub fits : HasSpace (extent_in old) size
   pub reaches : Reaches (extent_in new)
 
--- Its record was appended.
+-- A command's event was taken by the list, and its record was appended to the store.
 abbrev pub IsAppended : {D : Type 0} → Ghosts D → Event → ℕ → NodeStore D → NodeStore D → Type 0
 IsAppended v e size old new = IsTaken v e size (λ x. x ≡ extent_behind (extent_in old) size) old new
 
--- Such a command was done: its record was appended, and then the store was compacted, if it was long.
+-- A command with this event was done: its record was appended, and then the store was compacted, if it was long.
 abbrev pub IsDone : {D : Type 0} → Ghosts D → Event → ℕ → NodeStore D → NodeStore D → Type 0
 IsDone v e size old new = IsTaken v e size (MayReach (extent_behind (extent_in old) size) (list_in new)) old new
 
--- These bytes stand for the node's list, in a store that reaches as far as its store; and they have its start slot, or P
--- holds of them.
+-- The bytes stand for the node's list, in a store that reaches as far as the node's store does. They have the start slot of the
+-- node, or P holds of them.
 abbrev pub HasOldStartOr : {D : Type 0} → (D → List ℕ) → NodeStore D → (List ℕ → Type 0) → List ℕ → Type 0
 HasOldStartOr seen node P c =
     IsImageAt c (list_in node) (extent_in node) × ((start_bytes c ≡ start_in seen node) ⊎ P c)
@@ -69,8 +69,8 @@ pub record Reformats {D : Type 0} (v : Ghosts D) (old new : NodeStore D) : Type 
       (λ c. IsImageAt c (list_in old) (extent_in old) × (start_bytes c ≡ start_in v.seen old))
   pub counted : v.failures (disk_in old) ≤ v.failures (disk_in new)
 
--- These bytes stand for the node's list and have its start slot, in a store that reaches as far as its store does, or as far
--- as after a compaction.
+-- The bytes stand for the node's list and have the node's start slot, in a store that reaches as far as the node's store does,
+-- or as far as after a compaction.
 abbrev pub IsOldOrCompacted : {D : Type 0} → (D → List ℕ) → NodeStore D → List ℕ → Type 0
 IsOldOrCompacted seen node c =
     IsImageOf c (list_in node)
@@ -85,7 +85,7 @@ pub record Compacts {D : Type 0} (v : Ghosts D) (old new : NodeStore D) : Type 0
   pub any_moment : LeavesOnly v.moment v.left_since (disk_in old) (disk_in new) (IsOldOrCompacted v.seen old)
   pub counted : v.failures (disk_in old) ≤ v.failures (disk_in new)
 
--- It didn't fail: the node is ready, its start slot is as it was, and its store reaches as far as after a compaction.
+-- A compaction didn't fail: the node is ready, its start slot is as it was, and its store reaches as far as after a compaction.
 pub record IsCompacted {D : Type 0} (v : Ghosts D) (old new : NodeStore D) : Type 0 where
   pub ready : IsReady v.seen v.may_leave new
   pub start : start_in v.seen new ≡ start_in v.seen old

@@ -19,11 +19,11 @@ pub record Known : Type 0 where
   pub acknowledged : Events
   pub in_doubt : Option Event
 
--- the start record is right after these events, and none is in doubt
+-- what is known of a node with these events, after which its start record is right, and with none in doubt
 abbrev pub settled : Events → Known
 settled events = record { ran = events; acknowledged = events; in_doubt = None }
 
--- it is right after these events, and this one is in doubt
+-- what is known of a node with these events, after which its start record was right, and with this one in doubt after them
 abbrev pub doubted : Events → Event → Known
 doubted events e = record { ran = events; acknowledged = events; in_doubt = Some e }
 
@@ -43,7 +43,7 @@ pub record IsPrefix (k : Known) (events : Events) : Type 0 where
   pub more : Events
   pub holds : events ≡ k.acknowledged ++ more
 
--- These bytes stand for the list of a prefix of the accepted events that holds every acknowledged one.
+-- The bytes stand for the list of a prefix of the accepted events that holds every acknowledged one.
 pub record IsOfPrefix (k : Known) (image : List ℕ) : Type 0 where
   pub events : Events
   pub prefix : IsPrefix k events
@@ -55,23 +55,23 @@ pub record IsOfPrefix (k : Known) (image : List ℕ) : Type 0 where
 abbrev pub StartsBehind : Events → List ℕ → Type 0
 StartsBehind events image = (es : Releases) × (list_after events ≡ Some es) × IsStarted es image
 
--- These events begin with those.
+-- The second events begin with the first.
 abbrev pub BeginWith : Events → Events → Type 0
 BeginWith first events = (more : Events) × (events ≡ first ++ more)
 
--- each of them is a boot
+-- The events are boots, each of them.
 abbrev pub AreBoots : Events → Type 0
 AreBoots [] = Unit {0}
 AreBoots (boot ∷ events) = AreBoots events
 AreBoots (e ∷ events) = ⊥
 
--- none; or one event, and after it boots alone
+-- There is no event; or there is one, and after it only boots.
 abbrev pub IsOneAndBoots : Events → Type 0
 IsOneAndBoots [] = Unit {0}
 IsOneAndBoots (last ∷ boots) = AreBoots boots
 
--- It is that of the release that is permanent after these events, or after all but the last, where boots at the end don't count;
--- and after no fewer than those after which it was last sure to be right.
+-- The start record in these bytes names the release that is permanent after the events, or after all of them but the last;
+-- boots at the end don't count. It is never older than `ran`, the events after which it was last sure to be right.
 pub record HasStart (ran events : Events) (image : List ℕ) : Type 0 where
   pub before : Events
   pub later : Events
@@ -80,7 +80,8 @@ pub record HasStart (ran events : Events) (image : List ℕ) : Type 0 where
   pub since : BeginWith ran before
   pub starts : StartsBehind before image
 
--- They are no store, or stand for such a list, and have a start record of its events.
+-- The bytes are no store; or they stand for the list of a prefix of the accepted events that holds every acknowledged one, and
+-- have a start record of that prefix.
 abbrev pub IsNoneOrOfPrefix : Known → List ℕ → Type 0
 IsNoneOrOfPrefix k image =
     (records_of image ≡ Err NotAStore) ⊎ ((of : IsOfPrefix k image) × HasStart k.ran of.events image)
@@ -102,16 +103,18 @@ at_rest_since ran events x = record {
   compacted = x;
 }
 
--- one whose start record is right, as that of a node that runs
+-- what is known of the store of a node that runs: its events, none of them in doubt, its extent, and that its start record is
+-- right
 abbrev pub certain : Events → Extent → Stored
 certain events x = at_rest_since events events x
 
--- after a compaction of a store that reaches so far, where its events lead to a list
+-- how far a store that reached so far reaches after a compaction, where its events lead to a list
 abbrev pub compacted_or_same : Extent → Option Releases → Extent
 compacted_or_same x None = x
 compacted_or_same x (Some es) = compacted x es
 
--- After these events, where the store reaches so far, one is in doubt, whose record has a body of so many bytes.
+-- What is known of a store while a command commits an event: the events before it, how far the store reached then, and that
+-- this event is in doubt, whose record has a body of so many bytes.
 abbrev pub uncertain : Events → Extent → Event → ℕ → Stored
 uncertain events x e size =
     let behind = extent_behind x size in
@@ -127,8 +130,8 @@ abbrev pub booted_or_same : Extent → Option Releases → Extent
 booted_or_same x None = x
 booted_or_same x (Some es) = booted_extent x es
 
--- After these events, where the store reaches so far, a boot is in doubt; the start record was last right after some of them. No
--- compaction follows it.
+-- What is known of a store while it is booted: the events before the boot, how far the store reached then, and that the boot is
+-- in doubt. The start record was last right after some of the events. No compaction follows a boot.
 abbrev pub uncertain_boot : Events → Events → Extent → Stored
 uncertain_boot ran events x =
     let behind = booted_or_same x (list_after events) in
@@ -146,7 +149,8 @@ MayHave s events x =
     × (((events ≡ s.known.acknowledged) × (x ≡ s.extent))
     ⊎ ((events ≡ with_doubt s.known.acknowledged s.known.in_doubt) × ((x ≡ s.appended) ⊎ (x ≡ s.compacted))))
 
--- These bytes are a store that has such events, stand for their list, and have a start record of theirs.
+-- A crash may leave these bytes of a store: they stand for the list of events that the store may have, reach as far as a store
+-- with these events may, and have a start record of these events.
 pub record IsStoredAs (s : Stored) (image : List ℕ) : Type 0 where
   pub events : Events
   pub has : MayHave s events (extent_of image)

@@ -26,7 +26,7 @@ extent_of image =
 abbrev pub extent_behind : Extent → ℕ → Extent
 extent_behind x size = record { base = x.base; end = x.end + (5 + size); count = x.count + 1 }
 
--- how far one without records reaches
+-- how far a store without records reaches
 abbrev pub first_extent : Extent
 first_extent = record { base = 288; end = 289; count = 0 }
 
@@ -51,20 +51,21 @@ abbrev pub LeavesBootSpace : Event → ℕ → Extent → Releases → Type 0
 LeavesBootSpace e size x es =
     (next : Releases) → step e es ≡ Some next → HasBootSpace (extent_behind x size) next
 
--- These bodies are the records of a list in a store of this format: they make it as records report it. Beside a one-shot no
--- release is current.
+-- The bodies are the records of a list in a store of this format: they make the list as records report it. Where a release is a
+-- one-shot, none is current.
 pub record AreRecordsOf (format : ℕ) (bodies : List (List ℕ)) (es : Releases) : Type 0 where
   pub makes : Makes format bodies (recorded es)
   pub alone : has_one_shot es ≡ true → recorded es ≡ es
 
--- These bytes stand for the list: they are a whole store with its records, and with room for the next boot.
+-- The bytes stand for the list: they are a whole store with the records of the list, and with room for the record of the next
+-- boot.
 pub record IsImageOf (image : List ℕ) (es : Releases) : Type 0 where
   pub bodies : List (List ℕ)
   pub store : records_of image ≡ Ok bodies
   pub list : AreRecordsOf (format_of image) bodies es
   pub room : HasBootSpace (extent_of image) es
 
--- They do, in a store that reaches so far.
+-- The bytes stand for the list, in a store that reaches as far as `extent` says.
 pub record IsImageAt (image : List ℕ) (es : Releases) (extent : Extent) : Type 0 where
   pub image_of : IsImageOf image es
   pub reaches : extent_of image ≡ extent

@@ -7,7 +7,7 @@ use Rattle.rel_store.specs.declared.store.Store.{Store}
 use Rattle.node_store.specs.Image.{AreRecordsOf, Extent, HasBootSpace, IsStarted}
 use Rattle.node_store.specs.declared.node_store.NodeStore.{NodeStore}
 
--- its disk
+-- the disk of a node
 abbrev pub disk_in : {D : Type 0} → NodeStore D → D
 disk_in node = of_store.disk_in node.store
 
@@ -16,11 +16,11 @@ abbrev pub disk_of : {D E : Type 0} → Result (NodeStore D) (E × D) → D
 disk_of (Ok node) = of_store.disk_in node.store
 disk_of (Err refusal) = refusal.1
 
--- its releases
+-- the releases of a node, in a list
 abbrev pub list_in : {D : Type 0} → NodeStore D → Releases
 list_in node = node.list
 
--- nothing can be asked of it until the next boot
+-- whether a node is dead: nothing can be asked of it until the next boot
 abbrev pub is_dead : {D : Type 0} → NodeStore D → Bool
 is_dead node = node.dead
 
@@ -41,7 +41,7 @@ format_in node = of_store.format_in node.store
 abbrev pub start_in : {D : Type 0} → (D → List ℕ) → NodeStore D → List ℕ
 start_in seen node = of_store.text_in seen node.store
 
--- Its store is settled, has the records of its list, and room for the next boot.
+-- The node's store is settled, has the records of the node's list, and room for the next boot.
 pub record IsReady {D : Type 0} (seen : D → List ℕ) (may_leave : D → List ℕ → Type 0) (node : NodeStore D) : Type 0 where
   pub store : of_store.IsSettled seen may_leave node.store
   pub list : AreRecordsOf (format_in node) (of_store.records_in node.store) node.list
@@ -57,7 +57,7 @@ pub record IsSound {D : Type 0} (seen : D → List ℕ) (may_leave : D → List 
   pub started : is_dead node ≡ false → HasStarted may_leave node
   pub free : is_dead node ≡ false → has_one_shot (list_in node) ≡ false
 
--- nothing of it has changed but the memory that it holds
+-- Nothing of a node has changed but the memory that it holds.
 pub record IsSame {D : Type 0} (old new : NodeStore D) : Type 0 where
   pub disk : disk_in new ≡ disk_in old
   pub list : list_in new ≡ list_in old

@@ -47,8 +47,8 @@ pub fn make_room<D: Disk>(
 }
 
 impl<D: Disk> NodeStore<D> {
-    // Has the list take an event, and then the store its record, for which there is room. The node is dead from the write on,
-    // until its caller has written all that belongs to the event. An event that brings no release is refused for the device alone.
+    // The list takes an event, and the store its record, for which there is room. The node is dead from the write on, until its
+    // caller has written all that belongs to the event. An event that brings no release is refused for the device alone.
     pub(crate) fn write(
         &mut self,
         alloc: Global,
@@ -127,7 +127,7 @@ impl<D: Disk> NodeStore<D> {
         Ok(())
     }
 
-    /// Does so with an event that brings no release, where the list allows it.
+    /// Commits an event that brings no release, where the list allows it.
     pub fn change(&mut self, alloc: Global, event: Event) -> Result<(), HandlerError>
         requires sound { IsSound D.seen D.may_leave self.old }
         requires works { is_dead self.old ≡ false }

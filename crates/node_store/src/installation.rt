@@ -60,8 +60,8 @@ impl<D: Disk> NodeStore<D> {
         Ok(())
     }
 
-    // Has the list take an installation, and then the store its record. Where that writes a one-shot, the store becomes one of
-    // format 2 first.
+    // The list takes an installation, and the store its record. Where that writes a one-shot, the store becomes one of format 2
+    // first.
     fn write_installation(
         &mut self,
         alloc: Global,

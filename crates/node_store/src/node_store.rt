@@ -10,7 +10,7 @@ use rel_store::Store;
 /// it is dead.
 #[derive(Drop)]
 pub struct NodeStore<D: Disk> {
-    /// It has the records of the list.
+    /// The store, which has the records of the list.
     pub store: Store<D>,
     /// The releases after all events, also after one whose record is being written.
     pub list: ReleaseList,

@@ -81,7 +81,7 @@ among_through s false (b ∷ reported) (i ∷ is) r q there =
     ∙ both_among (is_among q (names_in r.modules)) (is_among q (names_in (run_after s false b i r).modules)) (is_among q (names_loaded (i ∷ []))) (is_among q (names_loaded is))
     (among_through s false reported is (run_after s false b i r) q there) (step_among s false b i r q)
 
--- So the names that an installation concerns are enough to find the stale modules among them.
+-- To find the stale modules, the names that an installation concerns are enough.
 pub stale_behind : (old next target : NamedModules) (script : List Instruction)
     → ((q : List ℕ) → is_among q (names_in next) ≡ true → (is_among q (names_in old) || is_among q (names_loaded script)) ≡ true)
     → filter (is_stale next target) (sorted_names (names_concerned old target script)) ≡ sorted_names (filter (is_stale next target) (names_in next ++ names_in target))

@@ -91,7 +91,7 @@ name_noted name rest old new is q =
     by true o = all (is_some o)
     by false o = refl
 
--- So it is after one module more, and after one instruction more.
+-- With one module of a row noted, the notes and the rest of the row have the same names together as before.
 pub pair_noted : (items : List (Bor (List ℕ) × Bor (List ℕ))) (i : ℕ) (d : Bor (List ℕ) × Bor (List ℕ)) → i < length items → (total : List ℕ → Bool) (old new : Noted)
     → ((q : List ℕ) → get_by (λ k. slice_cmp nat_cmp q k.now) new ≡ cond (bytes_eq (get_or items i d).0.now q) (Some tt) (get_by (λ k. slice_cmp nat_cmp q k.now) old))
     → ((q : List ℕ) → noted_with old (first_names (drop i items)) q ≡ total q) → (q : List ℕ) → noted_with new (first_names (drop (i + 1) items)) q ≡ total q

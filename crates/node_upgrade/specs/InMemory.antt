@@ -16,6 +16,6 @@ upgrade_of u = record { found = found_of u.found; releases = u.list.now; target 
 abbrev pub is_noted : BTreeMap (Bor (List ℕ)) (Unit {0}) → List ℕ → Bool
 is_noted noted name = is_some (get_by (λ k. slice_cmp nat_cmp name k.now) noted)
 
--- These names are noted beside those that were.
+-- Beside the names that were noted, these are noted, and no others.
 abbrev pub NotesNames : List (List ℕ) → BTreeMap (Bor (List ℕ)) (Unit {0}) → BTreeMap (Bor (List ℕ)) (Unit {0}) → Type 0
 NotesNames names old new = (q : List ℕ) → is_noted new q ≡ (is_noted old q || is_among q names)

@@ -11,7 +11,7 @@ use Rattle.std.specs.Str.{bytes_eq}
 abbrev pub is_among : List ℕ → List (List ℕ) → Bool
 is_among name names = list_any (bytes_eq name) names
 
--- They are the names for which the test holds, each once, in the order of their bytes.
+-- The names are those for which the test holds, each once, in the order of their bytes.
 pub record AreNamesWith (test : List ℕ → Bool) (names : List (List ℕ)) : Type 0 where
   pub ordered : IsStrictlySortedBy (slice_cmp nat_cmp) names
   pub same : (name : List ℕ) → is_among name names ≡ test name

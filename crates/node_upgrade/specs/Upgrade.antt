@@ -35,7 +35,7 @@ pub record UpgradeForm : Type 0 where
   pub releases : Releases
   pub target : List Library
 
--- where it runs, with what is loaded as it begins
+-- where an upgrade runs, with what is loaded as it begins
 abbrev pub site_for : UpgradeForm → NamedModules → Site
 site_for u modules = record { releases = u.releases; target = u.target; loaded = modules }
 
@@ -43,7 +43,7 @@ site_for u modules = record { releases = u.releases; target = u.target; loaded =
 abbrev pub upgrade_to : List ℕ → Releases → FoundForm → UpgradeForm
 upgrade_to vsn es f = record { found = f; releases = es; target = libraries_at vsn es }
 
--- This is the one by which the release of this version is installed.
+-- The upgrade is the one by which the release of this version is installed.
 pub record IsUpgrade (vsn : List ℕ) (es : Releases) (u : UpgradeForm) : Type 0 where
   pub found : installation vsn es ≡ Ok u.found
   pub is : u ≡ upgrade_to vsn es u.found

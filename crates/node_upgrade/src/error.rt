@@ -15,7 +15,7 @@ pub enum Why {
     NewEmulator,
     /// The script has no point of no return.
     NoPoint,
-    /// It has more than one.
+    /// The script has more than one point of no return.
     TwoPoints,
     /// The instruction stands on the wrong side of the point.
     Misplaced,

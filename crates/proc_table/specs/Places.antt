@@ -37,7 +37,7 @@ pub record ReachedBySlot (s : States) : Type 0 where
   pub homes_are : BySlot s.homes homes
   pub reached : Reached (state words homes s.views)
 
--- These two slots have places that are eight or more apart: no line of eight words has the words of both.
+-- Two slots have places that are eight or more apart: no line of eight words has the words of both.
 abbrev pub LieApart : ℕ → ℕ → Type 0
 LieApart p q = (place_of p + 8 ≤ place_of q) ⊎ (place_of q + 8 ≤ place_of p)
 

@@ -1,7 +1,8 @@
 //! What stands round the calls of a worker.
 use crate::{Answer, Job};
 
-/// Is called for each job of a worker, in the worker's thread. A program gates its workers by it, as to count their jobs.
+/// Calls that a worker makes, in its own thread, before and after each job. A program gates its workers by them, as to count
+/// their jobs.
 pub trait Gate {
     /// The worker is about to answer this job.
     fn before(&self, job: &Job);

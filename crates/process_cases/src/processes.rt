@@ -8,7 +8,7 @@ use std::alloc::Global;
 use std::sync::Wait;
 use text_cases::Answer;
 
-/// It counts its calls, and may end.
+/// A worker that counts its calls, and may end.
 const CH3: &[u8] = b"{worker,ch3,\"1\",0,[{add,1,1},{on,4,7,40,400},{stop,2,3,9}]}.";
 
 fn name(alloc: Global, text: &str) -> Option<Name> {

@@ -192,7 +192,7 @@ fn follow<H: Threads + Wait + Sync, D: Disk + Drop, R: Read + Drop>(
     disk
 }
 
-// Has a session of this input write to a writer. The disk comes back, and how the session ended.
+// Runs a session of this input, with this writer. The disk comes back, and how the session ended.
 fn run<H: Threads + Wait + Sync, D: Disk + Drop, R: Read + Drop, W: Write + Drop>(
     rt: &H,
     alloc: Global,

@@ -28,7 +28,7 @@ pub fn image_body(alloc: Global, list: &ReleaseList) -> Result<Option<String>, A
     requires made { IsMadeByRecords (recorded list.now) }
     ensures body { IfOk result (λ o. option_map string_bytes o ≡ image_of (recorded list.now)) }
 
-    // It makes the list, whatever bodies made that before, in a store of each format that may have it.
+    // The body makes the list, whatever bodies made that before, in a store of each format that may have it.
     ensures makes { IfOk result (λ o. ForSome o
         (λ body. MakesAsImage (recorded list.now) (string_bytes body))) }
 {

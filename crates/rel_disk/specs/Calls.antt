@@ -28,7 +28,7 @@ sync_count (wrote at bytes ∷ older) = sync_count older
 sync_count (cut_to len ∷ older) = sync_count older
 sync_count (synced ∷ older) = sync_count older + 1
 
--- those since the last sync
+-- the calls since the last sync
 abbrev pub since_sync : List Call → List Call
 since_sync [] = []
 since_sync (wrote at bytes ∷ older) = wrote at bytes ∷ since_sync older

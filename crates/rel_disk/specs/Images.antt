@@ -10,7 +10,7 @@ Image first (wrote at bytes ∷ older) c = (d : List ℕ) × Image first older d
 Image first (cut_to len ∷ older) c = (d : List ℕ) × Image first older d × Cut len d c
 Image first (synced ∷ older) c = c ≡ content first older
 
--- it is an image after these calls, or was one when there were fewer, but at least t
+-- The bytes are an image after these calls, or were one when there were fewer, but at least t.
 abbrev pub ImageSince : List ℕ → List Call → ℕ → List ℕ → Type 0
 ImageSince first [] t c = Image first [] c
 ImageSince first (call ∷ older) t c = Image first (call ∷ older) c ⊎ ((t ≤ length older) × ImageSince first older t c)

@@ -2,12 +2,12 @@
 use Rattle.std.specs.Prelude.{◌≡◌, ◌⊎◌, ℕ, ◌+◌, ◌<◌, ◌≤◌, min, List, [], ◌∷◌, length, slice_index}
 use Rattle.rel_disk.specs.Calls.{Call, wrote, cut_to, synced, content}
 
--- none is lost, and each outside the range is as it was
+-- No byte is lost, and each outside the range is as it was.
 pub record KeepsOutside (at n : ℕ) (old new : List ℕ) : Type 0 where
   pub long : length old ≤ length new
   pub kept : (i : ℕ) → i < length old → (i < at) ⊎ (at + n ≤ i) → slice_index new i ≡ slice_index old i
 
--- none of the first n is lost, and each of them is as it was
+-- Of the first n bytes none is lost, and each is as it was.
 pub record KeepsFront (n : ℕ) (old new : List ℕ) : Type 0 where
   pub long : min n (length old) ≤ length new
   pub kept : (i : ℕ) → i < n → i < length old → slice_index new i ≡ slice_index old i
@@ -33,7 +33,7 @@ IsWritten (wrote at bytes ∷ older) i = ((at ≤ i) × (i < at + length bytes))
 IsWritten (cut_to len ∷ older) i = IsWritten older i
 IsWritten (synced ∷ older) i = ⊥
 
--- nothing was written or cut since the last sync
+-- No call has written or cut since the last sync.
 abbrev pub IsAtRest : List Call → Type 0
 IsAtRest [] = Unit {0}
 IsAtRest (wrote at bytes ∷ older) = ⊥

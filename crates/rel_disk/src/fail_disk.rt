@@ -31,7 +31,7 @@ impl<D: Disk> FaultyDisk<D, Fault> {
         FailDisk::failing(disk, call, false)
     }
 
-    /// Such a disk, on which the call has a part of its effect where it is `in_part`.
+    /// Fails the call of this number, counted from 1. Where `in_part` is set, the call still has a part of its effect.
     pub fn failing(disk: D, call: u64, in_part: bool) -> Self
         ensures { result ≡ record {
           disk = disk;

@@ -65,7 +65,7 @@ impl MemDisk {
         MemDisk::with_bytes(alloc, &[], capacity, log)
     }
 
-    /// Such a disk that begins with these bytes, as after a sync: a crash leaves them.
+    /// A disk that begins with these bytes, as after a sync: a crash leaves them.
     pub fn with_bytes(
         alloc: Global,
         bytes: &[u8],

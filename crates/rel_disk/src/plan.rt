@@ -7,12 +7,12 @@ ghost use Rattle.rel_disk.specs.declared.plan.Turn.{Turn};
 pub enum Turn {
     /// The disk within does it.
     Passes,
-    /// It fails and does nothing.
+    /// The call fails and does nothing.
     Fails,
-    /// It fails and has a part of its effect: a write writes the first half of its bytes, rounded up, and a cut and a sync are done
-    /// whole. A call that only reads does nothing.
+    /// The call fails and has a part of its effect: a write writes the first half of its bytes, rounded up, and a cut and a
+    /// sync are done whole. A call that only reads does nothing.
     FailsInPart,
-    /// It fails, and a write writes the first half of its bytes, rounded down. Any other call does nothing.
+    /// The call fails, and a write writes the first half of its bytes, rounded down. Any other call does nothing.
     Stops,
 }
 

@@ -65,7 +65,7 @@ image_or_refused bytes = by_records (records_of bytes) refl (of_bytes bytes)
     by_records (Err (store.Damaged at)) read is = inr (boot.Damaged at, read)
     by_records (Err e) read is = absurd is
 
--- They stand for one list.
+-- The bytes of a disk stand for one list at most.
 pub stands_for_one : StandsForOneList
 stands_for_one bytes es fs image other = boot_alike es fs image.list.alone other.list.alone (recorded_image bytes image.bodies (recorded es) fs image.store image.list.makes other)
 

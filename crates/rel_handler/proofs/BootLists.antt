@@ -21,7 +21,7 @@ fits_or_not x size = by_size (cases_lt 16777216 size)
     by_size (inl long) = inr (λ fits. let short : size ≤ 16777216 = fits.0 in omega arith)
     by_size (inr short) = by_end short (cases_lt 67108864 (x.end + (5 + size)))
 
--- So does the record of a boot, where there is one.
+-- There is room for the record of the next boot, or there is not.
 pub boots_or_not : (x : Extent) (es : Releases) → HasBootSpace x es ⊎ (HasBootSpace x es → ⊥)
 boots_or_not x es = elim (cases_Bool (has_one_shot es)) [
   | inl one ↦ elim (fits_or_not x (boot_size es)) [ inl fits ↦ inl (λ one. fits) | inr over_it ↦ inr (λ space. over_it (space one)) ]

@@ -239,7 +239,7 @@ module _ (s : Stored) (bytes : List ℕ) (of : IsStoredAs s bytes) where
             start = ⊎_elim later_start (λ new. new_start (started_by left.list (booted of.list) c c (ap permanent (sym alike.booted) ∙ permanent-of_booted left.list) refl new)) slot;
           }
 
--- So a boot that has settled a store's events keeps them, with its own or without.
+-- A boot that has settled a store's events keeps them, with its own or without.
 pub settles_store : {D : Type 0} (v : Ghosts D) → ((disk : D) → v.may_leave disk (v.seen disk)) → ((disk : D) (t : ℕ) (c : List ℕ) → t ≤ v.moment disk → v.may_leave disk c → v.left_since disk t c)
     → (disk new at : D) → SettlesAt v disk new at → (s : Stored) → ((c : List ℕ) → v.may_leave disk c → IsStoredAs s c) → SettlesStore v s disk new
 settles_store {D} v reads counts_now disk new at settles s here = record {
@@ -259,7 +259,7 @@ settles_store {D} v reads counts_now disk new at settles s here = record {
     from c (inl is) = subst (IsStoredAs (uncertain_boot s.known.ran of.events (extent_of (v.seen disk)))) (sym is) (stored_read s (v.seen disk) of)
     from c (inr left) = stored_left s (v.seen disk) of c left
 
--- So it is of a boot from its reading on.
+-- A boot keeps a store's events from its reading on.
 pub keeps_store : {D : Type 0} (v : Ghosts D) → ((disk : D) → v.may_leave disk (v.seen disk)) → (counts_now : (disk : D) (t : ℕ) (c : List ℕ) → t ≤ v.moment disk → v.may_leave disk c → v.left_since disk t c)
     → (disk : D) (h : NodeStore D) (opened : IsOpened v disk h) (room : HasBootSpace (extent_in h) (list_in h)) (new : D) (leaves : Leaves v (IsOldOrBooted v.seen h) (disk_in h) new)
     → (at : D) → SettlesAt v disk (disk_in h) at → (s : Stored) → ((c : List ℕ) → v.may_leave disk c → IsStoredAs s c) → KeepsStore v s disk new

@@ -28,7 +28,7 @@ prefix_with events e es after = record { lacks = []; of_accepted = ap (λ o. if 
     none : events ++ e ∷ [] ≡ (events ++ e ∷ []) ++ []
     none = sym (append-nil _)
 
--- So an image of the list after it is one of a prefix.
+-- An image of the list after the event in doubt is an image of a prefix of the accepted events.
 pub as_after : (events : List Event) (e : Event) (es end : Releases) (c : List ℕ) → list_after events ≡ Some es → step e es ≡ Some end → IsImageOf c end → IsOfPrefix (doubted events e) c
 as_after events e es end c after next image =
     let all = list_after-push events e es end after next in

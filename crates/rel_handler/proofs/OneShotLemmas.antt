@@ -96,7 +96,7 @@ module _ {D : Type 0} (v : Ghosts D) (h : NodeStore D) (ready : IsReady v.seen v
             (subst (λ n. LeavesOthers (IsInRecord (end_of (v.seen (disk_in h)) - 1) n) (v.seen (store.disk_in reserved)) c) long
             (subst (λ at. LeavesOthers (IsInRecord at (length body)) (v.seen (store.disk_in reserved)) c) gate others))
 
-    -- It is there.
+    -- The record of the boot was appended.
     pub taken : (new : Store D) (dead : Bool) → store.IsSettled v.seen v.may_leave new → store.records_in new ≡ store.records_in reserved ++ body ∷ [] → store.base_in new ≡ store.base_in reserved → store.end_in new ≡ store.end_in reserved + (5 + length body) → store.format_in new ≡ store.format_in reserved
         → IsBooted v h (record { store = new; list = next; dead = dead })
     taken new dead settled added base end format = record {

@@ -19,7 +19,7 @@ use Rattle.node_command.proofs.CommandLemmas.{there_already}
 use Rattle.node_command.proofs.ReleaseLemmas.{barred_so, listed_free, no_memory}
 use Rattle.node_store.proofs.Commits.{all_same}
 
--- It isn't taken in, and nothing has changed.
+-- A release for which the list has no place isn't taken in, and nothing has changed.
 pub no_place : {D : Type 0} (v : Ghosts D) (source : Source) (path : List ℕ) (h : NodeStore D) (b : Brought) (e : HandlerError) → is_dead h ≡ false → has_one_shot (list_in h) ≡ false → is_small b.found.release ≡ true → Brings source path (Ok b)
     → Commits v (unpacked (bundle_brought b)) (unpacked_size b (list_in h)) h h → HasNoPlace b (list_in h) e → UnpackingRefused v source path h h e
 no_place v source path h b e alive free small read still (inl none) =

@@ -18,7 +18,8 @@ use Rattle.rel_handler.specs.declared.error.BootError.{BootError}
 use Rattle.rel_handler.specs.declared.error.BootError.TheVariants.{BadRecord, Device, NoMemory}
 use Rattle.node_store.specs.declared.node_store.NodeStore.{NodeStore}
 
--- Its store is settled, and its records make its list, in which no release is current. For the next boot there may be no room.
+-- A handler was read from a store: its store is settled, and the records make its list, in which no release is current. For the
+-- next boot there may be no room.
 pub record IsRead {D : Type 0} (seen : D → List ℕ) (may_leave : D → List ℕ → Type 0) (handler : NodeStore D) : Type 0 where
   pub store : of_store.IsSettled seen may_leave handler.store
   pub makes : Makes (format_in handler) (of_store.records_in handler.store) (list_in handler)
@@ -50,15 +51,16 @@ pub record IsBootOf {D : Type 0} (bytes : List ℕ) (es : Releases) (handler : N
   pub list : list_in handler ≡ booted es
   pub extent : extent_in handler ≡ booted_extent (extent_of bytes) es
 
--- These bytes stand for the handler's list as it is after a boot.
+-- The bytes stand for the handler's list as it is after a boot.
 abbrev pub IsImageBehindBoot : {D : Type 0} → NodeStore D → List ℕ → Type 0
 IsImageBehindBoot h c = IsImageAt c (booted (list_in h)) (booted_extent (extent_in h) (list_in h))
 
--- They stand for its list, as it is or as it is after a boot, and have its start slot.
+-- The bytes stand for the handler's list, as it is or as it is after a boot, and have its start slot.
 abbrev pub IsOldOrTaken : {D : Type 0} → (D → List ℕ) → NodeStore D → List ℕ → Type 0
 IsOldOrTaken seen h c = (IsImageAt c (list_in h) (extent_in h) ⊎ IsImageBehindBoot h c) × (start_bytes c ≡ start_in seen h)
 
--- So they do, or they stand for its list as it is after a boot, and have the start record of the permanent release.
+-- At any moment of a boot a crash leaves such bytes: they stand for the handler's list, as it is or as it is after a boot, and
+-- have its start slot; or they stand for the list after a boot, and have the start record of the permanent release.
 abbrev pub IsOldOrBooted : {D : Type 0} → (D → List ℕ) → NodeStore D → List ℕ → Type 0
 IsOldOrBooted seen h c = IsOldOrTaken seen h c ⊎ (IsImageBehindBoot h c × IsStarted (list_in h) c)
 

@@ -26,7 +26,7 @@ abbrev pub installation_event : Bool → List ℕ → Event
 installation_event true vsn = restart_installed vsn
 installation_event false vsn = installed vsn
 
--- its script ends with a restart, if there is one
+-- whether the script of an installation ends with a restart, if there is a script
 abbrev pub ends_with_restart : Result FoundForm HandlerError → Bool
 ends_with_restart (Ok f) = restarts f.script
 ends_with_restart (Err why) = false
@@ -35,7 +35,7 @@ ends_with_restart (Err why) = false
 abbrev pub needs_restart : List ℕ → Releases → Bool
 needs_restart vsn es = ends_with_restart (installation vsn es)
 
--- its event
+-- the event of an installation of this version
 abbrev pub install_event : List ℕ → Releases → Event
 install_event vsn es = installation_event (needs_restart vsn es) vsn
 

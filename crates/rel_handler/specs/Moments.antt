@@ -23,15 +23,16 @@ pub record HasRead {D : Type 0} (v : Ghosts D) (old new : NodeStore D) : Type 0 
   pub only_read : HasOnlyRead v.seen v.may_leave v.moment v.left_since (disk_in old) (disk_in new)
   pub counted : v.failures (disk_in old) ≤ v.failures (disk_in new)
 
--- Up to this moment of a creation a crash leaves what it left before the call, but for a torn gate, and its first sync has taken
--- effect then. From it on a crash leaves no store, or one that stands for the list of such a prefix.
+-- A creation has its first sync at this moment. Up to it a crash leaves what it left before the call, but for a torn gate. From
+-- it on a crash leaves no store, or one that stands for the list of a prefix of the accepted events with every acknowledged
+-- one.
 pub record BeginsAt {D : Type 0} (v : Ghosts D) (k : Known) (old new at : D) : Type 0 where
   pub until : LeavesOnly v.moment v.left_since old at (IsTornFrom (v.may_leave old) 0 1)
   pub first_sync : v.syncs at ≡ v.syncs old + 1
   pub synced : Only (v.seen at) (v.may_leave at)
   pub from : LeavesOnly v.moment v.left_since at new (IsNoneOrOfPrefix k)
 
--- At each moment of a creation: nothing but the gate of a store is torn, and no sync has taken effect; or that is so up to the
+-- At each moment of a creation nothing but the gate of a store is torn, and no sync has taken effect; or that is so up to the
 -- first sync that does.
 abbrev pub Begins : {D : Type 0} → Ghosts D → Known → D → D → Type 0
 Begins {D} v k old new = IsBeforeFirstSync v old new ⊎ ((at : D) × BeginsAt v k old new at)
@@ -40,7 +41,7 @@ Begins {D} v k old new = IsBeforeFirstSync v old new ⊎ ((at : D) × BeginsAt v
 abbrev pub WritesNothing : {D : Type 0} → (D → List ℕ) → (D → List ℕ → Type 0) → (D → ℕ) → (D → ℕ → List ℕ → Type 0) → D → D → Type 0
 WritesNothing seen may_leave moment left_since old new = IsUnwritten seen may_leave moment left_since old new
 
--- The list is that of such a prefix, with a boot after it.
+-- The list is that of a prefix of the accepted events with every acknowledged one, and of a boot after it.
 pub record BootsTo (k : Known) (es : Releases) : Type 0 where
   pub events : List Event
   pub prefix : IsPrefix k events
@@ -51,8 +52,8 @@ pub record IsUnsettled {D : Type 0} (v : Ghosts D) (old new : D) : Type 0 where
   pub until : LeavesOnly v.moment v.left_since old new (v.may_leave old)
   pub unsynced : v.syncs new ≡ v.syncs old
 
--- Up to this moment of a boot a crash leaves nothing that none before would have left, and its first sync has taken effect then.
--- From then on it leaves what a read gave, and what the boot has written.
+-- A boot has its first sync at this moment. Up to it a crash leaves nothing that none before would have left. From it on a
+-- crash leaves what a read gave, and what the boot has written.
 pub record SettlesAt {D : Type 0} (v : Ghosts D) (old new at : D) : Type 0 where
   pub until : LeavesOnly v.moment v.left_since old at (v.may_leave old)
   pub first_sync : v.syncs at ≡ v.syncs old + 1
@@ -73,6 +74,7 @@ pub record SettlesStore {D : Type 0} (v : Ghosts D) (s : Stored) (old new : D) :
   pub any_moment : LeavesOnly v.moment v.left_since old new (λ c. IsStoredAs s c ⊎ IsStoredAs (uncertain_boot s.known.ran events extent) c)
   pub now : (c : List ℕ) → v.may_leave new c → IsStoredAs (uncertain_boot s.known.ran events extent) c
 
--- It has, or a crash leaves all the time what was known before.
+-- At each moment of a boot a crash leaves what was known of the store before, or the boot has settled which events the store
+-- has.
 abbrev pub KeepsStore : {D : Type 0} → Ghosts D → Stored → D → D → Type 0
 KeepsStore v s old new = LeavesOnly v.moment v.left_since old new (IsStoredAs s) ⊎ SettlesStore v s old new

@@ -34,8 +34,8 @@ MakingRefused bytes size before now unwritten NoMemory = unwritten
 MakingRefused bytes size before now unwritten Device = HasFailed before now
 MakingRefused bytes size before now unwritten _ = ⊥
 
--- They make a list with a one-shot, and after them is no room for the record of the boot that takes it away: the last of them
--- is the bad one.
+-- The bodies make a list with a one-shot, and after them is no room for the record of the boot that takes it away: the last
+-- body is the bad one.
 abbrev pub LeaveNoBootSpace : ℕ → Extent → List (List ℕ) → ℕ → Type 0
 LeaveNoBootSpace format x bodies i = (es : Releases) × Makes format bodies es × (HasBootSpace x es → ⊥) × (i ≡ length bodies)
 

@@ -59,8 +59,8 @@ pub fn boot<D: Disk>(alloc: Global, disk: D) -> Result<Handler<D>, (BootError, D
     ensures right { (es : Releases) → IsImageOf (D.seen disk) es → IsStarted es (D.seen disk)
         → IfOk result (λ handler. WritesNoStart D.Disk es disk (disk_in handler)) }
 
-    // So whatever a crash left of a node is booted to the list of a prefix of its accepted events that holds every
-    // acknowledged one.
+    // Whatever a crash left of a node is booted to the list of a prefix of its accepted events that holds every acknowledged
+    // one.
     ensures recovers { (k : Known) → ((c : List ℕ) → D.may_leave disk c → IsOfPrefix k c)
         → MatchResult result (λ handler. BootsTo k (list_in handler))
         (λ e. (e.0 ≡ BootError.Device) ⊎ (e.0 ≡ BootError.NoMemory)) }
@@ -71,7 +71,7 @@ pub fn boot<D: Disk>(alloc: Global, disk: D) -> Result<Handler<D>, (BootError, D
         (λ c. D.may_leave disk c ⊎ IsLeftByBoot (D.seen disk) c) }
     ensures synced { IsSynced D.Disk disk result }
 
-    // So a store whose events are known keeps them, with the boot's own after them or without.
+    // A store whose events are known keeps them, with the boot's own after them or without.
     ensures stored { (s : Stored) → ((c : List ℕ) → D.may_leave disk c → IsStoredAs s c)
         → KeepsStore D.Disk s disk (disk_of result) }
 

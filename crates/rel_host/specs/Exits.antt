@@ -20,7 +20,7 @@ abbrev pub exit_text : Failure → List ℕ
 exit_text BadArguments = codes "bad arguments"
 exit_text (Session e) = ended.exit_text e
 
--- there are no options
+-- the failure that a program reports where there are no options
 abbrev pub failure_of_options : OptionsError → Failure
 failure_of_options options.BadArguments = BadArguments
 failure_of_options options.NoMemory = Session session.NoMemory

@@ -10,11 +10,11 @@ use Rattle.file_source.specs.declared.files.FilesError.TheVariants.{Missing}
 abbrev pub parts : List ℕ → List (List ℕ)
 parts path = slice_split (λ b. b == 47) path
 
--- one of its parts is `..`
+-- whether one of the path's parts is `..`
 abbrev pub climbs : List ℕ → Bool
 climbs path = list_any (λ part. bytes_eq part (codes "..")) (parts path)
 
--- It leads below the folder in which it begins: it isn't empty, doesn't begin with '/', has no part `..` and no byte 0.
+-- The path leads below the folder in which it begins: it isn't empty, doesn't begin with '/', has no part `..` and no byte 0.
 pub record IsBelow (path : List ℕ) : Type 0 where
   pub some : path ≢ []
   pub relative : slice_index path 0 ≢ 47

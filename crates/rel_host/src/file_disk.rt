@@ -24,15 +24,15 @@ const LOG: usize = 134_217_728;
 /// Why a file isn't opened as a disk.
 #[derive(Clone, Copy, Debug, PartialEq, Eq, Error)]
 pub enum OpenError {
-    /// It can't be opened or made, or is no file.
+    /// The file can't be opened or made, or is no file.
     CantOpen,
-    /// It is open as a disk, here or in another process, or it can't be locked.
+    /// The file is open as a disk, here or in another process, or it can't be locked.
     InUse,
-    /// It can't be read, or what is read can't be made durable.
+    /// The file can't be read, or what is read can't be made durable.
     CantRead,
-    /// It has more than 67,108,864 bytes.
+    /// The file has more than 67,108,864 bytes.
     TooLong,
-    /// No memory was left. It says nothing of the file.
+    /// No memory was left, which says nothing of the file.
     NoMemory,
 }
 

@@ -20,7 +20,7 @@ status_after (change.MakePermanent v) vsn s = permanent_status (bytes_eq v.now v
 status_after change.Boot vsn s = booted_status s
 status_after (change.Assign v t) vsn s = assigned_status t (bytes_eq v.now vsn) s
 
--- it is a release of another version, and current or a one-shot
+-- whether an entry is of a release of another version, and current or a one-shot
 abbrev pub is_other_temporary : List ℕ → Entry → Bool
 is_other_temporary v e = not (bytes_eq v e.release.vsn) && is_temporary e.status
 

@@ -103,7 +103,7 @@ libraries_of es = each_once (libraries_named es)
 abbrev pub shared : Releases → List Library → List Library
 shared es ls = map (λ (l : Library). unwrap_or (library_in es l.app.name l.app.vsn) l) ls
 
--- it is not the same as that of its name and version in the list
+-- whether a library is not the same as that of its name and version in the list
 abbrev pub differs : Releases → Library → Bool
 differs es l = not (agrees (library_in es l.app.name l.app.vsn) l)
 

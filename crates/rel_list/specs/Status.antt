@@ -27,7 +27,7 @@ abbrev pub is_one_shot : Status → Bool
 is_one_shot OneShot = true
 is_one_shot s = false
 
--- it is installed until a boot takes the installation away: it is current, or a one-shot
+-- whether a release with this status is installed until a boot takes the installation away: it is current, or a one-shot
 abbrev pub is_temporary : Status → Bool
 is_temporary Current = true
 is_temporary OneShot = true

@@ -57,8 +57,8 @@ impl ReleaseList {
         Ok(found)
     }
 
-    /// These libraries for a release that the list is to take, with the list's own in place of those that it has. So a
-    /// library's terms are kept once. One that differs from the list's is replaced too: ask `first_different` before.
+    /// The libraries of a release that the list is to take, with the list's own in place of those that it has: a library's
+    /// terms are kept once. A library that differs from the list's is replaced too: ask `first_different` before.
     pub fn share(
         &self,
         alloc: Global,

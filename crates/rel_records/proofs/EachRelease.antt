@@ -51,7 +51,7 @@ module _ (P : Entry → Type 0) where
   each_one p [] next is has = let one : entry p Permanent ∷ [] ≡ next = cc is in subst (AllByRecursion P) one (has, tt)
   each_one p (f ∷ fs) next is has = absurd (never_made_again p f fs next is)
 
-  -- It holds whatever the status is.
+  -- P holds of an entry whatever the entry's status is.
   module _ (still : (e : Entry) (s : Status) → P e → P (record e { status = s })) where
     -- it held of the list that records report so
     pub each-of_recorded : (es : Releases) → AllByRecursion P (recorded es) → AllByRecursion P es

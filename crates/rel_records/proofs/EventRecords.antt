@@ -241,7 +241,7 @@ module _ (e : Event) where
   never_leads v [] others = refl
   never_leads v (a ∷ given) others = others.0
 
-  -- It names releases in the order of the list,
+  -- The record of an event names releases in the order of the list.
   in_order_written : (es : Releases) → HasDistinctVersions es → are_in_order (recorded es) (changes e es) ≡ true
   in_order_written [] distinct = refl
   in_order_written (x ∷ es) distinct = go (is_changed e x) (in_order_written es distinct.1)
@@ -258,7 +258,7 @@ module _ (e : Event) where
       go false rest =
           ap (λ b. are_in_order (recorded es) (if b then others x.release.vsn (changes e es) else changes e es)) (never_leads x.release.vsn (changes e es) apart) ∙ rest
 
-  -- and says of each what the event does.
+  -- The record of an event says of each release what the event does.
   said_written : (es : Releases) → HasDistinctVersions es → said (changes e es) (recorded es) ≡ said_in e es
   said_written [] distinct = refl
   said_written (x ∷ es) distinct = go (is_changed e x) refl (said_written es distinct.1)

@@ -239,7 +239,7 @@ module _ (told : List ℕ → Option Status) where
   says_boot [] each = refl
   says_boot (x ∷ es) each = λ k. each.0 k ∷ says_boot es each.1 k
 
-  -- Those that pass a test, and how many they are
+  -- the statuses that pass a test, each with what is said of it
   abbrev passing : (Status → Option Status → Bool) → Releases → List (Status × Option Status)
   passing test es = filter (λ (p : Status × Option Status). test p.0 p.1) (zip (statuses_of es) (said_by told es))
 

@@ -51,7 +51,7 @@ allowed_in_2 format (assigns given) may = refl
 allowed_in_2 format (removes v) may = refl
 allowed_in_2 format (images xs ls) may = may
 
--- It may have the record of each event.
+-- A store of format 2 may have the record of each event.
 pub event_allowed_in_2 : (e : Event) (es : Releases) → allows 2 (record_of e es) ≡ true
 event_allowed_in_2 (made p) es = refl
 event_allowed_in_2 (unpacked p) es = refl
@@ -81,7 +81,7 @@ none_behind (removed v) other vsn s none = none
 none_behind (reboot_old v) other vsn s none = none-permanent (bytes_eq v vsn) s none
 none_behind boot other vsn s none = no_one_shot-booted s
 
--- So it writes that status of none: it writes the statuses alone that it changes.
+-- An event that makes no release a one-shot writes that status of none: it writes only the statuses that it changes.
 none_written : (s t : Status) → (is_one_shot s ≡ false → is_one_shot t ≡ false) → not (is_same t s) ≡ true → is_one_shot (recorded_status t) ≡ false
 none_written s Unpacked keeps differs = refl
 none_written s Current keeps differs = refl

@@ -203,7 +203,7 @@ module _ (f : List ℕ → Status → Status) where
         (both_true (each_is is_left_or_changed (before es) (said es)) (nat_le (how_many_are is_installed (before es) (said es)) 1) (all_are is_left_or_changed es (each_may es all)) (installs_one es once all))
         (replaces_one es orderly all)
 
--- They follow by a boot, an installation, or an event that makes another release permanent.
+-- Statuses follow by a boot, an installation, or an event that makes another release permanent.
 or_true : (b : Bool) → (b || true) ≡ true
 or_true true = refl
 or_true false = refl

@@ -20,11 +20,11 @@ recorded_row e = imaged_term (imaged (record e { status = recorded_status e.stat
 abbrev pub image_record : Releases → Record
 image_record es = images (map imaged es) (libraries_of es)
 
--- its term
+-- the term of the image of a list
 abbrev pub image_value : Releases → Value
 image_value es = image_term (values_of (map imaged_term (map imaged es))) (library_terms (libraries_of es))
 
--- Its body, where that can be read back. A relup may hold a term so deep that it can't.
+-- The body of the image of a list, where it can be read back. A relup may hold a term so deep that it can't.
 unfoldable pub image_of : Releases → Option (List ℕ)
 image_of es = if is_within 72 (image_value es) then Some (printed (image_value es)) else None
 

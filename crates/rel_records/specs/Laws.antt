@@ -24,7 +24,7 @@ abbrev pub MakeOrHaveABadOne : Type 0
 MakeOrHaveABadOne =
     (format : ℕ) (bodies : List (List ℕ)) → ((es : Releases) × Makes format bodies es × (recorded es ≡ es)) ⊎ ((i : ℕ) × IsBadRecord format bodies i)
 
--- They make one list.
+-- Bodies make one list at most.
 abbrev pub MakeOneList : Type 0
 MakeOneList = (format : ℕ) (bodies : List (List ℕ)) (es fs : Releases) → Makes format bodies es → Makes format bodies fs → es ≡ fs
 
@@ -46,7 +46,7 @@ RecordsDetermineEvents =
 abbrev pub OnlyRestartsWriteOneShots : Type 0
 OnlyRestartsWriteOneShots = (e : Event) (es : Releases) → makes_one_shot e ≡ false → writes_one_shot (record_of e es) ≡ false
 
--- So does an image of a list that has a one-shot, and no other.
+-- The image of a list writes the status `one_shot` exactly where the list has a one-shot.
 abbrev pub ImagesWriteTheirOneShots : Type 0
 ImagesWriteTheirOneShots = (es : Releases) → writes_one_shot (image_record es) ≡ has_one_shot es
 
@@ -83,7 +83,7 @@ StatusesAreOfEvents =
 abbrev pub MakeVersions : Type 0
 MakeVersions = (format : ℕ) (bodies : List (List ℕ)) (es : Releases) → Makes format bodies es → HaveVersions es
 
--- So do its libraries: each is what the files of an application say.
+-- The libraries of the list that bodies make are libraries: each is what the files of an application say.
 abbrev pub MakeLibraries : Type 0
 MakeLibraries = (format : ℕ) (bodies : List (List ℕ)) (es : Releases) → Makes format bodies es → HaveLibraries es
 

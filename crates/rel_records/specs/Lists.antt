@@ -125,13 +125,13 @@ assigned r es = with_one_permanent (taken_by r es)
 abbrev pub assigned_in : ℕ → Record → Releases → Option Releases
 assigned_in format r es = if allows format r then assigned r es else None
 
--- these bodies of a store of this format, taken in order, lead from the one list to the other
+-- The bodies of a store of this format, taken in order, lead from the one list to the other.
 abbrev pub MakesFrom : ℕ → Releases → List (List ℕ) → Releases → Type 0
 MakesFrom format es [] end = end ≡ es
 MakesFrom format es (body ∷ bodies) end =
     (r : Record) × (next : Releases) × Spells body r × (assigned_in format r es ≡ Some next) × MakesFrom format next bodies end
 
--- These bodies, taken in order, make this list: there are some, so that one release is permanent.
+-- The bodies, taken in order, make this list, of which exactly one release is permanent. So there is at least one body.
 abbrev pub Makes : ℕ → List (List ℕ) → Releases → Type 0
 Makes format bodies es = MakesFrom format [] bodies es × (has_one_permanent es ≡ true)
 

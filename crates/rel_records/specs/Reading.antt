@@ -55,7 +55,7 @@ pub record AreOfRelease (files : FileTerms) (r : Release) (o : Option RelupForm)
   pub release : IsReleaseTerm files.rel r
   pub relup : StandsForRelup (relup_or_none files.relup) o
 
--- It is the term with this word of a record that brings this release, these libraries and this relup.
+-- The value is the term, with this word, of a record that brings this release, these libraries and this relup.
 pub record Brings (word : List ℕ) (v : Value) (r : Release) (ls : List Library) (o : Option RelupForm) : Type 0 where
   pub rel : Value
   pub libs : Values
@@ -79,7 +79,7 @@ pub record SaysImaged (v : Value) (x : Imaged) : Type 0 where
 abbrev pub AreImaged : Values → List Imaged → Type 0
 AreImaged vs xs = EachSays SaysImaged vs xs
 
--- It is the term of an image of these releases with these libraries.
+-- The value is the term of an image of these releases with these libraries.
 pub record SaysImage (v : Value) (xs : List Imaged) (ls : List Library) : Type 0 where
   pub rows : Values
   pub libs : Values
@@ -94,7 +94,7 @@ Says v (adds r ls o) = Brings (codes "unpacked") v r ls o
 Says v (images xs ls) = SaysImage v xs ls
 Says v r = change_in v ≡ Some r
 
--- This body of a store's record spells this record. It is read with 72 brackets open at once.
+-- The body of a store's record spells this record. It is read with 72 brackets open at once.
 pub record Spells (body : List ℕ) (r : Record) : Type 0 where
   pub term : Value
   pub text : HasTerm 72 body term

@@ -59,6 +59,6 @@ IsWithinLimits e es = Unit {0}
 abbrev pub Reports : Event → Releases → Type 0
 Reports e es = (next : Releases) → step e es ≡ Some next → has_one_permanent es ≡ true → assigned (record_of e es) (recorded es) ≡ Some (recorded next)
 
--- They are libraries whose terms are no deeper than a record can carry.
+-- The libraries are well formed, and their terms are no deeper than a record can carry.
 abbrev pub CanBeCarried : List Library → Type 0
 CanBeCarried ls = AllByRecursion (λ (l : Library). IsLibrary l × IsWithin 68 (library_term l)) ls

@@ -66,7 +66,7 @@ fn complete(
     Ok(unless_left(libraries, rest))
 }
 
-// These libraries, where nothing is left of the new ones.
+// Returns the libraries, unless some of the new ones are left over.
 fn unless_left(libraries: Vec<Rc<Library>>, rest: &[Rc<Library>]) -> Option<Vec<Rc<Library>>>
     ensures { MatchOption result (rest.now ≢ []) (λ all. (all ≡ libraries) × (rest.now ≡ [])) }
 {

@@ -83,7 +83,7 @@ module _ {D : Type 0} (v : Device D) (laws : IsDevice v) (P : Place → Reply �
     by_list : (why : HandlerError) → (is_dead n.handler ≡ false) × (commanded e (list_in n.handler) ≡ Err why) → IsSame n.handler new.handler → Answers v P (Err why) (memory.Made n) (memory.Made new)
     by_list why (living, barred) same p at = inl (same_reply (refusal_of why) (Err why) barred same (λ events extent ps at. refl) p at)
 
-    -- It was not committed.
+    -- The event was not committed.
     pub commits_none : (why : HandlerError) → CommandRefused v.failures e body_size n.handler new.handler why → Answers v P (Err why) (memory.Made n) (memory.Made new)
     commits_none handler_error.Dead (gone, same) = never (sym alive ∙ gone)
     commits_none handler_error.NoSuchRelease (barred, same) = by_list handler_error.NoSuchRelease barred same
@@ -114,7 +114,7 @@ module _ {D : Type 0} (v : Device D) (laws : IsDevice v) (P : Place → Reply �
         let here : change.files (releases_after events) ≡ f = ap (λ o. change.files (list_or_none o)) after ∙ is in
         right events extent ps a (subst (λ g. Transition.Changes events extent ps change (releases_after events) g (commanded change.event (releases_after events)) a) (sym here) so)
 
-    -- They are refused, and nothing of the node has changed.
+    -- The files of the change are refused, and nothing of the node has changed.
     module _ (new : BootedNode D) (kept_on : processes_in new.processes ≡ processes_in n.processes) (same : IsSame n.handler new.handler) (why : FilesRefusal) (is : change.files (list_in n.handler) ≡ Some why) where
       pub files_refused : (p : Place) → IsAt v (memory.Made n) p → Replied v p (λ a. P p a × (a.answer ≡ refusal_line (refusal_for why))) (memory.Made n) (memory.Made new)
       files_refused (raw bytes) at = absurd at
@@ -124,7 +124,7 @@ module _ {D : Type 0} (v : Device D) (laws : IsDevice v) (P : Place → Reply �
           stays v laws (running events extent ps) (refusal_line (refusal_for why)) _ (memory.Made n) (memory.Made new) at same.disk (same_at v laws n new (running events extent ps) same kept_on at)
           (by_files events extent ps _ (Some why) at.2 is refl, refl)
 
-  -- It does, where its files are not refused.
+  -- A command changes the node, where the files of the change are not refused.
   module _ (change : Transition.Change) (right_so : (events : Events) (extent : Extent) (ps : Processes) (a : Reply) → Transition.Acts (running events extent ps) (changes_node change) a → P (running events extent ps) a)
       (free : change.files (list_in n.handler) ≡ None) (new : BootedNode D) (kept_on : processes_in new.processes ≡ processes_in n.processes)
       (commits : Commits v change.event (change.size (list_in n.handler)) n.handler new.handler) where

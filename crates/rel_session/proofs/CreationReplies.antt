@@ -71,7 +71,7 @@ module _ {D : Type 0} (v : Device D) (laws : IsDevice v) (source : Source) (path
     store_there : (s : Stored) → ((c : List ℕ) → v.may_leave disk c → IsStoredAs s c) → holds_a_store (v.seen disk) ≡ true
     store_there s here = let of = here (v.seen disk) (laws.reads_an_image disk) in stores of.list of.image_of
 
-    -- It is made.
+    -- The node is made.
     module _ (h : NodeStore D) (is_made : IsMade v source path disk h) (started : HasStarted v.may_leave h) (alive : is_dead h ≡ false) (free : holds_a_store (v.seen disk) ≡ true → ⊥) (counted : v.failures disk ≤ v.failures (disk_in h)) where
       replies : (p : Place) → IsAt v (memory.Idle disk) p
           → HasBooted v laws p (λ a. Creates p a × (a.answer ≡ Transition.ok_line (Transition.version_of (running_release (list_in h))))) (memory.Idle disk) h
@@ -100,7 +100,7 @@ module _ {D : Type 0} (v : Device D) (laws : IsDevice v) (source : Source) (path
       creates line result place is reported = answers_or_stops v laws Creates Stops line result (memory.Idle disk) place is
           (starts v laws Creates Stops (λ p b (does, comes, acts). (does, comes, without_its_node p does b acts)) h (memory.Idle disk) replies line place reported)
 
-    -- It isn't.
+    -- The node isn't made.
     module _ (new : D) (counted : v.failures disk ≤ v.failures new) where
       unwritten_at : (p : Place) → IsAt v (memory.Idle disk) p → WritesNothing v.seen v.may_leave v.moment v.left_since disk new → IsAt v (memory.Idle new) p
       unwritten_at (raw bytes) at u = u.same ∙ at

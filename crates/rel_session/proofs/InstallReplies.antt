@@ -353,7 +353,7 @@ module _ {D : Type 0} (v : Device D) (laws : IsDevice v) (vsn : List ℕ) (n new
   script_refused_so f (living, inl none, same) = not_begun same f none
   script_refused_so f (living, inr (u, may, why), same) = turned_back same f u may why
 
-  -- So is what is reported of it, where the node has not to boot.
+  -- What is reported of an installation is one of its replies, where the node has not to boot.
   pub answers_install : (done : Result Installed InstallError) (result : Result (String Global) HandlerError) → ReportsInstallation done result → OnOk done (is_dead new.handler ≡ false)
       → IfOk done (HasInstalled v vsn n new) → IfErr done (InstallRefused v.failures vsn n.handler new.handler (state_in n) (state_in new)) → Answers v Does result (memory.Made n) (memory.Made new)
   answers_install (Ok i) (Ok text) reported works of refused_so = concludes (line_of i) (Ok text) reported (done_replies i of.is_done of.fits of.by_script works (sym of.restarts ∙ works))

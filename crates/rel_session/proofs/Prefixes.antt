@@ -171,7 +171,7 @@ reached_with_boot s events extent has c of = by_events _ of.has
           start = subst (λ l. HasStart s.known.ran l c) is of.start;
         }
 
--- So it is at each moment of a boot of a store.
+-- At each moment of a boot of a store a crash leaves a prefix of its events, with the boot's own or without.
 pub reached_booting : {D : Type 0} (v : Device D) (s : Stored) (old new : D) → KeepsStore v s old new → LeavesOnly v old new (IsReached s.known (boot ∷ []))
 reached_booting v s old new (inl all) = weakened v old new (IsStoredAs s) _ (reached s (boot ∷ [])) all
 reached_booting v s old new (inr k) =

@@ -521,7 +521,7 @@ module _ {D : Type 0} (v : Device D) (laws : IsDevice v) where
   idle_asked : (says : Processes → List ℕ) (p : Place) → ((events : Events) (extent : Extent) (ps : Processes) → p ≡ running events extent ps → ⊥) → Transition.Acts p (answers (Transition.asked says p)) (refused dead_node p)
   idle_asked says p idle = idle_reported (λ list ps. says ps) p idle
 
-  -- So is each command that needs a node.
+  -- Where no node runs, each command that needs one is refused.
   pub idle_needs : (source : Source) (c : Command) → NeedsNode c → (p : Place) → ((events : Events) (extent : Extent) (ps : Processes) → p ≡ running events extent ps → ⊥) → Transition.Transition source p c (refused dead_node p)
   idle_needs source (set_unpacked path) needs p idle = idle_sets source path p idle
   idle_needs source (check vsn) needs p idle = (answers (Transition.reported (λ list ps. Transition.check_line vsn list) p), refl, idle_reported (λ list ps. Transition.check_line vsn list) p idle)

@@ -50,7 +50,7 @@ module _ {D : Type 0} (v : Device D) where
     pub never_stopped : IsDevice v → (source : Source) (command : Command) (r : Result (String Global) HandlerError) → Answers v (λ p a. Transition source p command a) r old new → AnswersCommand v source command r old new
     never_stopped laws source command r given = never_stops v laws _ _ r old new given
 
-    -- So a command is answered that comes to this action.
+    -- What is answered to a command is answered to one that equals it.
     module _ (source : Source) (command c : Command) (r : Result (String Global) HandlerError) (is : command ≡ c) where
       pub answers_command : Answers v (λ p a. Transition source p c a) r old new → Answers v (λ p a. Transition source p command a) r old new
       answers_command given = subst (λ d. Answers v (λ p a. Transition source p d a) r old new) (sym is) given
@@ -125,7 +125,7 @@ module _ {D : Type 0} (v : Device D) where
   files_stay files asked.Quit other = absurd (other.1 refl)
   files_stay files asked.Bad other = refl
 
-  -- It was followed, as it was answered.
+  -- A command that is asked of the node is followed as it was answered.
   module _ (base : Source) (old : SessionNode D) (place : PlaceInMemory D) (m : CommandInMemory) (other : AsksNode m) where
     abbrev command : Command
     command = command_of m

@@ -51,7 +51,7 @@ abbrev pub BootsStore : Stored → Reply → Type 0
 BootsStore s a =
     ((events : Events) × (extent : Extent) × MayHave s events extent × AnswersBoot events extent a) ⊎ FailsOnStore s a
 
--- So a boot replies, wherever the disk stands.
+-- What a boot replies, wherever the disk stands.
 abbrev pub Boots : Place → Reply → Type 0
 Boots (raw bytes) a = BootsBytes bytes a
 Boots (closed s) a = BootsStore s a

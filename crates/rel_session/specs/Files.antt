@@ -32,7 +32,7 @@ abbrev pub read_of : File → Result (List ℕ) FilesError
 read_of (bytes bs) = if nat_lt most_file (length bs) then Err TooLarge else Ok bs
 read_of too_large = Err TooLarge
 
--- of a path that has a given file, or none
+-- What a read of a path gives that has a given file, or none: the file's bytes, or what the source below gives.
 abbrev pub GivenOr : Option File → (Result (List ℕ) FilesError → Type 0) → Result (List ℕ) FilesError → Type 0
 GivenOr None below read = below read
 GivenOr (Some f) below read = read ≡ read_of f

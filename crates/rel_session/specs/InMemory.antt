@@ -60,7 +60,7 @@ abbrev pub IsSoundPlace : {D : Type 0} → (D → List ℕ) → (D → List ℕ 
 IsSoundPlace seen may_leave (memory.Idle disk) = Unit {0}
 IsSoundPlace seen may_leave (memory.Made node) = IsSoundNode seen may_leave node
 
--- This is where the place in memory stands.
+-- The place in memory stands for this place of the disk.
 abbrev pub IsAt : {D : Type 0} → Device D → PlaceInMemory D → Place → Type 0
 IsAt v (memory.Idle disk) (raw bytes) = Holds v (raw bytes) disk
 IsAt v (memory.Idle disk) (closed s) = Holds v (closed s) disk
@@ -79,7 +79,8 @@ pub record Replied {D : Type 0} (v : Device D) (p : Place) (P : Reply → Type 0
   pub at : IsAt v new given.after
   pub happens : Happens v p given (disk_at old) (disk_at new)
 
--- So did the last command of a session, after which no place in memory matters.
+-- The last command of a session, with a reply of which P holds, led from the one disk to the other. After it no place in memory
+-- matters.
 pub record Leads {D : Type 0} (v : Device D) (p : Place) (P : Reply → Type 0) (old new : PlaceInMemory D) : Type 0 where
   pub given : Reply
   pub right : P given
@@ -111,8 +112,8 @@ ReportsOrStops v P Q (Ok text) old new =
 ReportsOrStops v P Q (Err e) old new =
     (p : Place) → IsAt v old p → Leads v p (λ a. P p a ⊎ Q p a) old new ⊎ NothingDone v p old new
 
--- It gave this result. Where memory is refused, it may have been done, or stopped within: Q says what stands in place of the
--- reply then.
+-- A command gave this result: its answer, or why it was refused. Where memory is refused, it may have been done, or stopped
+-- within: Q says what stands in place of the reply then.
 abbrev pub AnswersOrStops : {D : Type 0} → Device D → (P Q : Place → Reply → Type 0)
     → Result (String Global) HandlerError → PlaceInMemory D → PlaceInMemory D → Type 0
 AnswersOrStops v P Q (Ok text) old new =
@@ -127,12 +128,12 @@ abbrev pub AnswersAction : {D : Type 0} → Device D → Action → Result (Stri
     → PlaceInMemory D → PlaceInMemory D → Type 0
 AnswersAction v does result old new = AnswersOrStops v (λ p a. Acts p does a) (λ p a. StopsWithin p does a) result old new
 
--- So was a node asked for what its releases and its processes say.
+-- A node was asked for a text about its releases and its processes, and gave this result.
 abbrev pub AnswersReported : {D : Type 0} → Device D → (Releases → Processes → List ℕ) → Result (String Global) HandlerError
     → PlaceInMemory D → PlaceInMemory D → Type 0
 AnswersReported v says result old new = Answers v (λ p a. Acts p (answers (reported says p)) a) result old new
 
--- So were its processes asked.
+-- A node was asked for a text about its processes alone, and gave this result.
 abbrev pub AnswersAsked : {D : Type 0} → Device D → (Processes → List ℕ) → Result (String Global) HandlerError
     → PlaceInMemory D → PlaceInMemory D → Type 0
 AnswersAsked v says result old new = AnswersReported v (λ list ps. says ps) result old new
@@ -178,7 +179,7 @@ NeedsNode (call app id input) = Unit {0}
 NeedsNode (flood app id input times) = Unit {0}
 NeedsNode command = ⊥
 
--- It answered a command by its transition, over a source of files.
+-- A command was answered by its transition, over a source of files, or stopped within.
 abbrev pub AnswersCommand : {D : Type 0} → Device D → Source → Command → Result (String Global) HandlerError
     → PlaceInMemory D → PlaceInMemory D → Type 0
 AnswersCommand v source command result old new =
@@ -210,7 +211,7 @@ IsLine (Ok answer) (Some text) = string_bytes text ≡ string_bytes answer
 IsLine (Err why) (Some text) =
     (why ≢ handler_error.NoMemory) × (string_bytes text ≡ refusal_line (refusal_of why))
 
--- it is a text with these bytes
+-- There is a text, and it has these bytes.
 abbrev pub IsText : Option (String Global) → List ℕ → Type 0
 IsText None bytes = ⊥
 IsText (Some text) bytes = string_bytes text ≡ bytes

@@ -40,7 +40,8 @@ installed_reply events extent vsn list f ps =
 abbrev pub restarted : Events → Extent → List ℕ → Stored
 restarted events extent vsn = store_behind events (restart_installed vsn) extent
 
--- After one that ends with a restart the node boots: the answer of the boot stands after that of the installation.
+-- The reply to an installation that ends with a restart: the node boots, and the answer of the boot stands after that of the
+-- installation.
 abbrev pub restarted_reply : List ℕ → Releases → FoundForm → Processes → Reply → Reply
 restarted_reply vsn list f ps b =
     with_text (installed_line f (stale_modules ps.modules (libraries_at vsn list))) (behind (restart_installed vsn) b)

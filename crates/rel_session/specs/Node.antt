@@ -11,7 +11,7 @@ use Rattle.node_answer.specs.Refusals.NodeRefusal.{device}
 
 -- Where a node's disk stands.
 pub data Place : Type 0 where
-  -- No node is known on it: these bytes are what a read gives. The empty disk is `raw []`.
+  -- No node is known on the disk: these bytes are what a read gives. The empty disk is `raw []`.
   raw : List ℕ → Place
   -- a store whose node was not booted
   closed : Stored → Place

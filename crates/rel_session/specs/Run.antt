@@ -20,8 +20,8 @@ use Rattle.rel_session.specs.Node.{Place, CommandOutcome, Reply}
 use Rattle.rel_session.specs.Node.Place.{raw, closed, running, dead}
 use Rattle.rel_session.specs.Transition.{Transition, IsStopped}
 
--- This is so of the disk of a node between two commands: a read gives the bytes of the place, or whatever a crash leaves of
--- it is the store of the place. So the start record is that of the permanent release where a node runs.
+-- The disk is that of a node between two commands: a read gives the bytes of the place, or whatever a crash leaves of it is the
+-- store of the place. So, where a node runs, the start record is that of the permanent release.
 abbrev pub Holds : {D : Type 0} → Device D → Place → D → Type 0
 Holds v (raw bytes) disk = v.seen disk ≡ bytes
 Holds v (closed s) disk = (c : List ℕ) → v.may_leave disk c → IsStoredAs s c
@@ -38,8 +38,9 @@ Starts v p disk = ⊥
 abbrev pub events_of : CommandOutcome → Events
 events_of o = with_doubt o.acknowledged o.in_doubt
 
--- These bytes stand for the list of a prefix of the events so far that holds every acknowledged one: of what was known of
--- the node's events before the command, and, in order, of the command's own; and they have a start record of its events.
+-- The bytes stand for the list of a prefix of the events so far that holds every acknowledged one, and have a start record of
+-- that prefix. The events so far are those that were known of the node before the command, and then, in order, the command's
+-- own.
 pub record IsReached (k : Known) (command : Events) (image : List ℕ) : Type 0 where
   pub events : Events
   pub prefix : IsPrefix k events
@@ -51,10 +52,10 @@ pub record IsReached (k : Known) (command : Events) (image : List ℕ) : Type 0 
   pub image_of : IsImageOf image list
   pub start : HasStart k.ran (events ++ more) image
 
--- At each moment of a command on a disk on which no node is known. A creation leaves no store, or one with its event, after a
--- moment up to which no more than the first byte was written; one in doubt may have had no such moment, and leaves nothing new on a
--- store. A boot that is done or that the device failed leaves nothing new but what it has written; any other command nothing at
--- all.
+-- What a crash may leave at each moment of a command on a disk on which no node is known. A creation leaves no store, or one
+-- with its event, after a moment up to which no more than the first byte was written; one in doubt may have had no such moment,
+-- and leaves nothing new on a store. A boot that is done or that the device failed leaves nothing new but what it has written;
+-- any other command nothing at all.
 abbrev pub MomentsOf : {D : Type 0} → Device D → Events → Option Event → D → D → Type 0
 MomentsOf {D} v (made p ∷ more) doubt old new =
     (at : D) × BeginsAt v (doubted [] (made p)) old new at
@@ -64,7 +65,7 @@ MomentsOf v [] (Some (made p)) old new =
 MomentsOf v [] None old new = LeavesOnly v old new (v.may_leave old)
 MomentsOf v acknowledged doubt old new = LeavesOnly v old new (λ c. v.may_leave old c ⊎ IsLeftByBoot (v.seen old) c)
 
--- At each moment of a command with this outcome.
+-- What a crash may leave at each moment of a command with this outcome: a prefix of the events so far, with the command's own.
 abbrev pub Moments : {D : Type 0} → Device D → Place → CommandOutcome → D → D → Type 0
 Moments v (raw bytes) o old new = MomentsOf v o.acknowledged o.in_doubt old new
 Moments v (closed s) o old new = LeavesOnly v old new (IsReached s.known (events_of o))
@@ -94,7 +95,7 @@ pub data Ending : Type 0 where
   out_of_memory : Ending
   going_on : Ending
 
--- It came to the end of what it may take.
+-- The session ended at the end of what it may read.
 abbrev pub EndsInFull : Ending → Type 0
 EndsInFull ended = Unit {0}
 EndsInFull cut_off = Unit {0}
@@ -104,13 +105,13 @@ EndsInFull ending = ⊥
 abbrev pub MayLeave : Source → Place → Command → Reply → Type 0
 MayLeave source p c a = Transition source p c a ⊎ IsStopped source p c a
 
--- This is the reply to a command, which these follow. The last one before memory was refused may be stopped within.
+-- The reply is one to this command, and these replies follow it. The last one before memory was refused may be stopped within.
 abbrev pub IsReply : Source → Place → Command → Ending → List Reply → Reply → Type 0
 IsReply source p c out_of_memory [] a = MayLeave source p c a
 IsReply source p c ending more a = Transition source p c a
 
--- These are the replies to the commands, in order, over a source of files: to each up to the end or `quit`, and so where a read
--- failed; or to the first of them.
+-- The replies to the commands, in order, over a source of files: to each command up to the end or `quit`, and so where a read
+-- failed; or only to the first of them, where an answer was not written or memory was refused.
 abbrev pub Replies : Source → Files → Place → Feed Command → Ending → List Reply → Type 0
 Replies base files p (next c commands) ending (a ∷ more) =
     IsReply (source_of base files) p c ending more a × Replies base (files_behind files c) a.after commands ending more
@@ -123,7 +124,7 @@ Replies base files p cut ending [] = ending ≡ cut_off
 Replies base files p (next c commands) ending [] = (c ≡ quit) × (ending ≡ ended)
 Replies base files p commands ending replies = ⊥
 
--- their answers, one after another
+-- the answers of these replies, one after another
 abbrev pub answers_of : List Reply → List ℕ
 answers_of [] = []
 answers_of (a ∷ more) = a.answer ++ answers_of more

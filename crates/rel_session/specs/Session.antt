@@ -13,8 +13,8 @@ use Rattle.rel_session.specs.Output.{Writes}
 use Rattle.rel_session.specs.Run.{Starts, Ending, IsRun, commands_within}
 use Rattle.rel_session.specs.Run.Ending.{ended, cut_off, unread, unwritten, out_of_memory, going_on}
 
--- These are the commands of an input of which so many bytes are read at most. Of one whose bytes no contract can name they may
--- be any.
+-- The commands are those of an input of which so many bytes are read at most. Of an input whose bytes no contract can name they
+-- may be any.
 abbrev pub AreCommands : ℕ → Option (List ℕ) → Feed Command → Type 0
 AreCommands most None commands = Unit {0}
 AreCommands most (Some input) commands = commands ≡ commands_within most input

@@ -175,18 +175,21 @@ MakesWith bytes p size None a =
     (just_booted (made p ∷ booting ∷ []) (extent_behind first_extent size))))
     ⊎ ((HasSpace first_extent size → ⊥) × (a ≡ refused full (raw bytes)))
 
--- So it is where these bytes hold no store.
+-- What `create` replies on a disk with these bytes, by whether they begin as a store does: only where they don't is a node
+-- made.
 abbrev pub MakesOn : List ℕ → Brought → Bool → Reply → Type 0
 MakesOn bytes b true a = a ≡ refused exists (raw bytes)
 MakesOn bytes b false a = MakesWith bytes (bundle_brought b) (made_size b) (own_refusal b) a
 
--- The device fails in it. The event is in doubt, unless the files are refused: nothing was written then, nor on a store.
+-- The device fails in a creation. The event is in doubt, unless the files are refused: nothing was written then, nor on a
+-- store.
 abbrev pub FailsToMake : List ℕ → Bundle → Option FilesRefusal → Reply → Type 0
 FailsToMake bytes p (Some why) a = a ≡ failed None (raw bytes)
 FailsToMake bytes p None a =
     (torn : List ℕ) × (holds_a_store bytes ≡ true → torn ≡ bytes) × (a ≡ failed (Some (made p)) (raw torn))
 
--- It is made, or refused, or the device fails in it. Beside a store whose events are known nothing is in doubt.
+-- What `create` replies: the node is made, or refused, or the device fails in it. Where the events of a store are known,
+-- nothing is in doubt after it.
 abbrev pub MakesNode : Place → Brought → Reply → Type 0
 MakesNode (raw bytes) b a = MakesOn bytes b (holds_a_store bytes) a ⊎ FailsToMake bytes (bundle_brought b) (own_refusal b) a
 MakesNode (closed s) b a = (a ≡ refused exists (closed s)) ⊎ (a ≡ failed None (closed s))
@@ -196,7 +199,8 @@ MakesNode p b a = a ≡ refused exists p
 abbrev pub rebooted : Events → Extent → List ℕ → Stored
 rebooted events extent vsn = store_behind events (rebooting vsn) extent
 
--- This list takes a reboot to an old release, or refuses it. After the commit the node boots, and that is the answer.
+-- What a reboot to an old release replies, by whether the list takes it or refuses it. After the commit the node boots, and the
+-- boot's answer is that of the command.
 abbrev pub Reboots : (Stored → Reply → Type 0) → Events → Extent → Processes → List ℕ → Releases
     → Result Releases HandlerError → Reply → Type 0
 Reboots Boot events extent ps vsn list taken a =
@@ -214,7 +218,7 @@ ReportsStart events extent ps a =
     (a ≡ reply (ok_line (start_versions (permanent_release (releases_after events)))) nothing (running events extent ps))
     ⊎ (a ≡ failed None (dead (certain events extent)))
 
--- What the node replies then, where a boot that an action has after its commit replies so.
+-- What the node replies to an action, where a boot that the action has after its commit replies so.
 abbrev pub ActsWith : (Stored → Reply → Type 0) → Place → Action → Reply → Type 0
 ActsWith Boot p (answers text) a = a ≡ reply text nothing p
 ActsWith Boot p (makes_node brought) a = MakesNode p brought a
@@ -236,7 +240,7 @@ ActsWith Boot p reports_start a = a ≡ refused dead_node p
 ActsWith Boot (running events extent ps) (calls c) a = a ≡ reply (calls_line c ps) nothing (running events extent (left_by c ps))
 ActsWith Boot p (calls c) a = a ≡ refused dead_node p
 
--- What the node replies then: it boots after a reboot, and after an installation with a restart.
+-- What the node replies to an action: it boots after a reboot, and after an installation with a restart.
 abbrev pub Acts : Place → Action → Reply → Type 0
 Acts p does a = ActsWith BootsStore p does a
 
@@ -257,6 +261,6 @@ BootsOrNot s a = BootsStore s a ⊎ (a ≡ reply [] nothing (closed s))
 abbrev pub StopsWithin : Place → Action → Reply → Type 0
 StopsWithin p does a = (b : Reply) × ActsWith BootsOrNot p does b × (a ≡ without_node b)
 
--- So a command is stopped within, and the session ends.
+-- A refusal of memory stopped a command within, and the session ends.
 abbrev pub IsStopped : Source → Place → Command → Reply → Type 0
 IsStopped source p c a = (does : Action) × ComesTo source p c does × StopsWithin p does a

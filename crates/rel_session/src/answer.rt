@@ -24,7 +24,7 @@ use std::sync::Wait;
 use std::thread::Threads;
 
 impl<D: Disk> Place<D> {
-    /// Does what the command says, with the files that it names.
+    /// Carries out the command, with the files that it names.
     pub fn answer<R: Threads + Wait + Sync, F: Files>(
         self,
         rt: &R,
@@ -69,7 +69,7 @@ impl<D: Disk> Place<D> {
         }
     }
 
-    /// Has the node do what the command says. Where there is none, nothing is done.
+    /// Carries out the command on the node. Where there is no node, nothing is done.
     fn on_node<R: Threads + Wait + Sync, F: Files>(
         self,
         rt: &R,
@@ -114,7 +114,7 @@ impl<D: Disk> Place<D> {
     }
 }
 
-/// Has a node do what the command says, unless it is dead.
+/// Carries out the command on a node, unless the node is dead.
 fn done_by<D: Disk, R: Threads + Wait + Sync, F: Files>(
     rt: &R,
     alloc: Global,

@@ -53,7 +53,7 @@ impl<D: Disk> Place<D> {
     }
 }
 
-/// Has the node install the release of this version.
+/// Installs the release of this version on the node.
 fn install_release<D: Disk, R: Wait>(
     rt: &R,
     alloc: Global,

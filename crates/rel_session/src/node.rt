@@ -44,8 +44,8 @@ impl<D: Disk> SessionNode<D> {
         place.into_disk()
     }
 
-    /// Does what the command says. A file that wasn't given is read from `base`. The answer is its text, or none where the
-    /// session ends.
+    /// Carries out the command. A file that wasn't given is read from `base`. The answer is the command's text, or none where
+    /// the session ends.
     pub(crate) fn follow<R: Threads + Wait + Sync, F: Files>(
         self,
         rt: &R,

@@ -26,7 +26,7 @@ found place bodies from tail c read low begins base there =
     ∙ ap (onto_all bodies) (closed (place + length h.front) h.gate (h.rest ++ tail) h.shut)
     ∙ onto_all-none bodies
 
--- These bytes are the store that others are: with these records, from the same base on, and with this start text.
+-- The new bytes are the same store as the old ones: with these records, from the same base on, and with this start text.
 pub record Keeps (bodies : List (List ℕ)) (text old new : List ℕ) : Type 0 where
   pub here : Stands bodies text new
   pub base : base_of new ≡ base_of old

@@ -120,7 +120,7 @@ module _ {D : Type 0} (moment : D → ℕ) (left_since : D → ℕ → List ℕ 
       let within = gate_within (records_in store) (text_in seen store) (seen store.disk) store.gate stands_now s.end in
       format_same c (seen store.disk) (same (omega (arith, low, within))) ∙ sym s.format
 
-  -- So do those of an append, of a new start text and of a compaction.
+  -- An append, a new start text and a compaction keep the format of the store.
   pub format_kept_by_record : (n : ℕ) (c : List ℕ) → LeavesOthers (IsInRecord store.gate n) (seen store.disk) c → format_of c ≡ store.format
   format_kept_by_record n c leaves =
       let low = gate_low (records_in store) (text_in seen store) (seen store.disk) store.gate stands_now s.end in

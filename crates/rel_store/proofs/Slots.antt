@@ -11,7 +11,7 @@ use Rattle.rel_store.proofs.Append.{one}
 use Rattle.rel_store.proofs.ReadLemmas.{onto_all-none, onto_all, closed, held}
 use Rattle.rel_store.proofs.Whole.{readable, sound, part-same, index-same, selected-le, selected-ge}
 
--- These bytes are others with n of them written over at this place, and a tail.
+-- The new bytes are the old ones with n of them written over at this place, and with a tail.
 pub record Patched (at n : ℕ) (middle old new : List ℕ) : Type 0 where
   pub within : at + n ≤ length old
   pub long : length middle ≡ n

@@ -9,7 +9,8 @@ use Rattle.rel_store.specs.declared.contents.Contents.{Contents}
 use Rattle.rel_store.specs.declared.error.StoreError.{StoreError}
 use Rattle.rel_store.specs.declared.error.StoreError.TheVariants.{NotAStore, Damaged, Device, NoMemory}
 
--- These are the records of the bytes, the places of the first and of their closed gate, and the slots that count.
+-- The contents are those of the bytes: their records, the places of the first record and of the closed gate, and the slots that
+-- count.
 pub record AreContentsOf (bytes : List ℕ) (contents : Contents) : Type 0 where
   pub records : records_of bytes ≡ Ok (map (λ v. v.items) contents.records.items)
   pub end : contents.gate ≡ base_of bytes + space (map (λ v. v.items) contents.records.items)

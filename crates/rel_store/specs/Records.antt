@@ -52,7 +52,7 @@ records_of bytes =
     then Err (Damaged (base_slot bytes))
     else records_from (base_of bytes) 0 (drop (base_of bytes) bytes))
 
--- These bytes are an open and undamaged store with these records, and with this start slot.
+-- The bytes are an open and undamaged store with these records, and with this start slot.
 pub record Stands (bodies : List (List ℕ)) (text : List ℕ) (bytes : List ℕ) : Type 0 where
   pub records : records_of bytes ≡ Ok bodies
   pub start : text_of bytes ≡ text

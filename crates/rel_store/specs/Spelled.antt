@@ -18,6 +18,6 @@ pub record IsSpelled (bodies : List (List ℕ)) (bytes : List ℕ) : Type 0 wher
   pub rest : List ℕ
   pub records : drop (base_of bytes) bytes ≡ records_bytes bodies ++ gate ∷ rest
 
--- each of them is below 256
+-- Each of the bytes is below 256.
 abbrev pub AreBytes : List ℕ → Type 0
 AreBytes bytes = (i : ℕ) → slice_index bytes i < 256

@@ -8,7 +8,7 @@ use Rattle.rel_store.specs.declared.error.StoreError.{StoreError}
 use Rattle.rel_store.specs.declared.error.StoreError.TheVariants.{Full, Device, NoMemory, MustReopen}
 use Rattle.rel_store.specs.declared.store.Store.{Store}
 
--- its disk
+-- the disk of a store
 abbrev pub disk_in : {D : Type 0} → Store D → D
 disk_in store = store.disk
 
@@ -33,11 +33,11 @@ gate_in store = store.gate
 abbrev pub base_in : {D : Type 0} → Store D → ℕ
 base_in store = store.base
 
--- where it ends: one past its closed gate
+-- where a store ends: one past its closed gate
 abbrev pub end_in : {D : Type 0} → Store D → ℕ
 end_in store = store.gate + 1
 
--- its format, 1 or 2
+-- the format of a store, 1 or 2
 abbrev pub format_in : {D : Type 0} → Store D → ℕ
 format_in store = store.format
 
@@ -49,11 +49,11 @@ has_failed store = store.must_reopen
 abbrev pub Fits : ℕ → ℕ → Type 0
 Fits end n = (n ≤ 16777216) × (end + (5 + n) ≤ 67108864)
 
--- it has the memory for one record more, with a body of n bytes or the longest that there is
+-- A store has the memory for one record more, with a body of n bytes or the longest that there is.
 abbrev pub HasRoom : {D : Type 0} → ℕ → Store D → Type 0
 HasRoom n store = (min n 16777216 + 6 ≤ vec_capacity store.spare) × (vec_len store.records < vec_capacity store.records)
 
--- Its disk is an open store with its records, undamaged, and a crash leaves nothing else.
+-- A store's disk is an open store with its records, undamaged, and a crash leaves nothing else.
 pub record IsSettled {D : Type 0} (seen : D → List ℕ) (may_leave : D → List ℕ → Type 0) (store : Store D) : Type 0 where
   pub works : has_failed store ≡ false
   pub records : records_of (seen store.disk) ≡ Ok (records_in store)
@@ -68,7 +68,7 @@ pub record IsSettled {D : Type 0} (seen : D → List ℕ) (may_leave : D → Lis
 pub record IsSoundStore {D : Type 0} (seen : D → List ℕ) (may_leave : D → List ℕ → Type 0) (store : Store D) : Type 0 where
   pub settled : has_failed store ≡ false → IsSettled seen may_leave store
 
--- nothing of it has changed but the memory that it holds
+-- Nothing of a store has changed but the memory that it holds.
 pub record IsSame {D : Type 0} (old new : Store D) : Type 0 where
   pub disk : disk_in new ≡ disk_in old
   pub records : records_in new ≡ records_in old

@@ -30,7 +30,7 @@ named v s is =
     let alone : names_of (value v no_values) ≡ Some (s ∷ []) = ap (λ (o : Option (List ℕ)). option_and_then (λ n. option_map (λ ns. n ∷ ns) (Some [])) o) is in
     (from_names (value v no_values) (s ∷ []) alone).1.0
 
--- Those that a `.app` file lists, and the one that starts the application.
+-- The modules that a `.app` file lists have names.
 modules_named : (o : Option Value) (ms : List (List ℕ)) → modules_at o ≡ Some ms → AllByRecursion IsName ms
 modules_named None ms is = let same : [] ≡ ms = cc in subst (AllByRecursion IsName) same tt
 modules_named (Some v) ms is =
@@ -76,7 +76,7 @@ application_names v s is =
           top = λ m is. top_named (value_at (codes "mod") e.pairs) top has_top m (ap (λ (d : Contents). d.top) same ∙ is);
         }
 
--- Those of the children of a supervisor.
+-- The module that starts a child of a supervisor has a name.
 start_named : (v : Value) (s : List ℕ) → start_in v ≡ Some s → IsName s
 start_named (tuple vs) s is =
     let (m, has, name) = chained (λ (m : Value × Value × Value). name_in m.0) (three vs) s is in

@@ -71,7 +71,7 @@ table_line v (Super s) is = starts_line s.children (table_names v s is)
 abbrev pub HasLineTable : TableTerm → Type 0
 HasLineTable t = IsLineTable t.table
 
--- So do the files of a library, and what it is called by.
+-- The name of a library, its top module and the modules in its tables are each within a line.
 pub record IsLineLibrary (l : Library) : Type 0 where
   pub own : is_one_line l.app.name ≡ true
   pub top : (m : List ℕ) → l.app.top ≡ Some m → is_one_line m ≡ true
@@ -109,7 +109,7 @@ module _ (source : Source) (a : Application) (lines : IsLineApplication a) where
       (good_each (ModuleAt source a) IsName (OrNone HasLineTable) good_module s.modules read.names.modules)
       (λ ts all. good_outcome IsLineLibrary (Ok (record { app = s; tables = ts })) (record { own = read.lines.own; top = λ m is. name_line m (read.names.top m is); tables = all })))
 
--- So does a release of such applications and libraries.
+-- The application of a part and its library have only names that are within a line.
 pub record IsLinePart (p : Part) : Type 0 where
   pub app : IsLineApplication p.app
   pub library : IsLineLibrary p.library

@@ -194,7 +194,7 @@ some_fault P from unreadable has = absurd has
 some_fault P from misshapen has = absurd has
 some_fault P from (faulty_relup f) has = absurd has
 
--- So is a fault of a relup.
+-- A fault of a relup is one trouble.
 relup_faults_one : (P : RelupFault → Type 0) → ((f g : RelupFault) → P f → P g → f ≡ g) → (t u : Trouble) → IsRelupTrouble P t → IsRelupTrouble P u → t ≡ u
 relup_faults_one P one (faulty_relup f) (faulty_relup g) has also = ap faulty_relup (one f g has also)
 relup_faults_one P one unreadable u has also = absurd has

@@ -44,7 +44,7 @@ folder_split path folder name (i, j, (none, has), front, back, order, taken, lef
 no_folder : (path : List ℕ) → RFindsChar 47 path None → folder_of path ≡ []
 no_folder path none = cut_behind path 0 (omega arith) (none_from path 0 (omega arith) none) (λ some. absurd (omega arith))
 
--- So the relup stands in the folder, or alone where there is none.
+-- The relup of a release stands in the folder of the release's path, or alone where there is no folder.
 pub in_folder : (path folder name : List ℕ) → SplitsAroundMatch (RFindsChar 47) path folder name → folder ++ codes "/relup" ≡ relup_path path
 in_folder path folder name split = sym (append_assoc folder (47 ∷ []) (codes "relup")) ∙ ap (λ f. f ++ codes "relup") (sym (folder_split path folder name split))
 

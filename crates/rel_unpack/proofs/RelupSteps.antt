@@ -24,7 +24,7 @@ pub no_relup : (source : Source) (path vsn p : List ℕ) → RelupIn source path
 no_relup source path vsn =
     none_behind relup_form source path (λ f r. r ≡ unless_mismatch path f (relup_mismatch vsn f.relup)) (λ f p. never_missing path p f (relup_mismatch vsn f.relup))
 
--- It is read unless the release is refused for its applications.
+-- The relup is read unless the release is refused for its applications.
 module _ (source : Source) (path vsn : List ℕ) where
   pub read_unless_refused : (o : Option UnpackError) (r : Result (Option RelupFound) Refusal) → is_some o ≡ false → RelupAt source path vsn r → RelupRead source path vsn (option_map refusal_of o) r
   read_unless_refused None r free at = at

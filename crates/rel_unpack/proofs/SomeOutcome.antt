@@ -123,7 +123,7 @@ some_release source each path = some_then (FileSays rel_form source path) _ (som
 pub some_application : (source : Source) → GivesEach source → (a : Application) → HasSome (AppAt source a)
 some_application source each a = some_then (FileSays app_form source _) _ (some_file app_form says_some_application source each _) (λ s. some_outcome _)
 
--- So have the libraries of a release's applications.
+-- The files of a release's applications have an outcome: what they say, or a refusal.
 module _ (source : Source) (each : GivesEach source) where
   some_table : (a : Application) (m : List ℕ) → HasSome (TableAt source a m)
   some_table a m = some_then (FileSays mod_form source _) _ (some_file mod_form says_some_table source each _) (λ t. some_outcome _)

@@ -63,7 +63,7 @@ fn main(rt: HostRuntime) -> ExitCode {
     }
 }
 
-/// Does what the arguments say, and answers the status.
+/// Carries out what the arguments say, and returns the exit status.
 fn run(rt: &HostRuntime, alloc: Global) -> Result<u8, Failure> {
     let words = arguments(rt, alloc)?;
     let Ok(command) = command(alloc) else {

@@ -129,7 +129,7 @@ resumes_suspended d xs =
     subst (λ (is : List Instruction). flat_map resumed_by is ≡ reverse (map (λ (s : SuspensionForm). s.name) (flat_map suspended_by is))) (sym orders.2)
     (resumed_in d ss ys ∙ ap reverse (sym (same_names ss) ∙ ap (map (λ (s : SuspensionForm). s.name)) (sym (suspended_in d ss ys))))
 
--- So a block goes by its two orders.
+-- The instructions of a block go by its two orders.
 pub orders_up : OrdersUp
 orders_up xs =
     let ss = order DependentsFirst xs in

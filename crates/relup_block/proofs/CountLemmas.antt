@@ -189,7 +189,7 @@ read f [] d (w ∷ us) u vs e = absurd cc
 read f (a ∷ as') d [] u vs e = cc
 read f (a ∷ as') d (w ∷ us) u vs e = let tail : map f as' ≡ us ++ (u ∷ vs) = cc in read f as' d us u vs tail
 
--- So the first idle one is the next choice,
+-- The first item that waits for none is the next choice.
 choice_of : (rule : ChoiceRule) (xs : List BlockItemForm) (p : BlockItemForm × List BlockItemForm) → first_free rule [] xs ≡ Some p → choice rule xs ≡ Some p
 choice_of rule [] p e = absurd cc
 choice_of rule (x ∷ xs) p e = ap (λ (o : Option (BlockItemForm × List BlockItemForm)). Some (or_first x xs o)) e
@@ -221,7 +221,7 @@ takes_idle rule ws ahead k x new first takes is =
     sym (append_assoc there.front there.back ahead) ∙ ap (λ (ys : List BlockItemForm). ys ++ ahead) (sym rest.0) in
     (choice_of rule (waiting_items ws ++ ahead) (there.item, there.front ++ (there.back ++ ahead)) there.free ∙ (λ j. Some (same j, left j)), rest.1)
 
--- or the next one ahead,
+-- The next item ahead is the choice, where none that was passed over is idle.
 pub takes_ahead : (rule : ChoiceRule) (ws : List WaitingForm) (x : BlockItemForm) (ahead : List BlockItemForm) (new : List WaitingForm)
     → first_idle_behind 0 ws ≡ None → nat_eq (waits_among rule x (waiting_items ws) + waits_among rule x ahead) 0 ≡ true → new ≡ map (after_item rule x) ws
     → AreCounted rule ws (x ∷ ahead) → TakesNext rule ws (x ∷ ahead) x new ahead
@@ -233,7 +233,7 @@ takes_ahead rule ws x ahead new none idle_one put is =
     let rest = recounted rule new (waiting_items ws) ahead (put ∙ (ap (map (after_item rule x)) is ∙ before_it rule [] (waiting_items ws) x ahead)) in
     (choice_of rule (waiting_items ws ++ (x ∷ ahead)) (x, waiting_items ws ++ ahead) (past ∙ here) ∙ ap (λ (ys : List BlockItemForm). Some (x, ys ++ ahead)) (sym rest.0), rest.1)
 
--- or the first, where none is idle.
+-- The first item is the choice, where none is idle.
 pub takes_first : (rule : ChoiceRule) (ws : List WaitingForm) (x : BlockItemForm) (new : List WaitingForm)
     → first_idle_behind 0 ws ≡ None → Takes rule ws 0 x new → 0 < length ws → AreCounted rule ws [] → TakesNext rule ws [] x new []
 takes_first rule [] x new none takes some is = absurd (omega (arith, some))
@@ -258,7 +258,7 @@ passes rule ws x ahead new put is =
     (put ∙ (ap (λ (us : List WaitingForm). us ++ it) is ∙ passed_too rule [] (waiting_items ws) x ahead)) in
     (sym (append_assoc (waiting_items ws) (x ∷ []) ahead) ∙ ap (λ (ys : List BlockItemForm). ys ++ ahead) (sym rest.0), rest.1)
 
--- Those that name no dependencies have to be asked by none,
+-- Items that name no dependencies keep no other item waiting, so they need not be asked.
 pub naming_suffice : (x : BlockItemForm) (ys : List BlockItemForm) → waits_among DependentsFirst x (filter has_deps ys) ≡ waits_among DependentsFirst x ys
 naming_suffice x [] = refl
 naming_suffice x (y ∷ ys) = go (has_deps y) refl (naming_suffice x ys)
@@ -274,7 +274,7 @@ naming_suffice x (y ∷ ys) = go (has_deps y) refl (naming_suffice x ys)
         let zero_one : one_if (depends_on y x) ≡ 0 = ap one_if (idle_one (item_deps y) e) in
         omega (arith, more, zero_one)
 
--- and wait for none.
+-- An item that names no dependencies waits for none.
 pub waits_for_none : (x : BlockItemForm) (ys : List BlockItemForm) → has_deps x ≡ false → waits_among DependenciesFirst x ys ≡ 0
 waits_for_none x [] e = refl
 waits_for_none x (y ∷ ys) e =

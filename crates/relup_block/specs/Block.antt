@@ -21,17 +21,17 @@ abbrev pub written_timeout : Timeout → Option Timeout
 written_timeout Default = None
 written_timeout t = Some t
 
--- Updated modules are suspended,
+-- the suspension of a module that is updated
 abbrev pub suspension : BlockItemForm → Option SuspensionForm
 suspension (updated u) = Some (record { name = u.name; timeout = written_timeout u.timeout })
 suspension (loaded l) = None
 
--- and resumed;
+-- the name by which a module that is updated is resumed
 abbrev pub resumption : BlockItemForm → Option (List ℕ)
 resumption (updated u) = Some u.name
 resumption (loaded l) = None
 
--- an advanced update changes states.
+-- the change of state of an advanced update
 abbrev pub change_to : List ℕ → StateForm → Option ChangeForm
 change_to name soft = None
 change_to name (advanced extra) = Some (record { name = name; extra = extra })

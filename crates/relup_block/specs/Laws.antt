@@ -10,27 +10,27 @@ use Rattle.relup_block.specs.declared.order.ChoiceRule.TheVariants.{DependentsFi
 use Rattle.relup_block.specs.Order.{BlockItemForm, must_wait_for, is_free, order}
 use Rattle.relup_block.specs.Block.{suspension, change, purging, is_of_kind, block}
 
--- what an instruction loads,
+-- what an instruction loads
 abbrev pub load_by : Instruction → List PurgingForm
 load_by (load p) = p ∷ []
 load_by i = []
 
--- the states that it changes,
+-- the states that an instruction changes
 abbrev pub changed_by : Instruction → List ChangeForm
 changed_by (code_change c) = c.changes
 changed_by i = []
 
--- the modules that it suspends, with how long it waits for each,
+-- the modules that an instruction suspends, with how long it waits for each
 abbrev pub suspended_by : Instruction → List SuspensionForm
 suspended_by (suspend ss) = ss
 suspended_by i = []
 
--- and those that it resumes
+-- the modules that an instruction resumes
 abbrev pub resumed_by : Instruction → List (List ℕ)
 resumed_by (resume names) = names
 resumed_by i = []
 
--- These modules are loaded by these instructions, each once, with its own words.
+-- The instructions load these modules, each once, with its own words.
 abbrev pub Loads : List BlockItemForm → List Instruction → Type 0
 Loads xs is = IsPermutation (map purging xs) (flat_map load_by is)
 

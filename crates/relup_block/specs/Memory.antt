@@ -3,6 +3,6 @@ use Rattle.std.specs.Prelude.{◌≡◌, List, ◌++◌}
 use Rattle.relup_instruction.specs.declared.instruction.Instr.{Instr}
 use Rattle.relup_instruction.specs.Instruction.{Instruction, script_of}
 
--- These instructions were written after what stood there.
+-- The instructions were written after what stood there.
 abbrev pub Appends : List Instr → List Instr → List Instruction → Type 0
 Appends old new is = script_of new ≡ script_of old ++ is

@@ -40,13 +40,13 @@ AreTexts p = AllByRecursion HasText p.ups × AllByRecursion HasText p.downs
 abbrev HasTexts : RelupAppForm → Type 0
 HasTexts a = IfSome a.appup AreTexts
 
--- It is so of plain entries,
+-- Entries that were made plain have plain versions.
 plain_texts : (es : List AppupEntryForm) (asked : List (List ℕ)) (plain : List AppupEntryForm) → IsPlain es asked plain → AllByRecursion HasText plain
 plain_texts es [] plain nothing = tt
 plain_texts es (v ∷ asked) plain (entry vsn row is p) = (tt, plain_texts es asked _ p)
 plain_texts es (v ∷ asked) plain (none vsn is p) = plain_texts es asked plain p
 
--- of an application with a plain appup,
+-- An application with a plain appup has plain versions.
 of_app : (ups downs : List RelupReleaseForm) (a c : RelupAppForm) → IsPlainApp ups downs a c → HasTexts c
 of_app ups downs a c h = go c.appup h.appup
   where
@@ -58,7 +58,7 @@ of_app ups downs a c h = go c.appup h.appup
     go None k = tt
     go (Some q) k = own a.appup q k
 
--- and of all of a plain release.
+-- All appups of a plain release have plain versions.
 of_apps : (ups downs : List RelupReleaseForm) (as' cs : List RelupAppForm) → AllZip (IsPlainApp ups downs) as' cs → AllByRecursion HasTexts cs
 of_apps ups downs [] [] h = tt
 of_apps ups downs [] (c ∷ cs) h = absurd h
@@ -194,7 +194,7 @@ of_releases : (d : Direction) (new : RelupReleaseForm) (others : List RelupRelea
     → IfSome (first_fault (release_fault d new) others) NoRegex
 of_releases d new others h = of_first (λ r. Unit {0}) (release_fault d new) (λ other any. of_release d new other h) others (anything others)
 
--- So no translation of a plain release ends at a pattern.
+-- No translation of a plain release ends at a pattern.
 pub ends_at_no_pattern : (ups downs : List RelupReleaseForm) (new plain : RelupReleaseForm) → IsPlainRelease ups downs new plain
     → (app : List ℕ) → translation plain ups downs ≡ Err (regex_version app) → ⊥
 ends_at_no_pattern ups downs new plain h app e = go (fault_between plain ups downs) (of_either _ _ (of_releases Up plain ups texts) (of_releases Down plain downs texts)) e

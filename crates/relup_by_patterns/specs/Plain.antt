@@ -25,7 +25,7 @@ pub record BadPattern : Type 0 where
 abbrev pub bad_pattern_of : BadPatternInMemory → BadPattern
 bad_pattern_of b = record { app = string_bytes b.app; direction = b.direction; place = b.place; fault = b.fault }
 
--- It holds of the pattern that is reported; out of memory reports none.
+-- P holds of the pattern that the error reports; out of memory reports none.
 abbrev pub IfBad : PatternError → (BadPattern → Type 0) → Type 0
 IfBad (pattern_error.BadPattern b) P = P (bad_pattern_of b)
 IfBad pattern_error.NoMemory P = Unit {0}

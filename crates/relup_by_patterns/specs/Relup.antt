@@ -7,7 +7,7 @@ use Rattle.relup_by_patterns.specs.declared.error.ByPatternsError.{ByPatternsErr
 use Rattle.relup_by_patterns.specs.declared.error.ByPatternsError.TheVariants.{Patterns, Translation}
 use Rattle.relup_by_patterns.specs.Plain.{IfBad, IsPlainRelease, AppsHaveFault}
 
--- It is the translation of the release with plain appups.
+-- The relup is the translation of the release with its appups made plain.
 abbrev pub IsMadeByPatterns : RelupReleaseForm → List RelupReleaseForm → List RelupReleaseForm → RelupForm → Type 0
 IsMadeByPatterns new ups downs relup =
     (plain : RelupReleaseForm) × IsPlainRelease ups downs new plain × (translation plain ups downs ≡ Ok relup)

@@ -96,14 +96,14 @@ gives_specification source a named =
       (application_names v s says.shape).modules,
     )))
 
--- So an application is well formed,
+-- An application that files give is well formed.
 gives_app : (source : Source) (a : Application) → IsNamed a → Gives (RelupAppAt source a) IsWellFormedApp
 gives_app source a named =
     gives_then (AppAt source a) (λ s r. r ≡ (if has_few_modules s then Ok (relup_app a.start s) else Err too_many)) IsNamedSpecification IsWellFormedApp
     (gives_specification source a named)
     (λ s said. gives_tested IsWellFormedApp (relup_app a.start s) too_many (has_few_modules s) (λ few. said))
 
--- and a release,
+-- A release that files give is well formed.
 gives_relup_release : (source : Source) (path : List ℕ) → Gives (RelupReleaseAt source path) IsWellFormedRelease
 gives_relup_release source path =
     gives_then (ReleaseAt source path) (λ f. Then (Each (RelupAppAt source) f.release.apps) (λ apps r. r ≡ Ok (relup_release f.release apps)))
@@ -112,7 +112,7 @@ gives_relup_release source path =
     (AllByRecursion IsWellFormedApp) IsWellFormedRelease (gives_each (RelupAppAt source) IsNamed IsWellFormedApp (gives_app source) f.release.apps names.1)
     (λ apps are. gives_value IsWellFormedRelease (relup_release f.release apps) (names.0, are)))
 
--- and all of them.
+-- Each of several releases that files give is well formed.
 gives_releases : (source : Source) (paths : List (List ℕ)) → Gives (Each (RelupReleaseAt source) paths) (AllByRecursion IsWellFormedRelease)
 gives_releases source paths =
     gives_each (RelupReleaseAt source) (λ path. Unit {0}) IsWellFormedRelease (λ path any. gives_relup_release source path) paths (trivially paths)
@@ -124,7 +124,7 @@ gives_appup source a (Some p) (bytes, reads, (v, here, says)) =
     let term = (says_its_term v p).0 says in
     (entries_all term.ups p.ups term.each_up, entries_all term.downs p.downs term.each_down)
 
--- So an application with its appup is well formed,
+-- An application is well formed, and so is its appup, if it has one.
 abbrev IsWhole : RelupAppForm → Type 0
 IsWhole a = IsWellFormedApp a × IfSome a.appup IsWellFormedAppup
 
@@ -138,7 +138,7 @@ whole_apps : (apps : List RelupAppForm) → AllByRecursion IsWhole apps
 whole_apps [] h = (tt, tt)
 whole_apps (a ∷ apps) h = let more = whole_apps apps h.1 in ((h.0.0, more.0), (h.0.1, more.1))
 
--- and a release with its appups.
+-- A release is well formed, and so are its appups.
 abbrev IsWholeRelease : RelupReleaseForm → Type 0
 IsWholeRelease r = IsWellFormedRelease r × HasWellFormedAppups r
 
@@ -149,7 +149,7 @@ gives_with_appups source r of =
     (gives_each (WithAppup source) IsWellFormedApp IsWhole (gives_with_appup source) r.apps of.1)
     (λ apps are. let both = whole_apps apps are in gives_value IsWholeRelease (whole apps) ((of.0, both.0), both.1))
 
--- So a relup of them is one that a file can say.
+-- The releases of a request are well formed, so that their relup is one that a file can say.
 abbrev AreWellFormed : Releases → Type 0
 AreWellFormed all = IsWholeRelease all.new × AllByRecursion IsWellFormedRelease all.ups × AllByRecursion IsWellFormedRelease all.downs
 

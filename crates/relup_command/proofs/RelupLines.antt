@@ -75,7 +75,7 @@ said_appup source path line (Some p) (bytes, (v, here, says)) =
     let term = (says_its_term v p).0 says in
     (entries_all term.ups p.ups term.each_up, entries_all term.downs p.downs term.each_down)
 
--- So the files of a relup are reported within a line.
+-- What the files of an application say for a relup is reported within a line.
 good_relup_app : (source : Source) (a : Application) → IsLineApplication a → AreGood (RelupAppAt source a) IsLineApp
 good_relup_app source a lines =
     good_then (AppAt source a) _ IsLineSpecification IsLineApp (good_application source a lines)

@@ -19,7 +19,7 @@ use Rattle.relup_exec.specs.Outcome.{Start, ArmedForm, IsArmed, IsBroken, IsFini
 abbrev pub values_alone : Run → Values
 values_alone r p = replay_from (r.values p) (added (r.courses p).blocks)
 
--- all was done, or the instruction with this number fails: before the point, or after it
+-- How a script ends: all was done, or the instruction with this number fails, before the point or after it.
 pub data Outcome : Type 0 where
   ends : Run → Outcome
   refuses : ℕ → Cause → Outcome

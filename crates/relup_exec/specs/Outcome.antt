@@ -49,7 +49,8 @@ past_behind s start reported is = record { first = start.first; run = run_behind
 abbrev pub RanOne : Site → View → Run → Bool → Instruction → View → View → Type 0
 RanOne s first r stays i v w = HasNoFault s first v w r stays i × GoesByLooks (record { first = first; run = r }) i (Ok stays) v w
 
--- These instructions were carried out, one after another, between these two moments. Of each after the point this is reported.
+-- The instructions were carried out, one after another, between these two moments. Of each one after the point of no return it
+-- is reported whether the child that it is on stays.
 abbrev pub RanAll : Site → View → View → View → Bool → List Bool → List Instruction → Run → Type 0
 RanAll s first since now early reported [] r = (reported ≡ []) × AreLonger since now
 RanAll s first since now true reported (i ∷ is) r =
@@ -96,7 +97,7 @@ pub record IsPointAt (script : List Instruction) (place : ℕ) : Type 0 where
 abbrev pub CanGoBack : View → HeldSlots → View → Type 0
 CanGoBack first hs v = (courses : Courses) × AllFollow first courses hs v × ((p : ℕ) → (courses p).blocks ≡ [])
 
--- All before the point was done, and nothing of it stands in a history yet.
+-- All before the point of no return was done, and nothing of it stands in a history yet.
 pub record IsArmed (s : Site) (start : Start) (script : List Instruction) (a : ArmedForm) (v : View) : Type 0 where
   pub point : IsPointAt script a.place
   pub reported : a.reported ≡ []

@@ -57,13 +57,13 @@ FailsToChange s past mode number c e a v =
     × AllFollow past.first (change_within c.name (old_version s mode c.name past.run) c e.slot (modules_by_slot_in past.run) past.run.courses) a.held v
     × (is_memory (cause_of e.cause) ≡ true → change_asks s mode c past.run ≡ true)
 
--- It was made, or can't be made.
+-- A change of code was made, or can't be made.
 abbrev pub ChangesOnce : {X : Type 0} → Site → Past → Direction → ℕ → ChangeForm → Result X Failure → ProgressForm → List App → View → Type 0
 ChangesOnce s past mode number c (Ok x) a tree v =
     (change_fault s mode (c ∷ []) (values_seen v) past.run ≡ None) × HasDone (record past { run = changed_once s mode c past.run }) a tree v
 ChangesOnce s past mode number c (Err e) a tree v = FailsToChange s past mode number c e a v
 
--- So it was of the processes.
+-- A change of code was made in the processes of its module, or can't be made.
 abbrev pub ChangesProcesses : {X : Type 0} → Site → Past → Direction → ℕ → ChangeForm → Result X Failure → ProgressForm → List App → View → Type 0
 ChangesProcesses s past mode number c (Ok x) a tree v =
     (change_fault s mode (c ∷ []) (values_seen v) past.run ≡ None) × HasDone (record past { run = processes_changed s mode c past.run }) a tree v

@@ -16,7 +16,7 @@ use Rattle.script_progress.specs.Stops.{is_memory, takes_memory}
 abbrev pub start_at : View → List App → Start
 start_at v apps = record { first = v; apps = apps }
 
--- nothing was done yet
+-- A script has begun, and nothing was done yet.
 abbrev pub HasBegun : Site → Start → ProgressForm → List App → View → Type 0
 HasBegun s start a tree v = HasDone (past_behind s start [] []) a tree v
 
@@ -33,7 +33,7 @@ pub record IsStopped (s : Site) (start : Start) (is : List Instruction) (number 
   pub slot : ℕ
   pub partly : AllFollow start.first (courses_within s true instruction modules slot (run_behind s start [] front)) hs v
 
--- All were carried out, or one fails.
+-- The instructions were all carried out, or one fails.
 abbrev pub RunsAll : {X : Type 0} → Site → Start → List Instruction → Result X Refused → ProgressForm → List App → View → Type 0
 RunsAll s start is (Ok x) a tree v = Ran s start v [] is × HasDone (past_behind s start [] is) a tree v
 RunsAll s start is (Err e) a tree v = IsStopped s start is e.instr (cause_of e.cause) a.held v

@@ -121,7 +121,7 @@ fn change_processes(
     }
 }
 
-// They are changed from this version.
+// Changes the code of the module's processes from this version.
 fn change_from(
     progress: &mut Progress,
     old: &Old,

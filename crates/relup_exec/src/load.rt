@@ -44,7 +44,7 @@ pub(crate) fn load<R: Wait>(
     }
 }
 
-// It was fetched.
+// Loads a module that was fetched.
 fn load_fetched<R: Wait>(
     progress: &mut Progress,
     rt: &R,

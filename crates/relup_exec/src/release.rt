@@ -50,7 +50,7 @@ pub(crate) fn do_plain<R: Wait>(
     );
 }
 
-// It is done to the processes of these modules, one module after another.
+// Carries out an operation on the processes of these modules, one module after another.
 fn do_all<R: Wait>(
     rt: &R,
     table: &ProcTable,
@@ -84,7 +84,8 @@ fn do_all<R: Wait>(
     }
 }
 
-// It is done to the processes of one more module. By the modules before it the caller's proof names what was done.
+// Carries out an operation on the processes of one more module. By the modules before it the caller's proof names what was
+// done.
 fn do_next<R: Wait>(
     rt: &R,
     table: &ProcTable,

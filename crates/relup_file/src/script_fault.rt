@@ -4,9 +4,9 @@ use std::fmt::{self, Display, Formatter};
 /// Why a script isn't run. An instruction is reported by its place, counted from 1. It is shown by its name alone.
 #[derive(Clone, Copy, Debug)]
 pub enum ScriptFault {
-    /// It has no point of no return.
+    /// The script has no point of no return.
     NoPoint,
-    /// It has more than one.
+    /// The script has more than one point of no return.
     TwoPoints,
     /// The first instruction at fault stands where it may not: on the wrong side of the point, or a `restart_emulator` that is not
     /// the last one.

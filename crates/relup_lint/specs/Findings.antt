@@ -99,11 +99,11 @@ refusal_without Resumed = not_resumed
 refusal_without Stopped = not_stopped
 refusal_without Started = not_started
 
--- a module that another instruction has before,
+-- whether another instruction than this one is the first that changes the module
 abbrev pub changed_before : MentionsForm → ℕ → List ℕ → Bool
 changed_before m n name = is_elsewhere n (lookup (bytes_eq name) m.changed)
 
--- and a name that isn't there for what it needs
+-- whether the name stands nowhere in this part of the mentions
 abbrev pub is_missing : MentionsForm → Part → List ℕ → Bool
 is_missing m part name = not (is_some (lookup (bytes_eq name) (of_part part m)))
 

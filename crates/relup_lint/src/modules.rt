@@ -37,7 +37,7 @@ impl<'s, 'a> Model for Modules<'s, 'a> {
 }
 
 impl<'s, 'a> Modules<'s, 'a> {
-    /// Those of this target.
+    /// A table of the modules of this target, to be searched by name.
     pub(crate) fn new(
         alloc: Global,
         target: &'s [TargetApp<'a>],

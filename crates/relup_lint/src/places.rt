@@ -38,7 +38,7 @@ impl<'a> Model for Places<'a> {
 }
 
 impl<'a> Places<'a> {
-    /// These.
+    /// A table of these rows, to be searched by name.
     pub(crate) fn new(alloc: Global, rows: Vec<(&'a str, usize)>) -> Result<Places<'a>, AllocError>
         ensures { IfOk result (λ places. places ≡ row_texts rows.entry.items) }
     {
@@ -82,7 +82,7 @@ impl<'a> Model for Versions<'a> {
 }
 
 impl<'a> Versions<'a> {
-    /// These.
+    /// A table of these versions, to be searched by name.
     pub(crate) fn new(
         alloc: Global,
         rows: Vec<(&'a str, &'a str)>,

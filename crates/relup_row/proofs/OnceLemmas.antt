@@ -120,7 +120,7 @@ module _ (app : List ℕ) where
       other true c e n = absurd (false≢true n)
       other false c e n = e
 
--- So the fetches of distinct applications have each mention's module once, if it is of one of them.
+-- The fetches of distinct applications have each mention's module once, if it is of one of these applications.
 grouped : (ms apps : List MentionForm) → IsDistinct bytes_eq (map app_of apps) → All (IsOf (map app_of apps)) ms
     → IsPermutation (map module_of ms) (modules_of ms apps)
 grouped [] [] distinct of = IsPermutation-refl []

@@ -58,7 +58,7 @@ module _ (r : RelupReleaseForm) where
   abbrev is_of : RelupAppForm → MentionForm → Bool
   is_of a m = bytes_eq m.app.name a.name
 
-  -- So what is fetched of an application is its own,
+  -- The modules that are fetched of an application are its own.
   own_modules : (m : MentionForm) → IsOwned m → (ns : List MentionForm) → AllByRecursion IsOwned ns
       → AllByRecursion (λ (name : List ℕ). IsTrue (is_among name m.app.modules)) (modules_in m.app.name ns)
   own_modules m is [] h = tt
@@ -81,7 +81,7 @@ module _ (r : RelupReleaseForm) where
     own = own_modules m is (firsts module_of ms) (recursion_from_All IsOwned _ (of_firsts module_of IsOwned ms (All-from_recursion IsOwned ms h)));
   }
 
--- and all is fetched from the target.
+-- All is fetched from the target.
 pub fetches_from_target : FetchesFromTarget
 fetches_from_target w rows distinct =
     let Owned = IsOwned w.target in

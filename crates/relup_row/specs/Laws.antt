@@ -15,11 +15,11 @@ use Rattle.relup_row.specs.Script.PartForm.{a_block, a_single}
 abbrev pub fetched : List FetchForm → List (List ℕ)
 fetched = flat_map (λ (f : FetchForm). f.modules)
 
--- No module is fetched twice,
+-- No module is fetched twice.
 abbrev pub FetchesOnce : Type 0
 FetchesOnce = (ms : List MentionForm) → IsDistinct bytes_eq (fetched (fetches ms))
 
--- and those are fetched that are mentioned.
+-- The modules that are fetched are those that are mentioned.
 abbrev pub FetchesMentioned : Type 0
 FetchesMentioned = (ms : List MentionForm) (name : List ℕ) → is_among name (fetched (fetches ms)) ≡ is_among name (map module_of ms)
 
@@ -39,12 +39,12 @@ abbrev pub FetchesFromTarget : Type 0
 FetchesFromTarget = (w : WayForm) (rows : List (List AppupInstruction)) → IsDistinct bytes_eq (app_names w.target)
     → AllByRecursion (IsFetchFrom w.target) (fetches (flat_map (mentions w) rows))
 
--- the instruction of an item,
+-- the instruction of an item of a block
 abbrev pub of_item : BlockItemForm → AppupInstruction
 of_item (updated u) = update u
 of_item (loaded l) = load_module l
 
--- and those of a part
+-- the instructions of a part of a row
 abbrev pub of_part : PartForm → List AppupInstruction
 of_part (a_block xs) = map of_item xs
 of_part (a_single i) = i ∷ []
@@ -62,6 +62,6 @@ pub record IsCut (row : List AppupInstruction) (ps : List PartForm) : Type 0 whe
   pub each : AllByRecursion IsPart ps
   pub longest : (front rest : List PartForm) (xs ys : List BlockItemForm) → ps ≡ front ++ (a_block xs ∷ a_block ys ∷ rest) → ⊥
 
--- So is each row.
+-- Each row is cut into parts whose blocks are as long as can be.
 abbrev pub CutsIntoLongestBlocks : Type 0
 CutsIntoLongestBlocks = (row : List AppupInstruction) → IsCut row (parts row)

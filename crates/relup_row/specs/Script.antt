@@ -53,11 +53,11 @@ coming start a = map load_plainly a.modules ++ starting start a.name
 abbrev pub leaving : List (List ℕ) → List Instruction
 leaving names = map remove_plainly names ++ (purge names ∷ [])
 
--- It stops: it is stopped, and its modules leave.
+-- the instructions that stop an application: it is stopped, and its modules leave
 abbrev pub stopping : RelupAppForm → List Instruction
 stopping a = (call_with (codes "stop") a.name ∷ []) ++ leaving a.modules
 
--- It goes: after that it is unloaded.
+-- the instructions by which an application leaves the release: it is stopped, its modules leave, and then it is unloaded
 abbrev pub going : RelupAppForm → List Instruction
 going a = stopping a ++ (call_with (codes "unload") a.name ∷ [])
 

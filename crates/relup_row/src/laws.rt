@@ -7,7 +7,7 @@ pub fn no_module_is_fetched_twice()
     ensures { FetchesOnce }
 {}
 
-/// Those modules are fetched that are mentioned, and no others.
+/// The modules that are mentioned are fetched, and no others.
 pub fn mentioned_modules_are_fetched()
     ensures { FetchesMentioned }
 {}

@@ -35,7 +35,7 @@ impl Model for ModuleNames {
 }
 
 impl ModuleNames {
-    /// These names. It takes n log n comparisons for n of them.
+    /// A list of these names, to be searched. For n of them it takes n log n comparisons.
     pub fn new(alloc: Global, names: Vec<String>) -> Result<ModuleNames, AllocError>
         ensures { IfOk result (λ modules. modules ≡ map string_bytes names.items) }
     {

@@ -18,7 +18,7 @@ use relup_block::{BlockItem, push_block, push_instr};
 use relup_instruction::Instr;
 use std::alloc::{AllocError, Global};
 
-// Those of these modules that the target has.
+// Pushes a mention of each of these modules that the target has.
 fn push_modules<'a>(
     target: &'a RelupRelease,
     names: &'a [String],

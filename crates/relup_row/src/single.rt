@@ -27,14 +27,14 @@ fn plain_purging(alloc: Global, name: &str) -> Result<Purging, AllocError>
     })
 }
 
-// It is loaded with them.
+// Pushes the load of a module with the default words.
 fn push_load(alloc: Global, name: &str, out: &mut Vec<Instr>) -> Result<(), AllocError>
     ensures { OnOk result (Appends out.old.items out.new.items (load_plainly name.now ∷ [])) }
 {
     push_instr(Instr::Load(plain_purging(alloc, name)?), out)
 }
 
-// It is removed with them.
+// Pushes the removal of a module with the default words.
 fn push_removal(alloc: Global, name: &str, out: &mut Vec<Instr>) -> Result<(), AllocError>
     ensures { OnOk result (Appends out.old.items out.new.items (remove_plainly name.now ∷ [])) }
 {
@@ -61,7 +61,7 @@ fn push_removals(alloc: Global, names: &[String], out: &mut Vec<Instr>) -> Resul
     Ok(())
 }
 
-// These modules leave.
+// Pushes the instructions by which these modules leave: each is removed, and all are purged together.
 fn push_leaving(alloc: Global, names: &[String], out: &mut Vec<Instr>) -> Result<(), AllocError>
     ensures { OnOk result
         (Appends out.old.items out.new.items (leaving (map string_bytes names.now))) }

@@ -18,7 +18,7 @@ use Rattle.relup_translate.specs.Translation.{between_versions, if_other, coming
 use Rattle.relup_translate.specs.Laws.{GoesOver, StandsBehindPoint, ChangesAll, ScriptsChangeAll}
 use Rattle.relup_translate.proofs.WholeLemmas.{instructions_over}
 
--- It stands in the list.
+-- The member stands in the list.
 record StandsIn {A : Type 0} (a : A) (xs : List A) : Type 0 where
   front : List A
   rest : List A

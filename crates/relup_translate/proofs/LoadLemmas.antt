@@ -81,7 +81,7 @@ module _ (w : WayForm) where
   loads_have_owners b (restart_application app) e = app_has_owners app
   loads_have_owners b i e = tt
 
-  -- So they are those that are mentioned.
+  -- Where each name has an application in the target, the names are those that are mentioned.
   mentioned_names : (names : List (List ℕ)) → AllByRecursion HasOwner names → map module_of (filter_map (mention w.target) names) ≡ names
   mentioned_names [] h = refl
   mentioned_names (name ∷ names) h = go (owner name w.target) h.0 (mentioned_names names h.1)
@@ -167,7 +167,7 @@ module _ (w : WayForm) (rs : List (List AppupInstruction)) where
             (of_restart (list_any (list_any asks_restart) rs)),
       ))
 
--- So does the script of a way without a fault, where the appups of the higher release have none.
+-- The script of a way without a fault fetches what it loads, where the appups of the higher release have no load themselves.
 fetches_on_way : (w : WayForm) → way_fault w ≡ None → InHigher WritesNoLoad w.direction w.left w.target → FetchesItsLoads (way_script w)
 fetches_on_way w e none =
     fetches_its_loads w (rows w)
@@ -182,6 +182,6 @@ higher_writes_none : (d : Direction) (new other : RelupReleaseForm) → AppupsWr
 higher_writes_none Up new other h = h
 higher_writes_none Down new other h = h
 
--- So does each script that is made.
+-- Each script of a relup that is made fetches what it loads.
 pub fetches_loads : FetchesLoads
 fetches_loads new ups downs r none = of_made FetchesItsLoads new (λ d other e. fetches_on_way (way_between d new other) e (higher_writes_none d new other none)) ups downs r

@@ -36,24 +36,24 @@ use Rattle.relup_translate.proofs.WayLemmas.{InHigher, of_changing, of_all_rows}
 abbrev AreNamed : List Instruction → Type 0
 AreNamed = AllByRecursion IsInstruction
 
--- So it is where an application is started,
+-- The instructions that start an application have names.
 named_starting : (start : StartType) (app : List ℕ) → AreNamed (starting start app)
 named_starting Load app = (refl, tt)
 named_starting Unloaded app = tt
 named_starting start app = (refl, tt)
 
--- comes,
+-- The instructions by which an application comes have names.
 named_coming : (start : StartType) (a : RelupAppForm) → IsWellFormedApp a → AreNamed (coming start a)
 named_coming start a h =
     of_both IsInstruction (map load_plainly a.modules) (starting start a.name)
     (of_map IsInstruction IsName load_plainly (λ m name. name) a.modules h.2) (named_starting start a.name)
 
--- stops,
+-- The instructions that stop an application have names.
 named_stopping : (a : RelupAppForm) → IsWellFormedApp a → AreNamed (stopping a)
 named_stopping a h =
     (refl, of_both IsInstruction (map remove_plainly a.modules) _ (of_map IsInstruction IsName remove_plainly (λ m name. name) a.modules h.2) (h.2, tt))
 
--- and goes.
+-- The instructions by which an application leaves have names.
 named_going : (a : RelupAppForm) → IsWellFormedApp a → AreNamed (going a)
 named_going a h = of_both IsInstruction (stopping a) _ (named_stopping a h) (refl, tt)
 
@@ -112,17 +112,17 @@ is_timeout Default h = tt
 is_timeout Infinity h = tt
 is_timeout (Milliseconds n) h = h
 
--- An item is suspended,
+-- An item of a block is suspended by its name.
 is_suspension : (x : BlockItemForm) → IsItem x → IfSome (suspension x) IsSuspension
 is_suspension (updated u) h = (h.0, is_timeout u.timeout h.1)
 is_suspension (loaded l) h = tt
 
--- resumed,
+-- An item of a block is resumed by its name.
 is_resumption : (x : BlockItemForm) → IsItem x → IfSome (resumption x) IsName
 is_resumption (updated u) h = h.0
 is_resumption (loaded l) h = tt
 
--- changed
+-- The state of a module is changed by its name.
 is_change_to : (name : List ℕ) (c : StateForm) → IsName name → IfSome (change_to name c) IsChange
 is_change_to name soft h = tt
 is_change_to name (advanced extra) h = h
@@ -131,32 +131,32 @@ is_change : (x : BlockItemForm) → IsItem x → IfSome (change x) IsChange
 is_change (updated u) h = is_change_to u.name u.change h.0
 is_change (loaded l) h = tt
 
--- and loaded by its name.
+-- An item of a block is loaded by its name.
 is_load : (x : BlockItemForm) → IsItem x → IsInstruction (load (purging x))
 is_load (updated u) h = h.0
 is_load (loaded l) h = h.0
 
--- So the loads of a block have names,
+-- The items of a block have names.
 abbrev AreItems : List BlockItemForm → Type 0
 AreItems = AllByRecursion IsItem
 
 named_loading : (xs : List BlockItemForm) → AreItems xs → AreNamed (loading xs)
 named_loading xs h = of_map IsInstruction IsItem (λ (x : BlockItemForm). load (purging x)) is_load xs h
 
--- its changes,
+-- The changes of a block have names.
 named_changing : (d : Direction) (xs : List BlockItemForm) → AreItems xs → AreNamed (changing d xs)
 named_changing d xs h =
     named_over IsChange (λ (cs : List ChangeForm). code_change (record { mode = Some d; changes = cs })) (λ cs are. are) (filter_map change xs)
     (of_options IsChange IsItem change is_change xs h)
 
--- both together,
+-- The loads and the changes of a block together have names.
 named_updating : (d : Direction) (xs : List BlockItemForm) → AreItems xs → AreNamed (updating d xs)
 named_updating Up xs h = of_both IsInstruction (loading xs) (changing Up xs) (named_loading xs h) (named_changing Up xs h)
 named_updating Down xs h =
     of_both IsInstruction (loading (filter (is_of_kind true) xs)) _ (named_loading _ (of_filter IsItem (is_of_kind true) xs h))
     (of_both IsInstruction (changing Down xs) _ (named_changing Down xs h) (named_loading _ (of_filter IsItem (is_of_kind false) xs h)))
 
--- the block in two orders of its items,
+-- A block in two orders of its items has names.
 named_in_orders : (d : Direction) (ss xs : List BlockItemForm) → AreItems ss → AreItems xs → AreNamed (in_orders d ss xs)
 named_in_orders d ss xs of_ss of_xs =
     of_both IsInstruction (suspending ss) _
@@ -165,13 +165,13 @@ named_in_orders d ss xs of_ss of_xs =
     (named_over IsName resume (λ names are. are) (reverse (filter_map resumption ss))
     (of_reverse IsName (filter_map resumption ss) (of_options IsName IsItem resumption is_resumption ss of_ss))))
 
--- whatever the rules of the two orders are,
+-- A block has names whatever the rules of its two orders are.
 in_rules : (first second : _) (d : Direction) (xs : List BlockItemForm) → AreItems xs → AreNamed (in_orders d (order first xs) (order second xs))
 in_rules first second d xs h =
     named_in_orders d (order first xs) (order second xs) (of_permutation IsItem xs (order first xs) (order_has_items first xs) h)
     (of_permutation IsItem xs (order second xs) (order_has_items second xs) h)
 
--- and so the block itself.
+-- What a block becomes has names.
 named_block : (d : Direction) (xs : List BlockItemForm) → AreItems xs → AreNamed (block d xs)
 named_block Up xs h = search (in_rules, h)
 named_block Down xs h = search (in_rules, h)
@@ -204,7 +204,7 @@ of_put : (i : AppupInstruction) (o : Option BlockItemForm) (ps : List PartForm) 
 of_put i (Some x) ps is item h = of_put_item x ps item h
 of_put i None ps is item h = (is, h)
 
--- So a row is made of such parts.
+-- A row consists of instructions with names.
 abbrev AreRow : List AppupInstruction → Type 0
 AreRow = AllByRecursion IsAppupInstruction
 
@@ -212,12 +212,12 @@ of_row_parts : (is : List AppupInstruction) → AreRow is → AllByRecursion IsP
 of_row_parts [] h = tt
 of_row_parts (i ∷ is) h = of_put i (block_item i) (parts is) h.0 (is_item i h.0) (of_row_parts is h.1)
 
--- What is made of a part has names,
+-- What a part of a row becomes has names.
 named_part : (w : WayForm) → IsWellFormedWay w → (p : PartForm) → IsPart p → AreNamed (part_script w p)
 named_part w of (a_block xs) h = named_block w.direction xs h
 named_part w of (a_single i) h = named_single w of i h
 
--- and what is made of a row.
+-- What a row becomes has names.
 named_row : (w : WayForm) → IsWellFormedWay w → (is : List AppupInstruction) → AreRow is → AreNamed (row_script w is)
 named_row w of is h = of_parts IsInstruction IsPart (part_script w) (named_part w of) (parts is) (of_row_parts is h)
 
@@ -229,7 +229,7 @@ IsMention m = IsName m.name × IsWellFormedApp m.app
 named_modules : (name : List ℕ) (r : RelupReleaseForm) → IsWellFormedRelease r → AllByRecursion IsName (app_modules name r)
 named_modules name r of = of_one IsName (λ (a : RelupAppForm). a.modules) (λ a h. h.2) (app_named name r) (named_app name r of)
 
--- So are those that an instruction loads.
+-- The modules that an instruction loads have names.
 named_loaded : (w : WayForm) → IsWellFormedWay w → (i : AppupInstruction) → IsAppupInstruction i → AllByRecursion IsName (loaded_by w i)
 named_loaded w of (update u) h = (h.0, tt)
 named_loaded w of (load_module l) h = (h.0, tt)
@@ -249,18 +249,18 @@ is_mention w of name named =
     go None h = tt
     go (Some a) h = (named, h)
 
--- So all that a row mentions is such,
+-- The modules that a row mentions have names, and their applications are well formed.
 of_mentions : (w : WayForm) → IsWellFormedWay w → (is : List AppupInstruction) → AreRow is → AllByRecursion IsMention (mentions w is)
 of_mentions w of is h =
     of_parts IsMention IsAppupInstruction (mentions_by w)
     (λ i is_one. of_options IsMention IsName (mention w.target) (is_mention w of) (loaded_by w i) (named_loaded w of i is_one)) is h
 
--- and the first mentions are.
+-- Of mentions with names, the first of each key have names too.
 of_firsts : (key : MentionForm → List ℕ) (ms : List MentionForm) → AllByRecursion IsMention ms → AllByRecursion IsMention (firsts key ms)
 of_firsts key [] h = tt
 of_firsts key (m ∷ ms) h = (h.0, of_filter IsMention (differs key m) (firsts key ms) (of_firsts key ms h.1))
 
--- A fetch of mentioned modules has names and a version,
+-- The fetch of mentioned modules has names and a version.
 is_fetch : (ms : List MentionForm) → AllByRecursion IsMention ms → (m : MentionForm) → IsMention m → IsFetch (fetch ms m.app)
 is_fetch ms h m is = (
   is.1.0,
@@ -268,14 +268,14 @@ is_fetch ms h m is = (
   of_map IsName IsMention module_of (λ n of. of.0) _ (of_filter IsMention (λ (n : MentionForm). bytes_eq n.app.name m.app.name) ms h),
 )
 
--- and so have all.
+-- The fetches of mentioned modules have names and versions.
 named_fetching : (ms : List MentionForm) → AllByRecursion IsMention ms → AreNamed (fetching ms)
 named_fetching ms h =
     of_map IsInstruction IsFetch load_object_code (λ f is. is) (fetches ms)
     (of_map IsFetch IsMention (λ (m : MentionForm). fetch (firsts module_of ms) m.app) (is_fetch (firsts module_of ms) (of_firsts module_of ms h))
     (firsts app_of ms) (of_firsts app_of ms h))
 
--- So have those that an appup has itself.
+-- The fetches that an appup has itself have names.
 named_written : (i : AppupInstruction) → IsAppupInstruction i → AreNamed (written_fetch i)
 named_written (low_level (load_object_code f)) h = (h, tt)
 named_written i h = tt
@@ -295,7 +295,7 @@ named_restart : (restarts : Bool) → AreNamed (if restarts then restart_emulato
 named_restart true = (tt, tt)
 named_restart false = tt
 
--- So the script of such rows is one that a file can say.
+-- The script of rows with names is one that a file can say.
 is_script : (w : WayForm) → IsWellFormedWay w → (rs : List (List AppupInstruction)) → AllByRecursion AreRow rs → IsScript (script w rs)
 is_script w of rs h =
     behind (fetching (flat_map (mentions w) rs)) _
@@ -319,7 +319,7 @@ of_way : (d : Direction) (new other : RelupReleaseForm) → IsWellFormedRelease 
 of_way Up new other of appups of_other = record { left = of_other; target = of; appups = appups }
 of_way Down new other of appups of_other = record { left = of; target = of_other; appups = appups }
 
--- So each entry is one that a file can say,
+-- Each entry of a made relup is one that a file can say.
 is_entry : (d : Direction) (new : RelupReleaseForm) → IsWellFormedRelease new → HasWellFormedAppups new
     → (other : RelupReleaseForm) → IsWellFormedRelease other → IsEntry (entry d new other)
 is_entry d new of appups other of_other =
@@ -327,7 +327,7 @@ is_entry d new of appups other of_other =
     let way = of_way d new other of appups of_other in
     (of_other.0, is_script w way (rows w) (named_rows w way))
 
--- and so is the relup.
+-- A relup that is made is one that a file can say.
 pub made_relups_are_named : MadeRelupsAreNamed
 made_relups_are_named new ups downs r of appups of_ups of_downs e =
     subst IsRelup (sym (sound_where_made new ups downs r e).1) (record {

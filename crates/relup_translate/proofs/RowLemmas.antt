@@ -18,7 +18,7 @@ use Rattle.relup_row.specs.Script.{load_plainly, remove_plainly, starting, comin
 use Rattle.relup_row.specs.Script.PartForm.{a_block, a_single}
 use Rattle.relup_row.proofs.ListLemmas.{of_both, of_first, of_last, of_each, of_map, of_parts, of_filter, of_permutation}
 
--- It holds of each instruction that is made, of a `load` where this holds of the module.
+-- P holds of each instruction that is made; of a `load`, where Q holds of its module.
 pub record HoldsOfMade (P : Instruction → Type 0) (Q : List ℕ → Type 0) : Type 0 where
   pub suspends : (ss : List SuspensionForm) → P (suspend ss)
   pub loads : (p : PurgingForm) → Q p.name → P (load p)
@@ -34,18 +34,18 @@ written (low_level i) = in_place i
 written i = []
 
 module _ (P : Instruction → Type 0) (Q : List ℕ → Type 0) (of : HoldsOfMade P Q) where
-  -- So it holds where an application is started,
+  -- P holds of the instructions that start an application.
   of_starting : (start : StartType) (app : List ℕ) → AllByRecursion P (starting start app)
   of_starting Load app = (of.applies _, tt)
   of_starting Unloaded app = tt
   of_starting start app = (of.applies _, tt)
 
-  -- stops,
+  -- P holds of the instructions that stop an application.
   of_stopping : (a : RelupAppForm) → AllByRecursion P (stopping a)
   of_stopping a =
       (of.applies _, of_both P (map remove_plainly a.modules) _ (of_each P remove_plainly (λ m. of.removes _) a.modules) (of.purges _, tt))
 
-  -- goes,
+  -- P holds of the instructions by which an application leaves.
   of_going : (a : RelupAppForm) → AllByRecursion P (going a)
   of_going a = of_both P (stopping a) _ (of_stopping a) (of.applies _, tt)
 
@@ -53,14 +53,14 @@ module _ (P : Instruction → Type 0) (Q : List ℕ → Type 0) (of : HoldsOfMad
   of_leaving f each None = tt
   of_leaving f each (Some a) = each a
 
-  -- and comes with such modules.
+  -- P holds of the instructions by which an application comes, where Q holds of its modules.
   of_coming : (start : RelupAppForm → StartType) (o : Option RelupAppForm) → AllByRecursion Q (of_app (λ (a : RelupAppForm). a.modules) o)
       → AllByRecursion P (of_app (λ (a : RelupAppForm). coming (start a) a) o)
   of_coming start None h = tt
   of_coming start (Some a) h =
       of_both P (map load_plainly a.modules) _ (of_map P Q load_plainly (λ m q. of.loads _ q) a.modules h) (of_starting (start a) a.name)
 
-  -- It holds of what is made of an instruction outside a block, where it holds of what the appup has itself.
+  -- P holds of what is made of an instruction outside a block, where it holds of what the appup has itself.
   of_single : (w : WayForm) (i : AppupInstruction) → AllByRecursion Q (loaded_by w i) → AllByRecursion P (written i) → AllByRecursion P (single w i)
   of_single w (add_module d) h k = (of.loads _ h.0, tt)
   of_single w (delete_module d) h k = (of.removes _, (of.purges _, tt))
@@ -72,7 +72,7 @@ module _ (P : Instruction → Type 0) (Q : List ℕ → Type 0) (of : HoldsOfMad
   of_single w (low_level i) h k = k
   of_single w i h k = tt
 
-  -- It holds of the loads of a block of such modules,
+  -- Q holds of the module of a block's item.
   abbrev IsOfItem : BlockItemForm → Type 0
   IsOfItem x = Q (item_name x)
 
@@ -83,7 +83,7 @@ module _ (P : Instruction → Type 0) (Q : List ℕ → Type 0) (of : HoldsOfMad
   of_loading : (xs : List BlockItemForm) → AllByRecursion IsOfItem xs → AllByRecursion P (loading xs)
   of_loading xs h = of_map P IsOfItem (λ (x : BlockItemForm). load (purging x)) of_load xs h
 
-  -- its changes,
+  -- P holds of the instruction over several parts of a block, if there are any.
   of_over : {A : Type 0} (f : List A → Instruction) → ((as' : List A) → P (f as')) → (as' : List A) → AllByRecursion P (over f as')
   of_over f each [] = tt
   of_over f each (a ∷ as') = (each (a ∷ as'), tt)
@@ -91,29 +91,29 @@ module _ (P : Instruction → Type 0) (Q : List ℕ → Type 0) (of : HoldsOfMad
   of_changing : (d : Direction) (xs : List BlockItemForm) → AllByRecursion P (changing d xs)
   of_changing d xs = of_over (λ (cs : List ChangeForm). code_change (record { mode = Some d; changes = cs })) (λ cs. of.changes _) (filter_map change xs)
 
-  -- both together,
+  -- P holds of the loads and the changes of a block together.
   of_updating : (d : Direction) (xs : List BlockItemForm) → AllByRecursion IsOfItem xs → AllByRecursion P (updating d xs)
   of_updating Up xs h = of_both P (loading xs) (changing Up xs) (of_loading xs h) (of_changing Up xs)
   of_updating Down xs h =
       of_both P (loading (filter (is_of_kind true) xs)) _ (of_loading _ (of_filter IsOfItem (is_of_kind true) xs h))
       (of_both P (changing Down xs) _ (of_changing Down xs) (of_loading _ (of_filter IsOfItem (is_of_kind false) xs h)))
 
-  -- the block in two orders of its items,
+  -- P holds of a block in two orders of its items.
   of_in_orders : (d : Direction) (ss xs : List BlockItemForm) → AllByRecursion IsOfItem xs → AllByRecursion P (in_orders d ss xs)
   of_in_orders d ss xs h =
       of_both P (suspending ss) _ (of_over suspend of.suspends _)
       (of_both P (updating d xs) (resuming ss) (of_updating d xs h) (of_over resume of.resumes _))
 
-  -- whatever the rules of the two orders are,
+  -- P holds of a block whatever the rules of its two orders are.
   in_rules : (first second : _) (d : Direction) (xs : List BlockItemForm) → AllByRecursion IsOfItem xs → AllByRecursion P (in_orders d (order first xs) (order second xs))
   in_rules first second d xs h = of_in_orders d (order first xs) (order second xs) (of_permutation IsOfItem xs (order second xs) (order_has_items second xs) h)
 
-  -- and so of the block itself.
+  -- P holds of what a block becomes.
   of_block : (d : Direction) (xs : List BlockItemForm) → AllByRecursion IsOfItem xs → AllByRecursion P (block d xs)
   of_block Up xs h = search (in_rules, h)
   of_block Down xs h = search (in_rules, h)
 
-  -- A row is made of parts of which it holds,
+  -- Q holds of what a part of a row loads, and P of what stays of it.
   abbrev IsOfPart : WayForm → PartForm → Type 0
   IsOfPart w (a_block xs) = AllByRecursion IsOfItem xs
   IsOfPart w (a_single i) = AllByRecursion Q (loaded_by w i) × AllByRecursion P (written i)
@@ -145,7 +145,7 @@ module _ (P : Instruction → Type 0) (Q : List ℕ → Type 0) (of : HoldsOfMad
       of_put w i (block_item i) (parts is) (here, of_first P (written i) (flat_map written is) k) (of_item w i here)
       (of_row_parts w is (of_last Q (loaded_by w i) (flat_map (loaded_by w) is) h) (of_last P (written i) (flat_map written is) k))
 
-  -- so it holds of what is made of rows.
+  -- P holds of what rows become.
   pub of_rows : (w : WayForm) (rs : List (List AppupInstruction)) → AllByRecursion Q (flat_map (flat_map (loaded_by w)) rs)
       → AllByRecursion P (flat_map (flat_map written) rs) → AllByRecursion P (flat_map (row_script w) rs)
   of_rows w [] h k = tt

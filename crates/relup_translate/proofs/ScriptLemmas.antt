@@ -87,7 +87,7 @@ fetch_written i h = tt
 fetch_row : (is : List AppupInstruction) → Unit {0} → AllFetch (written_fetches is)
 fetch_row is h = of_parts Fetches (λ i. Unit {0}) written_fetch fetch_written is (trivially is)
 
--- These may stand there.
+-- Fetches may stand before the point.
 precedes : (i : Instruction) → Fetches i → (is_supported i && may_precede i) ≡ true
 precedes i h = ap (λ (j : Instruction). is_supported j && may_precede j) h.1
 
@@ -130,7 +130,7 @@ module _ (w : WayForm) (rs : List (List AppupInstruction)) where
     stands = λ front rest i is. each_stands front rest i (subst MayFollow is (follows_behind h));
   }
 
-  -- So the fault of the script is an instruction that can't be run.
+  -- The only fault that the script can have is an instruction that can't be run.
   only_one_fault : AllByRecursion (AllByRecursion IsPlain) rs → HasOnlyUnsupported (script w rs)
   only_one_fault h = only_unsupported (script w rs) before behind two_sides (all_precede before fetched_before) (follows_behind h)
 
@@ -145,7 +145,7 @@ plain_rows w e =
     of_all_rows IsPlain w (λ a. Unit {0}) (λ a any. refl) (λ b any. refl) (trivially w.target.apps) (trivially w.left.apps)
     (of_sound IsPlain w (plain_instruction w) e)
 
--- So a point parts its script, whose fault is an instruction that can't be run.
+-- One point parts the script of a way without a fault, and its only fault can be an instruction that can't be run.
 parts_script : (w : WayForm) → way_fault w ≡ None → IsParted (way_script w)
 parts_script w e = parted w (rows w) (plain_rows w e)
 

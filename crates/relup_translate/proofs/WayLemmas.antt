@@ -18,7 +18,7 @@ use Rattle.relup_translate.proofs.OutcomeLemmas.{all_sound}
 use Rattle.relup_row.proofs.ListLemmas.{of_both, of_some, of_options, of_reverse, of_found, of_next, trivially}
 
 module _ (R : AppupInstruction → Type 0) where
-  -- It holds of an appup's instructions,
+  -- R holds of the instructions of an appup's entries.
   abbrev pub InEntries : List AppupEntryForm → Type 0
   InEntries = AllByRecursion (λ (e : AppupEntryForm). AllByRecursion R e.instrs)
 
@@ -28,36 +28,36 @@ module _ (R : AppupInstruction → Type 0) where
   abbrev pub InAppupOf : RelupAppForm → Type 0
   InAppupOf a = IfSome a.appup InAppup
 
-  -- and of those of the higher release of a way.
+  -- R holds of the instructions in the appups of the higher release of a way.
   abbrev pub InHigher : Direction → RelupReleaseForm → RelupReleaseForm → Type 0
   InHigher Up left target = AllByRecursion InAppupOf target.apps
   InHigher Down left target = AllByRecursion InAppupOf left.apps
 
-  -- It holds of the instructions that an entry answers,
+  -- R holds of the instructions that an entry answers.
   of_answer : (v : VersionForm) (is : List AppupInstruction) → AllByRecursion R is → IfOk (answer_of v is) (AllByRecursion R)
   of_answer (text s) is h = h
   of_answer (pattern bs) is h = tt
 
-  -- if there is such an entry,
+  -- R holds of the instructions that an entry answers, if there is such an entry.
   of_entry : (o : Option AppupEntryForm) → IfSome o (λ (e : AppupEntryForm). AllByRecursion R e.instrs) → IfOk (answer_at o) (AllByRecursion R)
   of_entry None h = tt
   of_entry (Some e) h = of_answer e.vsn e.instrs h
 
-  -- and it is one of the appup's.
+  -- R holds of the instructions that an appup's entry for a version answers.
   of_entry_for : (vsn : List ℕ) (es : List AppupEntryForm) → InEntries es → IfOk (entry_for vsn es) (AllByRecursion R)
   of_entry_for vsn es h = of_entry _ (of_found (λ (e : AppupEntryForm). AllByRecursion R e.instrs) (λ (e : AppupEntryForm). ends_at vsn e.vsn) es h)
 
-  -- It holds of the entries of either direction.
+  -- R holds of the entries of either direction.
   of_entries : (d : Direction) (p : AppupForm) → InAppup p → InEntries (entries_of d p)
   of_entries Up p h = h.0
   of_entries Down p h = h.1
 
-  -- A search that finds instructions finds such,
+  -- A search that finds instructions finds some of which R holds.
   of_search : (app vsn : List ℕ) (r : Result (List AppupInstruction) EntryFault) → IfOk r (AllByRecursion R) → IfOk (found app vsn r) (AllByRecursion R)
   of_search app vsn (Ok is) h = h
   of_search app vsn (Err e) h = tt
 
-  -- in an appup, if there is one.
+  -- R holds of the instructions that are found in an appup, if there is one.
   of_searched : (d : Direction) (app vsn : List ℕ) (o : Option AppupForm) → IfSome o InAppup → IfOk (searched d app vsn o) (AllByRecursion R)
   of_searched d app vsn None h = tt
   of_searched d app vsn (Some p) h = of_search app vsn _ (of_entry_for vsn (entries_of d p) (of_entries d p h))
@@ -70,11 +70,11 @@ module _ (R : AppupInstruction → Type 0) where
       go true = h
       go false = tt
 
-  -- So it holds of what the appup of an application has for a version,
+  -- R holds of what the appup of an application has for a version.
   of_appup : (d : Direction) (a : RelupAppForm) (vsn : List ℕ) → InAppupOf a → IfOk (by_appup d a vsn) (AllByRecursion R)
   of_appup d a vsn h = of_searched d a.name vsn (counting_appup a) (of_next InAppup InAppup (counting a) (of_counting a) a.appup h)
 
-  -- and of the row that is taken of it.
+  -- R holds of the row that is taken of what was found.
   of_result : (r : Result (List AppupInstruction) FaultForm) → IfOk r (AllByRecursion R) → IfSome (result_ok r) (AllByRecursion R)
   of_result (Ok is) h = h
   of_result (Err f) h = tt
@@ -87,7 +87,7 @@ module _ (R : AppupInstruction → Type 0) where
       go true = tt
       go false = h
 
-  -- Going up, it is the appup of the target that counts,
+  -- Going up, R holds of the row of an application where it holds of the appup of the target.
   of_upgrade : (left target : RelupReleaseForm) (a : RelupAppForm) → InAppupOf a
       → IfSome (changing_row (record { direction = Up; left = left; target = target }) a) (AllByRecursion R)
   of_upgrade left target a h = go (option_and_then (if_other a) (app_named a.name left))
@@ -96,7 +96,7 @@ module _ (R : AppupInstruction → Type 0) where
       go None = tt
       go (Some b) = of_result (by_appup Up a b.vsn) (of_appup Up a b.vsn h)
 
-  -- and going down, that of the release that is left.
+  -- Going down, R holds of the row of an application where it holds of the appups of the release that is left.
   of_downgrade : (left target : RelupReleaseForm) → AllByRecursion InAppupOf left.apps → (a : RelupAppForm) → Unit {0}
       → IfSome (changing_row (record { direction = Down; left = left; target = target }) a) (AllByRecursion R)
   of_downgrade left target of a any =
@@ -105,7 +105,7 @@ module _ (R : AppupInstruction → Type 0) where
       (option_and_then (if_other a) (app_named a.name left))
       (of_next InAppupOf InAppupOf (if_other a) (of_other a) (app_named a.name left) (of_found InAppupOf (λ (b : RelupAppForm). bytes_eq b.name a.name) left.apps of))
 
-  -- So it holds of the rows of applications that change.
+  -- R holds of the rows of applications that change.
   pub of_changing : (d : Direction) (left target : RelupReleaseForm) → InHigher d left target
       → AllByRecursion (AllByRecursion R) (filter_map (changing_row (record { direction = d; left = left; target = target })) target.apps)
   of_changing Up left target of = of_options (AllByRecursion R) InAppupOf _ (of_upgrade left target) target.apps of

@@ -85,7 +85,7 @@ pub record IsWhole (w : WayForm) : Type 0 where
 abbrev pub SoundIsWhole : Type 0
 SoundIsWhole = (w : WayForm) → (way_fault w ≡ None) ↔ IsWhole w
 
--- These instructions stand in the script after its point of no return, one right after another.
+-- The instructions stand in the script after its point of no return, one right after another.
 pub record StandsBehindPoint (script part : List Instruction) : Type 0 where
   pub front : List Instruction
   pub between : List Instruction

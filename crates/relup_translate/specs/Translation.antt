@@ -116,17 +116,17 @@ way_fault w =
     if bytes_eq w.left.erts w.target.erts then first_fault (app_fault w) w.target.apps
     else Some needs_new_emulator
 
--- Applications that the target alone has come in its order,
+-- the row by which an application comes that the target alone has
 abbrev pub coming_row : WayForm → RelupAppForm → Option (List AppupInstruction)
 coming_row w a =
     if is_some (app_named a.name w.left) then None
     else Some (add_application (record { name = a.name; start = a.start }) ∷ [])
 
--- those of another version change in its order,
+-- the row of an application of the target that the release that is left has in another version
 abbrev pub changing_row : WayForm → RelupAppForm → Option (List AppupInstruction)
 changing_row w a = option_and_then (λ (b : RelupAppForm). result_ok (between_versions w.direction b a)) (other_version w a)
 
--- and those that the target hasn't go in the reverse order of the release that is left.
+-- the row by which an application goes that the target has not
 abbrev pub going_row : WayForm → RelupAppForm → Option (List AppupInstruction)
 going_row w b =
     if is_some (app_named b.name w.target) then None

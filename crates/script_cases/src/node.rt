@@ -16,8 +16,8 @@ use text_cases::Answer;
 const RUNNING: &[u8] =
     b"[{lib,{application,ch_app,[{vsn,\"1\"},{modules,[ch_sup,ch3,aux]},{mod,{ch_sup,[]}}]},[{supervisor,ch_sup,\"1\",[{ch3,{ch3,start_link,[]},permanent,2000,worker,[ch3]},{aux,{aux,start_link,[]},transient,brutal_kill,worker,[aux]}]},{worker,ch3,\"1\",0,[{add,1,1},{on,4,7,40,400}]},{worker,aux,\"1\",0,[{add,1,5},{stop,5,9,99}]}]}].";
 
-/// Those of the other: the next version of the application, one in which its modules have no tables, and one whose supervisor
-/// has another child first, and doesn't name `aux`.
+/// The libraries of the other release: the next version of the application, one in which its modules have no tables, and one
+/// whose supervisor has another child first, and doesn't name `aux`.
 const OTHER: &[u8] =
     b"[{lib,{application,ch_app,[{vsn,\"2\"},{modules,[ch_sup,ch3,aux]},{mod,{ch_sup,[]}}]},[{supervisor,ch_sup,\"1\",[{ch3,{ch3,start_link,[]},permanent,2000,worker,[ch3]},{aux,{aux,start_link,[]},transient,brutal_kill,worker,[aux]}]},{worker,ch3,\"2\",100,[{add,1,2},{change,\"1\",[],[{3,103}]},{change,{down,\"1\"},[],[{103,3}]}]},{worker,aux,\"1\",0,[{add,1,5},{stop,5,9,99}]}]},{lib,{application,ch_app,[{vsn,\"0\"},{modules,[ch3,spare]}]},[]},{lib,{application,ch_app,[{vsn,\"4\"},{modules,[ch_sup]}]},[{supervisor,ch_sup,\"2\",[{aux2,{aux,start_link,[]},permanent,2000,worker,[aux]},{ch3,{ch3,start_link,[]},permanent,2000,worker,[ch3]}]}]}].";
 
@@ -25,7 +25,7 @@ pub(crate) fn running_libraries(alloc: Global) -> Option<Vec<Rc<Library>>> {
     libraries(alloc, RUNNING)
 }
 
-/// Those of the release to which scripts lead.
+/// The libraries of the release to which scripts lead.
 pub(crate) fn other_libraries(alloc: Global) -> Option<Vec<Rc<Library>>> {
     libraries(alloc, OTHER)
 }

@@ -14,21 +14,21 @@ use text_cases::Answer;
 /// What a script does.
 #[derive(Clone, Copy, PartialEq)]
 pub(crate) enum Way {
-    /// It suspends, loads, changes and resumes.
+    /// The script suspends, loads, changes and resumes.
     Resumed,
-    /// It suspends, loads and changes, and ends.
+    /// The script suspends, loads and changes, and ends.
     Finished,
-    /// It suspends, loads and changes, and goes back.
+    /// The script suspends, loads and changes, and goes back.
     Back,
-    /// It suspends, loads, and asks for a change for which there is no row.
+    /// The script suspends, loads, and asks for a change for which there is no row.
     WithoutRow,
-    /// It loads, and passes the point of no return.
+    /// The script loads, and passes the point of no return.
     Kept,
-    /// It loads, with nothing held until the point.
+    /// The script loads, with nothing held until the point.
     Alone,
-    /// It stops and starts.
+    /// The script stops and starts.
     Restarted,
-    /// It suspends, and stops and starts the application.
+    /// The script suspends, and stops and starts the application.
     AppRestarted,
 }
 

@@ -45,7 +45,8 @@ pub record IsMade (past : Past) (c : ChildCall) (stays : Bool) (a : ProgressForm
   pub now : stays ≡ true → child_stays_at (values_seen w) c past.run ≡ true
   pub done : HasDone (record past { run = child_after c stays past.run }) a tree w
 
--- It fails, and is out of memory only where it asks for memory. What stood for the child is given up, or isn't.
+-- A call on a child of a supervisor fails, and is out of memory only where it asks for memory. What stood for the child is
+-- given up, or isn't.
 pub record IsNotMade (past : Past) (c : ChildCall) (e : Failure) (hs : HeldSlots) (v w : View) : Type 0 where
   pub then_view : View
   pub fails : IsCauseIn past.first then_view past.run (child_call_fault (values_seen then_view) c past.run) (cause_of e.cause)

@@ -82,7 +82,7 @@ abbrev pub is_stuck : Option OldVersion → ChangeForm → Values → Run → Bo
 is_stuck None c seen r = holds_user (modules_by_slot_in r) c.name r.courses
 is_stuck (Some old) c seen r = lacks_row old c.extra seen (modules_by_slot_in r) c.name r.courses
 
--- one of these changes can't be made, after those in front of it
+-- why one of several changes of code can't be made, after those in front of it
 abbrev pub change_fault : Site → Direction → List ChangeForm → Values → Run → Option Cause
 change_fault s mode [] seen r = None
 change_fault s mode (c ∷ cs) seen r =
@@ -115,7 +115,7 @@ app_call_fault s (starts name) r = start_fault (target_library s name) r
 app_call_fault s (stops name) r = None
 app_call_fault s idle r = None
 
--- Not exactly one supervisor of the module is started, or there is another fault.
+-- why a call on a child fails: not exactly one supervisor of the module is started, or there is another fault
 abbrev pub super_fault_or : List ℕ → Run → Option Cause → Option Cause
 super_fault_or super r o = if has_one_supervisor super r.apps then o else Some no_super
 
@@ -139,7 +139,7 @@ abbrev pub error_cause : Terms → Option Cause
 error_cause (value x vs) = Some (raised x)
 error_cause vs = None
 
--- it raises an error, or is on a child of a supervisor, or on an application
+-- why a call fails: it raises an error, or can't be done on its child of a supervisor, or on its application
 abbrev pub call_fault : Site → Values → CallForm → Run → Option Cause
 call_fault s seen c r =
     if is_error c then error_cause c.args

@@ -47,7 +47,7 @@ pub record Run : Type 0 where
   pub values : Values
   pub courses : Courses
 
--- nothing was done yet
+-- what a script has done when it begins: nothing yet
 abbrev pub began : Site → List App → Values → Run
 began s apps values = record { fetched = []; modules = s.loaded; apps = apps; values = values; courses = λ p. opening }
 
@@ -101,7 +101,7 @@ abbrev pub change_courses : List ℕ → Option OldVersion → ChangeForm → Mo
 change_courses name None c users cs = cs
 change_courses name (Some old) c users cs = on_module users name (course.Operation.change old c.extra) cs
 
--- one change of code, of the processes of the module
+-- what one change of code does to the processes of the module
 abbrev pub processes_changed : Site → Direction → ChangeForm → Run → Run
 processes_changed s mode c r = with_courses r (change_courses c.name (old_version s mode c.name r) c)
 
@@ -114,17 +114,17 @@ abbrev pub supervisors_changed : List ℕ → Option Table → List App → List
 supervisors_changed name (Some (Super t)) apps = apps_changed name t.children apps
 supervisors_changed name t apps = apps
 
--- one change of code, of the processes of the module, and of its supervisors by what is loaded
+-- what one change of code does to the processes of the module, and to its supervisors by what is loaded
 abbrev pub changed_once : Site → Direction → ChangeForm → Run → Run
 changed_once s mode c r =
     record (processes_changed s mode c r) { apps = supervisors_changed c.name (tables_among r.modules c.name) r.apps }
 
--- several, one after another
+-- what several changes of code do, one after another
 abbrev pub changed : Site → Direction → List ChangeForm → Run → Run
 changed s mode [] r = r
 changed s mode (c ∷ cs) r = changed s mode cs (changed_once s mode c r)
 
--- without a mode it is up
+-- the direction of a change of code, which is up where it has no mode
 abbrev pub mode_of : Option Direction → Direction
 mode_of None = Up
 mode_of (Some d) = d

@@ -25,7 +25,7 @@ use Rattle.script_progress.specs.Stops.{StopsAt}
 abbrev pub IsEarly : Instruction → Type 0
 IsEarly i = IsTrue (is_supported i && may_precede i)
 
--- It may stand after it.
+-- The instruction may stand after the point of no return.
 abbrev pub IsLate : Instruction → Type 0
 IsLate i = IsTrue (is_supported i && may_follow i)
 
@@ -46,7 +46,7 @@ pub record Past : Type 0 where
 abbrev pub followed_in : Past → Followed
 followed_in past = record { first = past.first; courses = past.run.courses }
 
--- Of each slot the handler has seen the history up to here.
+-- The handler has seen the history of each slot up to here.
 abbrev pub IsSeen : View → Run → View → Type 0
 IsSeen first r v = AreSeen first r.courses v
 
@@ -55,7 +55,7 @@ IsSeen first r v = AreSeen first r.courses v
 abbrev pub HasNoFaultAt : Site → View → Run → Bool → Instruction → View → Type 0
 HasNoFaultAt s first r stays i u = IsSeen first r u × (fault s (values_seen u) r i ≡ None) × (stays ≡ stays_at (values_seen u) i r)
 
--- So it is at a moment between these two.
+-- Nothing makes the instruction fail, in the histories that the handler had seen at a moment between these two.
 abbrev pub HasNoFault : Site → View → View → View → Run → Bool → Instruction → Type 0
 HasNoFault s first since now r stays i = (u : View) × HasNoFaultAt s first r stays i u × AreLonger since u × AreLonger u now
 
@@ -64,7 +64,7 @@ abbrev pub IsCause : Option Cause → Cause → Type 0
 IsCause o no_memory = Unit {0}
 IsCause o c = o ≡ Some c
 
--- So it is, in histories that the handler has seen.
+-- The cause is this one, if any, in histories that the handler has seen; or it is out of memory.
 abbrev pub IsCauseIn : View → View → Run → Option Cause → Cause → Type 0
 IsCauseIn first v r o no_memory = Unit {0}
 IsCauseIn first v r o c = (o ≡ Some c) × IsSeen first r v
@@ -86,7 +86,7 @@ abbrev pub IsCarriedOut : Site → Past → Bool → Bool → Instruction → Pr
 IsCarriedOut s past early stays i a tree v w =
     HasNoFault s past.first v w past.run stays i × HasDone (record past { run = run_after s early stays i past.run }) a tree w
 
--- It was carried out, or fails, and stops where it does; then it was done in part. It leaves no child as it is.
+-- The instruction was carried out, and leaves no child as it is; or it fails, stops where it does, and was done in part.
 abbrev pub CarriesOut : {X : Type 0} → Site → Past → Bool → Instruction → Result X Failure → ProgressForm → List App → View → View → Type 0
 CarriesOut s past early i (Ok x) a tree v w = IsCarriedOut s past early false i a tree v w
 CarriesOut s past early i (Err e) a tree v w =
@@ -103,7 +103,8 @@ pub record IsFailed (s : Site) (past : Past) (i : Instruction) (e : Failure) (hs
   pub longer : AreLonger then_view w
   pub partly : AllFollow past.first (courses_within s false i e.modules e.slot past.run) hs w
 
--- It was carried out after the point of no return, and this is reported of the child that it is on; or it fails.
+-- The instruction was carried out after the point of no return, and it is reported whether the child that it is on stays; or it
+-- fails.
 abbrev pub CarriesOutLate : Site → Past → Instruction → Result Bool Failure → ProgressForm → List App → View → View → Type 0
 CarriesOutLate s past i (Ok stays) a tree v w = IsCarriedOut s past false stays i a tree v w
 CarriesOutLate s past i (Err e) a tree v w = IsFailed s past i e a.held v w
@@ -114,8 +115,8 @@ IsCallTaken (deletes super id) r v w = IsChildTaken r.courses (child_place super
 IsCallTaken (restarts super id) r v w = IsChildTaken r.courses (child_place super id r.apps) v w
 IsCallTaken c r v w = Unit {0}
 
--- So were the slots by which an instruction goes. A removal goes by the processes of its module, up to one that is up, unless a
--- supervisor uses that.
+-- The slots by which an instruction goes were taken between these two moments. A removal goes by the processes of its module,
+-- up to one that is up, unless a supervisor uses the module.
 abbrev pub TakesSlots : Instruction → Run → View → View → Type 0
 TakesSlots (apply c) r v w = is_on_child c ≡ true → IsCallTaken (child_call c) r v w
 TakesSlots (remove p) r v w = supervises p.name r.apps ≡ false → AreLookedAt (modules_by_slot_in r) p.name r.courses v w

@@ -134,6 +134,7 @@ abbrev pub AsksMemory : {X : Type 0} → Bool → Result X Failure → Type 0
 AsksMemory asks (Ok x) = Unit {0}
 AsksMemory asks (Err e) = is_memory (cause_of e.cause) ≡ true → asks ≡ true
 
--- It stops there, and is out of memory only if it asks for memory.
+-- An instruction that fails for this cause was done for so many of its modules, as `StopsIn` says, and is out of memory only if
+-- it asks for memory.
 abbrev pub StopsAt : View → Site → View → Run → Instruction → Cause → ℕ → ℕ → Type 0
 StopsAt first s v r i c n slot = (is_memory c ≡ true → takes_memory s (values_seen v) r i ≡ true) × StopsIn first s v r i c n slot

@@ -3,7 +3,7 @@ use Rattle.std.specs.Prelude.{◌≡◌, ℕ, ◌-◌, ◌≤◌, List, [], ◌�
 use Rattle.session_input.specs.declared.error.SessionError.{SessionError}
 use Rattle.session_input.specs.declared.error.SessionError.TheVariants.{Read, Limit}
 
--- one after another, up to the end of the input, or to where more of it is needed than is read
+-- What an input gives, one after another: up to its end, or to where more of it is needed than is read.
 pub data Feed (A : Type 0) : Type 0 where
   over : Feed A
   cut : Feed A
@@ -26,7 +26,7 @@ Stays None new = Unit {0}
 Stays (Some old) None = ⊥
 Stays (Some old) (Some new) = new ≡ old
 
--- nothing is known to come but this end
+-- Nothing is known to come but this end.
 abbrev pub EndsAs : {A : Type 0} → Feed A → Option (Feed A) → Option (Feed A) → Type 0
 EndsAs end None new = Unit {0}
 EndsAs end (Some old) None = ⊥

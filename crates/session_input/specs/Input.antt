@@ -29,11 +29,11 @@ failed_reads i = counted.failed_reads i.reader
 abbrev pub reader_of : {R : Type 0} → Input R → R
 reader_of i = counted.reader_of i.reader
 
--- nothing was taken yet
+-- No byte was taken of the reader yet.
 abbrev pub IsFresh : {R : Type 0} → Input R → Type 0
 IsFresh i = (i.ahead.taken ≡ 0) × (i.ahead.bytes ≡ []) × (i.ahead.is_over ≡ false)
 
--- how far its reader was read: the bytes that were taken, and one more where the end was read
+-- how far the reader of an input was read: the bytes that were taken, and one more where the end was read
 abbrev pub reached : {R : Type 0} → Input R → ℕ
 reached i = if i.ahead.is_over then taken i + 1 else taken i
 
@@ -41,7 +41,7 @@ reached i = if i.ahead.is_over then taken i + 1 else taken i
 abbrev pub KnowsEnd : {R : Type 0} → (R → Option (List ℕ)) → Input R → Type 0
 KnowsEnd remaining i = i.ahead.is_over ≡ true → (i.ahead.bytes ≡ []) × IsAtEnd (left_in remaining i)
 
--- how many bytes may still be used
+-- how many bytes of an input may still be used
 abbrev pub left : {R : Type 0} → Input R → ℕ
 left i = length i.ahead.bytes + (most_bytes - i.ahead.taken)
 

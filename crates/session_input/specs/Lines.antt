@@ -5,7 +5,7 @@ use Rattle.session_input.specs.declared.line.Line.TheVariants.{Text, Long}
 use Rattle.session_input.specs.Feed.{Feed}
 use Rattle.session_input.specs.Feed.Feed.{over, cut, next}
 
--- one more byte in front of the first line, which is one even if no newline ends it, but none if it is cut off
+-- Lines with one more byte in front of the first. A line is one even if no newline ends it, but none if it is cut off.
 abbrev pub onto : ℕ → Feed (List ℕ) → Feed (List ℕ)
 onto x over = next (x ∷ []) over
 onto x cut = cut

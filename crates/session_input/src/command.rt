@@ -8,7 +8,7 @@ pub enum Command {
     File(String, GivenFile),
     /// Makes a node that has the release of the file as its permanent one.
     Create(String),
-    /// Has the node take in the release of the file, to be installed later.
+    /// Takes the release of the file in, to be installed later.
     SetUnpacked(String),
     /// Installs the release of this version.
     Install(String),

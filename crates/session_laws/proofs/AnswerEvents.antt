@@ -274,7 +274,7 @@ same_effect f a b is also same = is ∙ ap (λ s. f (report_of s)) same ∙ sym 
 same_booted : (a b x y : Reply) (vsn line other : List ℕ) → a ≡ with_text line (behind (restart_installed vsn) x) → b ≡ with_text other (behind (restart_installed vsn) y) → effect_of x ≡ effect_of y → effect_of a ≡ effect_of b
 same_booted a b x y vsn line other is also same = ap effect_of is ∙ ap (effect_behind (restart_installed vsn)) same ∙ sym (ap effect_of also)
 
--- So have two installations, both with a restart or both without.
+-- Two installations with the same answer have the same effect, both with a restart or both without.
 same_install : (k : Kind) (vsn : List ℕ) (a b : Reply) → HasInstallEffect k vsn a → HasInstallEffect k vsn b → have_restart (events_of a.outcome) ≡ have_restart (events_of b.outcome) → a.answer ≡ b.answer → effect_of a ≡ effect_of b
 same_install k vsn a b (without_restart has none) (without_restart has_too none_too) alike same = same_effect (installing k vsn) a b has has_too same
 same_install k vsn a b (with_restart line x whole ok has is) (with_restart other y whole_too ok_too has_too also) alike same =

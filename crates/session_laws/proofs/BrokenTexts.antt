@@ -51,7 +51,7 @@ all_right base files p cut ending (a ∷ more) had right = absurd (none_left bas
 all_right base files p (next c rest) ending (a ∷ more) had right =
     (to_its_end (source_of base files) p c ending more a had right.0, all_right base (files_behind files c) a.after rest ending more had right.1)
 
--- So it is of all but the last command, whatever ended the session.
+-- Whatever ended the session, each command but the last was followed to its end.
 followed : (source : Source) (p : Place) (c : Command) (ending : Ending) (first : List Reply) (last a : Reply) → IsReply source p c ending (first ++ last ∷ []) a → Transition source p c a
 followed source p c ended first last a is = is
 followed source p c cut_off first last a is = is

@@ -32,7 +32,7 @@ pub data Found : Type 0 where
   listed : Option Releases → Extent → Found
   unlisted : Bool → List ℕ → Found
 
--- It finds that in a store with nothing in doubt.
+-- A boot finds this in a store with nothing in doubt.
 abbrev pub IsFoundIn : Stored → Found → Type 0
 IsFoundIn s (listed list x) =
     (s ≡ at_rest_since s.known.ran s.known.acknowledged s.extent)
@@ -76,7 +76,7 @@ boots_store s list x a works (still, leads, reaches) (inl (es, n, has, is)) =
     booted_as (option_map booted (list_after es)) list (booted_or_same n (list_after es)) x a (ap (λ (l : Events). option_map booted (list_after l)) same ∙ leads) (there ∙ reaches) (answered es n a is)
 boots_store s list x a works found (inr broke) = boot_failure a s broke works
 
--- So has that of bytes,
+-- The boot of bytes has led to the list that was found in them.
 boots_listed : BootLaws → (bytes : List ℕ) (list : Option Releases) (x : Extent) (a : Reply) → a.outcome.failed ≡ false → IsFound (raw bytes) (listed list x) → Transition.BootsBytes bytes a → IsBooted list x a
 boots_listed laws bytes list x a works (es, image, leads, reaches) (inl (events, before, extent, after, at, is)) =
     let one = laws.one bytes before es at.image_of image in

@@ -31,7 +31,7 @@ same_answer boots_node r s of of_too alike x y same = one_front r.answer s.answe
 same_answer reports_start r s of of_too alike x y same = one_front r.answer s.answer of of_too x y same
 same_answer (calls c) r s of of_too alike x y same = one_front r.answer s.answer of of_too x y same
 
--- So do two replies to one command, from places of one kind.
+-- Two replies to one command, from places of one kind, answer the same in front of the same text.
 pub one_answer : (source : Source) → GivesOne source → (p q : Place) (c : Command) (does again : Action) (r s : Reply) → kind_of p ≡ kind_of q → ComesTo source p c does → ComesTo source q c again → LinesOf does r → LinesOf again s
     → have_restart (events_of r.outcome) ≡ have_restart (events_of s.outcome) → (x y : List ℕ) → r.answer ++ x ≡ s.answer ++ y → r.answer ≡ s.answer
 one_answer source single p q c does again r s kinds comes comes_too of of_too alike x y same = go (one_action source single p q c does again (ap runs_node kinds) comes comes_too)

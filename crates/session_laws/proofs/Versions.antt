@@ -336,7 +336,7 @@ acts (raw x) (calls c) good all a is = good_as a _ is ((λ behind. refl), all)
 acts (closed s) (calls c) good all a is = good_as a _ is ((λ behind. refl), all)
 acts (dead s) (calls c) good all a is = good_as a _ is ((λ behind. refl), all)
 
--- So is each reply to what a command comes to.
+-- Each reply to what a command comes to consists of lines, and has only versions of files after it.
 pub each_good : (source : Source) (p : Place) (c : Command) (does : Transition.Action) → HasLinePath c → HasVersionsAt p → HasModuleVersionsAt p → Transition.ComesTo source p c does → (a : Reply)
     → Transition.Acts p does a → LinesOf does a × HasVersionsAt a.after
 each_good source p c does line all reports comes a is = acts p does (good_action source p c does line reports comes) all a is

@@ -35,7 +35,7 @@ use Rattle.session_laws.specs.KeptEvents.{IsKnownAfterAll, MayBegin, RunsWith}
 use Rattle.session_laws.specs.RunLaws.{MayBe, NoneFails}
 use Rattle.rel_session.specs.Transition.{Transition}
 
--- none of the replies leaves an event in doubt
+-- None of the replies leaves an event in doubt.
 abbrev pub NoneInDoubt : List Reply → Type 0
 NoneInDoubt [] = Unit {0}
 NoneInDoubt (a ∷ more) = (a.outcome.in_doubt ≡ None) × NoneInDoubt more
@@ -47,13 +47,13 @@ FailsOnlyWithTheDevice {D} v base =
     → Replies base files p commands ending replies → Executes v p replies old new → (HasFailed v old new → ⊥)
     → NoneFails replies × NoneInDoubt replies
 
--- that the device failed in the boot after an installation, whose own line stands before that
+-- The answer reports that the device failed in the boot after an installation, whose own line stands before that.
 abbrev pub ReportsBootFailureBehind : List ℕ → Type 0
 ReportsBootFailureBehind answer =
     (other : List ℕ) × (descr : Value) × (stale : List (List ℕ))
     × (answer ≡ installed_text other descr stale ++ boot_line boot_error.Device)
 
--- that the device failed, in a command or in a boot
+-- The answer reports that the device failed, in a command or in a boot.
 abbrev pub ReportsFailure : List ℕ → Type 0
 ReportsFailure answer =
     (answer ≡ refusal_line device) ⊎ ((answer ≡ boot_line boot_error.Device) ⊎ ReportsBootFailureBehind answer)
@@ -81,7 +81,7 @@ abbrev pub IsCompact : Place → Type 0
 IsCompact (running events extent ps) = extent ≡ compacted extent (releases_after events)
 IsCompact p = Unit {0}
 
--- one of these events has a record after which a long store is compacted: each has but a boot
+-- One of the events has a record after which a long store is compacted: each has but a boot.
 abbrev pub HaveRecord : Events → Type 0
 HaveRecord [] = ⊥
 HaveRecord (booting ∷ events) = HaveRecord events
@@ -92,7 +92,7 @@ abbrev pub RunsOneShot : Place → Type 0
 RunsOneShot (running events extent ps) = has_current (releases_after events) ≡ true
 RunsOneShot p = ⊥
 
--- Where these events were committed, such a store was left; after a restart, unless its boot has started a one-shot.
+-- Where these events were committed, a compact store was left; after a restart, unless its boot has started a one-shot.
 abbrev pub LeavesCompactStore : Events → Place → Type 0
 LeavesCompactStore (restart_installed v ∷ events) p = RunsOneShot p ⊎ IsCompact p
 LeavesCompactStore events p = HaveRecord events → IsCompact p
@@ -102,7 +102,7 @@ abbrev pub LeaveCompactStores : List Reply → Type 0
 LeaveCompactStores [] = Unit {0}
 LeaveCompactStores (a ∷ more) = LeavesCompactStore a.outcome.acknowledged a.after × LeaveCompactStores more
 
--- the same answers, and the same events, acknowledged and in doubt
+-- The replies give the same answers, and the same events, acknowledged and in doubt.
 abbrev pub AreSame : List Reply → List Reply → Type 0
 AreSame [] [] = Unit {0}
 AreSame (a ∷ first) (b ∷ second) = (a.answer ≡ b.answer) × (a.outcome ≡ b.outcome) × AreSame first second
@@ -132,7 +132,7 @@ abbrev pub StoreBootsTo : Stored → Releases → Type 0
 StoreBootsTo s list =
     HasNoDoubt s × ((before : Releases) × (list_after s.known.acknowledged ≡ Some before) × (booted before ≡ list))
 
--- No node runs there, and a boot leads to this list.
+-- No node runs where the disk stands, and a boot leads to this list.
 abbrev pub BootsTo : Place → Releases → Type 0
 BootsTo (raw bytes) list = (before : Releases) × IsImageOf bytes before × (booted before ≡ list)
 BootsTo (closed s) list = StoreBootsTo s list
@@ -146,12 +146,12 @@ AreRefusedAlike (raw x) (raw y) =
     × (holds_a_store x ≡ holds_a_store y)
 AreRefusedAlike p q = ⊥
 
--- No node runs there, and a boot leads to one list on both disks, or is refused alike. Their bytes, their events and how far their
--- stores reach may differ.
+-- No node runs on either disk, and a boot leads to one list on both, or is refused alike. Their bytes, their events and how far
+-- their stores reach may differ.
 abbrev pub HaveOneList : Place → Place → Type 0
 HaveOneList p q = ((list : Releases) × BootsTo p list × BootsTo q list) ⊎ AreRefusedAlike p q
 
--- none of the answers is that a record does not fit
+-- None of the answers is that a record does not fit.
 abbrev pub NoneIsFull : List Reply → Type 0
 NoneIsFull [] = Unit {0}
 NoneIsFull (a ∷ more) = (a.answer ≢ refusal_line full) × NoneIsFull more
@@ -234,13 +234,13 @@ abbrev pub HasModuleVersionsAt : Place → Type 0
 HasModuleVersionsAt (running events extent ps) = HaveModuleVersions ps
 HasModuleVersionsAt p = Unit {0}
 
--- one of these events is an installation that ends with a restart
+-- whether one of the events is an installation that ends with a restart
 abbrev pub have_restart : Events → Bool
 have_restart [] = false
 have_restart (restart_installed v ∷ events) = true
 have_restart (e ∷ events) = have_restart events
 
--- The same of these commands, one after another, installed with a restart, those whose event is in doubt too.
+-- The same of the commands, one after another, installed with a restart, those whose event is in doubt too.
 abbrev pub RestartAlike : List Reply → List Reply → Type 0
 RestartAlike (a ∷ first) (b ∷ second) = (have_restart (events_of a.outcome) ≡ have_restart (events_of b.outcome)) × RestartAlike first second
 RestartAlike first second = Unit {0}
@@ -257,7 +257,7 @@ DeterminesOneRun base =
     → Replies base files p commands a first → Replies base files p commands b second → answers_of first ≡ answers_of second
     → (a ≡ b) × AreSame first second
 
--- none of these replies, or one
+-- There is no reply, or one.
 abbrev pub IsOneOrNone : List Reply → Type 0
 IsOneOrNone [] = Unit {0}
 IsOneOrNone (a ∷ more) = more ≡ []

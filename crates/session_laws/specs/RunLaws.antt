@@ -22,29 +22,29 @@ known_at (closed s) = s.known
 known_at (running events extent ps) = settled events
 known_at (dead s) = s.known
 
--- the acknowledged events there
+-- the acknowledged events of the store where the disk stands
 abbrev pub acknowledged_at : Place → Events
 acknowledged_at p = (known_at p).acknowledged
 
--- the events after which the start record there was last sure to be right
+-- the events after which the start record was last sure to be right, where the disk stands
 abbrev pub ran_at : Place → Events
 ran_at p = (known_at p).ran
 
--- Nothing is in doubt there, and the start record is right.
+-- Where the disk stands nothing is in doubt, and the start record is right.
 abbrev pub IsSettled : Place → Type 0
 IsSettled p = known_at p ≡ settled (acknowledged_at p)
 
--- the store is known there
+-- The disk stands at a store that is known.
 abbrev pub IsKnown : Place → Type 0
 IsKnown (raw bytes) = ⊥
 IsKnown p = Unit {0}
 
--- these are the events of the store: the acknowledged ones, or those with the one in doubt
+-- The events are those of the store: the acknowledged ones, or those with the one in doubt.
 abbrev pub MayBe : Stored → Events → Type 0
 MayBe s events =
     (events ≡ s.known.acknowledged) ⊎ (events ≡ with_doubt s.known.acknowledged s.known.in_doubt)
 
--- A command finds these events there. Of bytes it finds none, or at a boot some that have their list.
+-- A command finds these events where the disk stands. Of bytes it finds none, or at a boot some that have their list.
 abbrev pub Finds : Place → Events → Type 0
 Finds (raw bytes) events =
     (events ≡ []) ⊎ ((list : Releases) × (list_after events ≡ Some list) × IsImageOf bytes list)
@@ -79,8 +79,8 @@ abbrev pub place_after : Place → List Reply → Place
 place_after p [] = p
 place_after p (a ∷ more) = place_after a.after more
 
--- These are the acknowledged events after the replies. After each reply they are those that its command found, with its own at
--- the end. So there are no others.
+-- The acknowledged events after the replies are these: after each reply they are those that its command found, with its own at
+-- the end. No others are acknowledged.
 abbrev pub HaveAll : Place → List Reply → Events → Type 0
 HaveAll p [] events = events ≡ acknowledged_at p
 HaveAll p (a ∷ more) events =
@@ -143,7 +143,8 @@ BeginsWhereOneEnded {D} v =
 abbrev pub store_left : (p : Place) (replies : List Reply) (image : List ℕ) → StandsForAll p replies image → Stored
 store_left p replies image of = at_rest_since (ran_at p) of.events (extent_of image)
 
--- One begins on a disk that holds nothing but what a crash left, and just its events are acknowledged then.
+-- A session begins on a disk that holds nothing but what a crash left, and just the events of these bytes are acknowledged
+-- then.
 abbrev pub BeginsBehindACrash : {D : Type 0} → Device D → Type 0
 BeginsBehindACrash {D} v =
     (p : Place) (replies : List Reply) (image : List ℕ) (disk : D) (of : StandsForAll p replies image)
@@ -186,7 +187,7 @@ abbrev pub NoneFails : List Reply → Type 0
 NoneFails [] = Unit {0}
 NoneFails (a ∷ more) = (a.outcome.failed ≡ false) × NoneFails more
 
--- none of them acknowledges an event
+-- None of the replies acknowledges an event.
 abbrev pub NoneAcknowledged : List Reply → Type 0
 NoneAcknowledged [] = Unit {0}
 NoneAcknowledged (a ∷ more) = (a.outcome.acknowledged ≡ []) × NoneAcknowledged more

@@ -12,11 +12,11 @@ pub record Versions : Type 0 where
 abbrev pub versions_of : Start → Versions
 versions_of start = record { erts = string_bytes start.erts; vsn = string_bytes start.vsn }
 
--- both are texts of versions, 1 to 62 bytes from 0x21 to 0x7E
+-- Both versions are texts of 1 to 62 bytes from 0x21 to 0x7E.
 abbrev pub AreVersions : Versions → Type 0
 AreVersions v = IsVersion v.erts × IsVersion v.vsn
 
--- one of them is longer than a version may be
+-- One of the versions is longer than a version may be.
 abbrev pub AreTooLong : Versions → Type 0
 AreTooLong v = (62 < length v.erts) ⊎ (62 < length v.vsn)
 
@@ -30,7 +30,7 @@ pub record SpellsStart (slot : List ℕ) (v : Versions) : Type 0 where
   pub rest : List ℕ
   pub is : slot ≡ length (start_text v) ∷ (start_text v ++ rest)
 
--- they spell none
+-- The bytes of a slot spell no start.
 abbrev pub SpellsNoStart : List ℕ → Type 0
 SpellsNoStart slot = (v : Versions) → SpellsStart slot v → ⊥
 

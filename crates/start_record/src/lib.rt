@@ -1,8 +1,8 @@
 //! The start record of a node: which runtime system and which release it starts.
 //!
-//! It stands in the start slot of a store as a text: the version of the runtime system, a space, the version of the release
-//! and a new line (`start_text`). A slot spells one start at most (`SpellsStart`, `no_slot_spells_two_starts`), and what is
-//! written is read back (`a_start_is_read_back`).
+//! The record stands in the start slot of a store as a text: the version of the runtime system, a space, the version of the
+//! release and a new line (`start_text`). A slot spells one start at most (`SpellsStart`, `no_slot_spells_two_starts`), and
+//! what is written is read back (`a_start_is_read_back`).
 //!
 //! Of two versions, `write_start` leaves the old start or the new, whenever it is stopped, and after `Ok` the new one (`either`,
 //! `spelled`). Of other texts its clauses say which bytes the slot has, and no more.

@@ -53,7 +53,7 @@ child_and_others depth c (b ∷ bs) = go (has_id c.id b) (child_and_others depth
     go true more = IsPermutation-refl _
     go false more = IsPermutation-trans _ _ _ (IsPermutation-append_right (processes_of b) _ _ more) (exchanged (processes_of b) _ _)
 
--- So new children have the processes of the earlier ones.
+-- The new children of a supervisor have the processes of the earlier ones.
 new_children_keep : (depth : ℕ) (cs : List ChildSpec) (bs : List Branch) → IsPermutation (processes_in bs) (processes_in (new_children depth cs bs))
 new_children_keep depth [] bs = IsPermutation-refl _
 new_children_keep depth (c ∷ cs) bs =
@@ -66,7 +66,7 @@ children_keep name cs m bs = go (is_supervisor name m.state)
     go true = new_children_keep (one_deeper m.depth) cs bs
     go false = IsPermutation-refl _
 
--- It stays so after one more process, or none.
+-- Two lists of the same processes stay so with one process more, or none.
 process_in_front : (o : Option StartedProcess) (ps qs : List StartedProcess) → IsPermutation ps qs → IsPermutation (process_and o ps) (process_and o qs)
 process_in_front None ps qs h = h
 process_in_front (Some p) ps qs h = IsPermutation-cons p ps qs h

@@ -21,7 +21,7 @@ beginning_of app s = record { app = app; id = s.child.id; restart = s.child.rest
 abbrev pub process_of : Start → Pid → StartedProcess
 process_of s pid = record { id = s.child.id; «module» = s.child.start; pid = pid }
 
--- They began one after another, each in the lowest slot in which one could.
+-- The processes began one after another, each in the lowest slot in which one could.
 abbrev pub BeganInOrder : List ℕ → List Start → View → List StartedProcess → View → Type 0
 BeganInOrder app [] v [] w = w ≡ v
 BeganInOrder app (s ∷ ss) v (p ∷ ps) w = (u : View) × BeganLowest (beginning_of app s) v (Ok p.pid) u × (p ≡ process_of s p.pid) × BeganInOrder app ss u ps w

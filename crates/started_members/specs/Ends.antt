@@ -26,7 +26,7 @@ abbrev pub MemberEnded : Option StartedProcess → View → View → Type 0
 MemberEnded None v w = w ≡ v
 MemberEnded (Some p) v w = EndedAt p.pid v w
 
--- They were given up one after another.
+-- The processes were given up one after another.
 abbrev pub EndedInOrder : List Pid → View → View → Type 0
 EndedInOrder [] v w = w ≡ v
 EndedInOrder (p ∷ ps) v w = (u : View) × EndedAt p v u × EndedInOrder ps u w

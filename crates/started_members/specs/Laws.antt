@@ -28,7 +28,7 @@ pub record FreeFrom (n : ℕ) (v : View) : Type 0 where
   pub below : (q : ℕ) → q < n → next_in v q ≡ None
   pub from : (q : ℕ) → n ≤ q → q < slots → next_in v q ≡ Some 1
 
--- They are in the slots from this one on, with round 1.
+-- The processes are in the slots from this one on, with round 1.
 abbrev pub AreFrom : ℕ → List StartedProcess → Type 0
 AreFrom n [] = Unit {0}
 AreFrom n (p ∷ ps) = (p.pid.slot ≡ n) × (p.pid.round ≡ 1) × AreFrom (suc n) ps

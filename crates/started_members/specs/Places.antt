@@ -95,7 +95,7 @@ place_at n [] = None
 place_at zero (m ∷ ms) = Some (first_place m ms)
 place_at (suc n) (m ∷ ms) = one_further m (place_at n ms)
 
--- These members stand from start on, up to end.
+-- The child at this place and the members below it stand from `start` on, up to `end`.
 pub record IsRange (ms : List Member) (p : Place) (start end : ℕ) : Type 0 where
   pub is : ms ≡ p.before ++ (with_below p ++ p.behind)
   pub start_is : start ≡ length p.before

@@ -43,7 +43,7 @@ IsBegunWith (Some p) m v n w =
 abbrev pub IsBegun : Preparation → View → Member → View → Type 0
 IsBegun p v n w = IsBegunWith p.process p.member v n w
 
--- They began one after another.
+-- The processes of the prepared members began one after another.
 abbrev pub AllBegan : List Preparation → View → List Member → View → Type 0
 AllBegan [] v [] w = w ≡ v
 AllBegan (p ∷ ps) v (m ∷ ms) w = (u : View) × IsBegun p v m u × AllBegan ps u ms w

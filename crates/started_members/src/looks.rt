@@ -10,9 +10,9 @@ use std::sync::Wait;
 /// Which processes of children stay as they are.
 #[derive(Clone, Copy)]
 pub enum Stay {
-    /// Those that are up.
+    /// The processes that are up.
     Up,
-    /// Those that are up, and those that began as temporary ones and weren't given up.
+    /// The processes that are up, and those that began as temporary ones and weren't given up.
     UpOrTemporary,
 }
 

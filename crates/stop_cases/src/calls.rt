@@ -71,7 +71,7 @@ fn follow_at<H: Wait, D: Disk, F: Files>(
     }
 }
 
-// Has the node follow a command, and boots it where it is dead after that.
+// Gives the node a command, and boots the node where it is dead after that.
 fn follow_on<H: Wait, D: Disk, F: Files>(
     rt: &H,
     alloc: Global,

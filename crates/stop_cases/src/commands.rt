@@ -18,7 +18,7 @@ use std::alloc::Global;
 use std::sync::Wait;
 use text_cases::{Answer, first_word};
 
-/// Has the node follow a command, and again, once, where memory is refused to that. Appends what it answers.
+/// Gives the node a command, and gives it again, once, where memory is refused to that. Appends the node's answer.
 pub(crate) fn follow<H: Wait, D: Disk, F: Files>(
     rt: &H,
     alloc: Global,

@@ -52,7 +52,7 @@ impl<'s> ReleaseTable<'s> {
         }
     }
 
-    /// Does what a command does to the releases that was answered `ok`, up to its own boot, if it has one. An installation that
+    /// Changes the releases as a command does that was answered `ok`, up to its own boot, if it has one. An installation that
     /// `restarts` asks for a restart.
     pub(crate) fn accept(&mut self, command: &'s str, restarts: bool) -> Result<(), AllocError> {
         let (name, rest) = first_word(command);

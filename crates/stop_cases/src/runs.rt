@@ -20,9 +20,9 @@ pub(crate) const BOOT: &str = "boot\nreleases\nstart\nprocs\nmodules\n";
 /// The lines of a session.
 #[derive(Drop)]
 pub(crate) struct Session {
-    /// Those that give its files.
+    /// The lines that give the session's files.
     pub(crate) files: String,
-    /// Its commands.
+    /// The lines of the session's commands.
     pub(crate) commands: Vec<String>,
 }
 

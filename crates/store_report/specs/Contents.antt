@@ -28,7 +28,7 @@ ShowsContents each bytes bodies old new = (start : Option Versions) × Starts (t
 abbrev pub before_damage : ℕ → List ℕ → List ℕ
 before_damage at bytes = take at bytes ++ 0 ∷ []
 
--- So it is with bytes that hold these records. Nothing stands there where they hold none.
+-- After the old text a report shows the contents of bytes that hold these records. Where the bytes hold none, nothing is shown.
 abbrev pub ShowsHeld : Bool → List ℕ → Result (List (List ℕ)) StoreError → List ℕ → List ℕ → Type 0
 ShowsHeld each bytes (Ok bodies) old new = ShowsContents each bytes bodies old new
 ShowsHeld each bytes (Err e) old new = new ≡ old

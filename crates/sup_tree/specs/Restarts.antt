@@ -86,7 +86,7 @@ pub record Restarts {A : Type 0} (tables : Tables) (app : List ℕ) (o : Option 
   pub looked : ChildLookedAt UpOrTemporary o stays v look
   pub outcome : RestartsUnless stays tables app o change old look r new w
 
--- so it is in an application
+-- What a restart of a child leaves in an application, or why it was refused.
 abbrev pub RestartsIn : List ℕ → List ℕ → Tables → App → View → Result Bool RestartError → App → View → Type 0
 RestartsIn name id tables app = Restarts tables app.name (child_in name id app.members) (λ (ms : List Member). app_with (in_place ms) name id app) app
 
@@ -94,7 +94,7 @@ RestartsIn name id tables app = Restarts tables app.name (child_in name id app.m
 abbrev pub super_app : List ℕ → List App → List ℕ
 super_app name apps = option_map_or (λ (a : App). a.name) (find (λ (a : App). supervises_in name a.members) apps) []
 
--- and in the tree, unless the module hasn't exactly one supervisor
+-- What a restart of a child leaves in the tree, or why it was refused: the module may not have exactly one supervisor.
 abbrev pub RestartsChild : List ℕ → List ℕ → Tables → List App → View → Result Bool RestartError → List App → View → Type 0
 RestartsChild name id tables apps v (Err NoSuper) apps' w = (has_one_supervisor name apps ≡ false) × (apps' ≡ apps) × (w ≡ v)
 RestartsChild name id tables apps v r apps' w =

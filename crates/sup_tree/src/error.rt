@@ -9,7 +9,7 @@ use thiserror::Error;
 /// Why an application isn't started. Of several reasons the one that stands first here is reported; nothing has started then.
 #[derive(Clone, Copy, Debug, Error)]
 pub enum StartError<'a> {
-    /// It is started.
+    /// The application is started already.
     #[error("AlreadyStarted")]
     AlreadyStarted,
     /// This module, of a child, has no table or one of the other kind; or it is a top and has the table of a worker. Of this and

@@ -27,7 +27,7 @@ pub record IsNarrowed (wanted : Pair) (rows : List (Pair × ℕ)) (low high : �
   pub below : (j : ℕ) (r : Pair × ℕ) → j < low → slice_get rows j ≡ Some r → compare_pairs wanted r.0 ≡ Greater
   pub above : (j : ℕ) (r : Pair × ℕ) → high ≤ j → slice_get rows j ≡ Some r → compare_pairs wanted r.0 ≡ Less
 
--- So many comparisons have left so many of the rows.
+-- After so many comparisons so many of the rows are left.
 pub record IsHalved (rows left spent : ℕ) : Type 0 where
   pub halved : left * 2 ^ spent ≤ rows
   pub cost : 2 ^ spent ≤ 2 * rows + 1

@@ -4,7 +4,7 @@ use Rattle.rel_unpack.proofs.Turns.{AreDoneTo}
 use Rattle.relup_command.specs.Appups.{WithAppup}
 use Rattle.relup_command.proofs.appups.read_appups.Given as goal
 
--- Those so far have their appups, and the others are as they were.
+-- The applications so far have their appups, and the others are as they were.
 abbrev pub invariant-loop-app : goal.invariant-loop-app
 invariant-loop-app g l =
     AreDoneTo (WithAppup (g.F.Files.gives l.fn.files)) (map relup_app_of l.fn.apps) (map relup_app_of (drop l.app-index l.fn.apps)) (map relup_app_of (take l.app-index l.apps))
