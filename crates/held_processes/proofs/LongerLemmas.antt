@@ -7,6 +7,7 @@ use Rattle.sup_tree.specs.Walk.{Start, app_starts, starts_among}
 use Rattle.sup_tree.specs.declared.error.RestartError.{RestartError}
 use Rattle.sup_tree.specs.declared.error.RestartError.TheVariants.{NoSuper, NoTable, Unsupported, NoSlot, NoMemory}
 use Rattle.sup_tree.specs.declared.error.StartError.{StartError}
+use Rattle.started_members.specs.declared.looks.Kept.{Kept}
 use Rattle.started_members.specs.declared.looks.Stay.{Stay}
 use Rattle.started_members.specs.declared.looks.Stay.TheVariants.{Up, UpOrTemporary}
 use Rattle.started_members.specs.declared.member.Member.{Member}
@@ -15,7 +16,7 @@ use Rattle.started_members.specs.declared.member.MemberState.TheVariants.{Ended,
 use Rattle.started_members.specs.declared.member.StartedProcess.{StartedProcess}
 use Rattle.started_members.specs.Places.{ChildEndedUnless, ChildLookedAt, Place}
 use Rattle.sup_tree.specs.Children.{DeletesChild, TerminatesChild, child_members, child_place}
-use Rattle.started_members.specs.Looks.{StateLookedAt}
+use Rattle.started_members.specs.Looks.{StateLookedAt, kept_at}
 use Rattle.started_members.specs.Begins.{restart_members, BeganInOrder}
 use Rattle.sup_tree.specs.Restarts.{Restarts, RestartsChild, RestartsUnless}
 use Rattle.sup_tree.specs.Starts.{StartsApp}
@@ -57,10 +58,10 @@ stop_longer name apps v (Ok x) apps' w s = ended_longer (reverse (app_pids s.app
 stop_longer name apps v (Err e) apps' w s = same_longer v w s.2
 
 -- a child is looked at, and what stands for it is given up
-pub look_longer : (stay : Stay) (m : MemberState) (b : Bool) (v w : View) → StateLookedAt stay m b v w → AreLonger v w
-look_longer stay Ended b v w is = same_longer v w is.1
-look_longer stay (Process q) b v w (h, u, at, reported, r) = held_longer q.pid.slot [] v h u w at r
-look_longer stay (Supervisor m) b v w is = same_longer v w is.1
+pub look_longer : (kept : Kept) (m : MemberState) (b : Bool) (v w : View) → StateLookedAt kept m b v w → AreLonger v w
+look_longer kept Ended b v w is = same_longer v w is.1
+look_longer kept (Process q) b v w (h, u, at, reported, r) = held_longer q.pid.slot [] v h u w at r
+look_longer kept (Supervisor m) b v w is = same_longer v w is.1
 
 pub end_longer : (o : Option StartedProcess) (v w : View) → MemberEnded o v w → AreLonger v w
 end_longer None v w is = same_longer v w is
@@ -68,7 +69,7 @@ end_longer (Some q) v w ended = given_up_longer q.pid v w ended
 
 child_look_longer : (stay : Stay) (o : Option Place) (b : Bool) (v w : View) → ChildLookedAt stay o b v w → AreLonger v w
 child_look_longer stay None b v w is = same_longer v w is.1
-child_look_longer stay (Some p) b v w is = look_longer stay p.child.state b v w is
+child_look_longer stay (Some p) b v w is = look_longer (kept_at stay p.child.restart) p.child.state b v w is
 
 child_end_longer : (b : Bool) (o : Option Place) (v w : View) → ChildEndedUnless b o v w → AreLonger v w
 child_end_longer true o v w is = same_longer v w is

@@ -7,7 +7,7 @@ use Rattle.proc_table.specs.Waits.{HasTaken}
 use Rattle.mod_table.specs.Tables.{Tables}
 use Rattle.sup_tree.specs.declared.error.RestartError.{RestartError}
 use Rattle.sup_tree.specs.declared.error.RestartError.TheVariants.{NoSuper, NoTable, Unsupported, NoSlot, NoMemory}
-use Rattle.started_members.specs.declared.looks.Stay.{Stay}
+use Rattle.started_members.specs.declared.looks.Kept.{Kept}
 use Rattle.started_members.specs.declared.looks.Stay.TheVariants.{UpOrTemporary}
 use Rattle.started_members.specs.declared.member.MemberState.{MemberState}
 use Rattle.started_members.specs.declared.member.MemberState.TheVariants.{Ended, Process, Supervisor}
@@ -15,7 +15,7 @@ use Rattle.started_members.specs.declared.member.Member.{Member}
 use Rattle.started_members.specs.declared.member.StartedProcess.{StartedProcess}
 use Rattle.started_members.specs.Places.{ChildLookedAt, Place, in_place}
 use Rattle.sup_tree.specs.Children.{apps_with, child_place, has_one_supervisor}
-use Rattle.started_members.specs.Looks.{LookedAt, StateLookedAt}
+use Rattle.started_members.specs.Looks.{LookedAt, StateLookedAt, kept_at}
 use Rattle.sup_tree.specs.Restarts.{HasNoSlot, HasRestarted, RestartsChild, RestartsUnless, super_app}
 use Rattle.started_members.specs.Begins.{restart_members, members_at}
 use Rattle.started_members.specs.Ends.{MemberEnded, stands}
@@ -53,68 +53,68 @@ is_given_up GivenUp = true
 is_given_up e = false
 
 -- it was exactly where its process was held
-state_given_up : (first : View) (stay : Stay) (m : MemberState) (cs : Courses) (v : View) (e : HeldEnd) (hs : HeldSlots) (w : View) → NotStaying e → StateEndsHeld first stay m cs v e hs w → is_given_up e ≡ is_held_state m cs
-state_given_up first stay (Process q) cs v Stays hs w not f = absurd not
-state_given_up first stay (Process q) cs v GivenUp hs w not f = sym (really_held (cs q.pid.slot).hold f.1)
-state_given_up first stay (Process q) cs v NotHeld hs w not f = sym (ap is_held f.0)
-state_given_up first stay Ended cs v e hs w not f = ap is_given_up f.0
-state_given_up first stay (Supervisor m) cs v e hs w not f = ap is_given_up f.0
+state_given_up : (first : View) (kept : Kept) (m : MemberState) (cs : Courses) (v : View) (e : HeldEnd) (hs : HeldSlots) (w : View) → NotStaying e → StateEndsHeld first kept m cs v e hs w → is_given_up e ≡ is_held_state m cs
+state_given_up first kept (Process q) cs v Stays hs w not f = absurd not
+state_given_up first kept (Process q) cs v GivenUp hs w not f = sym (really_held (cs q.pid.slot).hold f.1)
+state_given_up first kept (Process q) cs v NotHeld hs w not f = sym (ap is_held f.0)
+state_given_up first kept Ended cs v e hs w not f = ap is_given_up f.0
+state_given_up first kept (Supervisor m) cs v e hs w not f = ap is_given_up f.0
 
 -- what is known of what stands for a child that doesn't stay, after a look alone
-pub record Looked (first : View) (stay : Stay) (cs : Courses) (m : MemberState) (e : HeldEnd) (hs : HeldSlots) (v w : View) : Type 0 where
+pub record Looked (first : View) (kept : Kept) (cs : Courses) (m : MemberState) (e : HeldEnd) (hs : HeldSlots) (v w : View) : Type 0 where
   pub seen : View
   pub are_seen : AreSeen first cs seen
-  pub reported : false ≡ state_stays stay (now_in (values_seen seen) cs) m
+  pub reported : false ≡ state_stays kept (now_in (values_seen seen) cs) m
   pub since : AreLonger v seen
   pub longer : AreLonger seen w
   pub taken : IsStateTaken cs m v w
   pub follow : AllFollow first (if is_given_up e then all_stopped (values_seen first) (pids_of (process_and (state_process m) [])) cs else cs) hs w
 
-process_looked : (first : View) (stay : Stay) (cs : Courses) (q : StartedProcess) (hs hs' : HeldSlots) (v u look : View) (e : HeldEnd) → NotStaying e → AllFollow first cs hs v
-    → ProcessEndsHeld first stay q.pid cs v e hs' u → AreLonger v u → LookedAt stay q.pid false u look → Looked first stay cs (Process q) e hs' v look
-process_looked first stay cs q hs hs' v u look Stays not before f longer looked = absurd not
-process_looked first stay cs q hs hs' v u look GivenUp not before f longer looked =
+process_looked : (first : View) (kept : Kept) (cs : Courses) (q : StartedProcess) (hs hs' : HeldSlots) (v u look : View) (e : HeldEnd) → NotStaying e → AllFollow first cs hs v
+    → ProcessEndsHeld first kept q.pid cs v e hs' u → AreLonger v u → LookedAt kept q.pid false u look → Looked first kept cs (Process q) e hs' v look
+process_looked first kept cs q hs hs' v u look Stays not before f longer looked = absurd not
+process_looked first kept cs q hs hs' v u look GivenUp not before f longer looked =
     let ds = give_up_at q.pid.slot cs in
-    let at = looked_follow first ds hs' u stay q.pid false look f.2 (free_there q.pid.slot cs) looked in record {
+    let at = looked_follow first ds hs' u kept q.pid false look f.2 (free_there q.pid.slot cs) looked in record {
       seen = v;
       are_seen = seen_where first cs hs v before;
       reported = sym f.0;
       since = longer_still v;
-      longer = longer_both v u look longer (look_longer stay (Process q) false u look looked);
+      longer = longer_both v u look longer (look_longer kept (Process q) false u look looked);
       taken = λ free. absurd (f.1 free);
       follow = follow_same first ds (ended_at (values_seen first) q.pid ds) hs' look (λ p inside. sym (ended_nothing (values_seen first) q.pid ds (given_up_gone (values_seen first) q.pid cs f.1) p)) at.0;
     }
-process_looked first stay cs q hs hs' v u look NotHeld not before f longer looked =
-    let at = looked_follow first cs hs' u stay q.pid false look f.1 f.0 looked in
+process_looked first kept cs q hs hs' v u look NotHeld not before f longer looked =
+    let at = looked_follow first cs hs' u kept q.pid false look f.1 f.0 looked in
     record {
       seen = look;
       are_seen = seen_where first cs hs' look at.0;
       reported = at.1;
-      since = longer_both v u look longer (look_longer stay (Process q) false u look looked);
+      since = longer_both v u look longer (look_longer kept (Process q) false u look looked);
       longer = longer_still look;
-      taken = λ _. subst (λ x. HasTaken q.pid.slot x look) f.2 (look_taken stay q.pid false u look look looked (longer_still look));
+      taken = λ _. subst (λ x. HasTaken q.pid.slot x look) f.2 (look_taken kept q.pid false u look look looked (longer_still look));
       follow = at.0;
     }
 
-state_looked : (first : View) (stay : Stay) (cs : Courses) (m : MemberState) (hs hs' : HeldSlots) (v u look : View) (e : HeldEnd) → NotStaying e → AllFollow first cs hs v
-    → StateEndsHeld first stay m cs v e hs' u → AreLonger v u → StateLookedAt stay m false u look → Looked first stay cs m e hs' v look
-state_looked first stay cs Ended hs hs' v u look e not before f longer looked = record {
+state_looked : (first : View) (kept : Kept) (cs : Courses) (m : MemberState) (hs hs' : HeldSlots) (v u look : View) (e : HeldEnd) → NotStaying e → AllFollow first cs hs v
+    → StateEndsHeld first kept m cs v e hs' u → AreLonger v u → StateLookedAt kept m false u look → Looked first kept cs m e hs' v look
+state_looked first kept cs Ended hs hs' v u look e not before f longer looked = record {
   seen = u;
   are_seen = seen_where first cs hs' u f.1;
   reported = refl;
   since = longer;
-  longer = look_longer stay Ended false u look looked;
+  longer = look_longer kept Ended false u look looked;
   taken = tt;
   follow = subst (λ x. AllFollow first (if is_given_up x then cs else cs) hs' look) (sym f.0) (subst (AllFollow first cs hs') (sym looked.1) f.1);
 }
-state_looked first stay cs (Process q) hs hs' v u look e not before f longer looked = process_looked first stay cs q hs hs' v u look e not before f longer looked
-state_looked first stay cs (Supervisor m) hs hs' v u look e not before f longer looked = absurd (true≢false (sym looked.0))
+state_looked first kept cs (Process q) hs hs' v u look e not before f longer looked = process_looked first kept cs q hs hs' v u look e not before f longer looked
+state_looked first kept cs (Supervisor m) hs hs' v u look e not before f longer looked = absurd (true≢false (sym looked.0))
 
 -- what was seen stays legal after a look and an end
-legal_look : (stay : Stay) (m : MemberState) (b : Bool) (v w : View) → AllLegal v → StateLookedAt stay m b v w → AllLegal w
-legal_look stay Ended b v w legal is = subst AllLegal (sym is.1) legal
-legal_look stay (Process q) b v w legal (h, u, at, reported, r) = legal_behind q.pid.slot [] v h u w legal at r
-legal_look stay (Supervisor m) b v w legal is = subst AllLegal (sym is.1) legal
+legal_look : (kept : Kept) (m : MemberState) (b : Bool) (v w : View) → AllLegal v → StateLookedAt kept m b v w → AllLegal w
+legal_look kept Ended b v w legal is = subst AllLegal (sym is.1) legal
+legal_look kept (Process q) b v w legal (h, u, at, reported, r) = legal_behind q.pid.slot [] v h u w legal at r
+legal_look kept (Supervisor m) b v w legal is = subst AllLegal (sym is.1) legal
 
 legal_end : (o : Option StartedProcess) (v w : View) → AllLegal v → MemberEnded o v w → AllLegal w
 legal_end None v w legal is = subst AllLegal (sym is) legal
@@ -140,7 +140,7 @@ begun_in followed hs hs' v u look w apps apps' name id tables p e not one there 
     let starts = restart_starts tables p in
     let app = super_app name apps in
     let is = given first UpOrTemporary followed.courses (Some p) hs hs' v u look t.after_end e not before f longer false looked t.ended in
-    let legal_now = legal_end (process_in p.child) look t.after_end (legal_look UpOrTemporary p.child.state false u look legal looked) t.ended in
+    let legal_now = legal_end (process_in p.child) look t.after_end (legal_look (kept_at UpOrTemporary p.child.restart) p.child.state false u look legal looked) t.ended in
     let began = began_all first cs hs' app starts t.after_end t.processes w is.follow legal_now t.began in
     record {
       one = one;
@@ -163,7 +163,7 @@ slotless_in followed hs hs' v u look w apps apps' name id tables p e not one the
     let s = scene_at followed apps in
     let cs = child_ended s (Some p) in
     let is = given first UpOrTemporary followed.courses (Some p) hs hs' v u look w e not before f longer false looked t.ended in
-    let legal_now = legal_end (process_in p.child) look w (legal_look UpOrTemporary p.child.state false u look legal looked) t.ended in
+    let legal_now = legal_end (process_in p.child) look w (legal_look (kept_at UpOrTemporary p.child.restart) p.child.state false u look legal looked) t.ended in
     record {
       one = one;
       place = p;
@@ -194,7 +194,7 @@ faulty_in : (followed : Followed) (hs hs' : HeldSlots) (v u look w : View) (apps
     → IsNotRestartedIn followed.first name id tables (scene_at followed apps) (record { error = x; given_up = was_given_up e x }) apps' hs' v w
 faulty_in followed hs hs' v u look w apps apps' name id tables p e x not one there before f longer looked given_so as_held why ended same =
     let first = followed.first in
-    let is = state_looked first UpOrTemporary followed.courses p.child.state hs hs' v u look e not before f longer looked in
+    let is = state_looked first (kept_at UpOrTemporary p.child.restart) followed.courses p.child.state hs hs' v u look e not before f longer looked in
     record {
       one = one;
       place = p;
@@ -210,7 +210,7 @@ faulty_in followed hs hs' v u look w apps apps' name id tables p e x not one the
       );
       why = why;
       tree = same;
-      given_up = given_so ∙ (state_given_up first UpOrTemporary p.child.state followed.courses v e hs' u not f ∙ sym as_held);
+      given_up = given_so ∙ (state_given_up first (kept_at UpOrTemporary p.child.restart) p.child.state followed.courses v e hs' u not f ∙ sym as_held);
       follow = subst (λ b. AllFollow first (if b then child_ended (scene_at followed apps) (Some p) else followed.courses) hs' w) (sym given_so)
           (subst (AllFollow first (if is_given_up e then child_ended (scene_at followed apps) (Some p) else followed.courses) hs') (sym ended) is.follow);
     }

@@ -8,7 +8,7 @@ use Rattle.proc_table.specs.declared.view.View.{View}
 use Rattle.proc_table.specs.Holds.{Holding, Released}
 use Rattle.proc_table.specs.Waits.{HasTaken, HeldAtLast, at_slot}
 use Rattle.proc_table.proofs.WaitLemmas.{since}
-use Rattle.started_members.specs.declared.looks.Stay.{Stay}
+use Rattle.started_members.specs.declared.looks.Kept.{Kept}
 use Rattle.started_members.specs.declared.member.MemberState.{MemberState}
 use Rattle.started_members.specs.declared.member.MemberState.TheVariants.{Ended, Process, Supervisor}
 use Rattle.started_members.specs.Looks.{LookedAt}
@@ -46,8 +46,8 @@ taken_since p v u w more t =
     record { before = more.takes.0 ++ t.before; is = subst (λ (l : List (ℕ × ℕ)). IsPrefix (l ++ (p, 0) ∷ []) w.found) (sym front) t.is }
 
 -- a look takes the slot
-pub look_taken : (stay : Stay) (pid : Pid) (b : Bool) (v look w : View) → LookedAt stay pid b v look → AreLonger look w → HasTaken pid.slot v w
-look_taken stay pid b v look w (h, u, at, is, r) more = taken_later pid.slot v look w (held_taken pid.slot pid.slot [] v h u look at r) more
+pub look_taken : (kept : Kept) (pid : Pid) (b : Bool) (v look w : View) → LookedAt kept pid b v look → AreLonger look w → HasTaken pid.slot v w
+look_taken kept pid b v look w (h, u, at, is, r) more = taken_later pid.slot v look w (held_taken pid.slot pid.slot [] v h u look at r) more
 
 -- what stands for a child, where it is no process
 pub quiet_taken : (cs : Courses) (m : MemberState) (v w : View) → state_process m ≡ None → IsStateTaken cs m v w

@@ -7,13 +7,14 @@ use Rattle.proc_table.specs.declared.view.View.{View}
 use Rattle.proc_table.specs.Agrees.{slots}
 use Rattle.proc_table.specs.Views.{seen}
 use Rattle.proc_table.specs.Waits.{HasTaken}
+use Rattle.started_members.specs.declared.looks.Kept.{Kept}
 use Rattle.started_members.specs.declared.looks.Stay.{Stay}
 use Rattle.started_members.specs.declared.looks.Stay.TheVariants.{Up}
 use Rattle.started_members.specs.declared.member.MemberState.{MemberState}
 use Rattle.started_members.specs.declared.member.MemberState.TheVariants.{Ended, Process, Supervisor}
 use Rattle.started_members.specs.Places.{Place}
 use Rattle.sup_tree.specs.Children.{child_deleted, child_members, child_place, child_terminated, has_one_supervisor}
-use Rattle.started_members.specs.Looks.{process_stays}
+use Rattle.started_members.specs.Looks.{kept_at, process_stays}
 use Rattle.sup_tree.specs.Tree.{App}
 use Rattle.started_members.specs.Members.{pids_of, processes_among}
 use Rattle.held_processes.specs.Applications.{Scene, all_stopped}
@@ -43,15 +44,15 @@ TerminatesIn first name id s (Ok x) apps hs w = IsTerminatedIn first name id s a
 TerminatesIn first name id s (Err e) apps hs w = (has_one_supervisor name s.apps ≡ false) × (apps ≡ s.apps) × AllFollow first s.courses hs w
 
 -- whether what stands for a child stays, where this stands in the slots
-abbrev pub state_stays : Stay → Values → MemberState → Bool
-state_stays stay values Ended = false
-state_stays stay values (Process q) = process_stays stay q.pid (values q.pid.slot)
-state_stays stay values (Supervisor m) = true
+abbrev pub state_stays : Kept → Values → MemberState → Bool
+state_stays kept values Ended = false
+state_stays kept values (Process q) = process_stays kept q.pid (values q.pid.slot)
+state_stays kept values (Supervisor m) = true
 
 -- whether nothing is to be done to a child: it stays, or there is none
 abbrev pub child_stays : Stay → Values → Option Place → Bool
 child_stays stay values None = true
-child_stays stay values (Some p) = state_stays stay values p.child.state
+child_stays stay values (Some p) = state_stays (kept_at stay p.child.restart) values p.child.state
 
 -- Of each slot the handler has seen the history up to here.
 abbrev pub AreSeen : View → Courses → View → Type 0
@@ -97,27 +98,27 @@ DeletesIn first name id s (Ok stays) apps hs v w = IsDeletedIn first name id s s
 DeletesIn first name id s (Err e) apps hs v w = (has_one_supervisor name s.apps ≡ false) × (apps ≡ s.apps) × AllFollow first s.courses hs w
 
 -- whether a process that is held stays
-abbrev pub held_stays : Stay → Pid → Values → Courses → Bool
-held_stays stay pid seen cs = process_stays stay pid (now_in seen cs pid.slot)
+abbrev pub held_stays : Kept → Pid → Values → Courses → Bool
+held_stays kept pid seen cs = process_stays kept pid (now_in seen cs pid.slot)
 
 -- Whether it is held, and stays then, is reported of each start and courses that were followed.
-abbrev pub ReportsStay : Stay → Pid → HeldSlots → Option Bool → Type 0
-ReportsStay stay pid hs o = (first : View) (cs : Courses) (v : View) → AllFollow first cs hs v → o ≡ if_held (cs pid.slot).hold (Some (held_stays stay pid (values_seen v) cs)) None
+abbrev pub ReportsStay : Kept → Pid → HeldSlots → Option Bool → Type 0
+ReportsStay kept pid hs o = (first : View) (cs : Courses) (v : View) → AllFollow first cs hs v → o ≡ if_held (cs pid.slot).hold (Some (held_stays kept pid (values_seen v) cs)) None
 
 -- What became of a process that may be held: it is held and stays, or it was held and is given up and let go, or it isn't held.
 -- Where it wasn't given up, nothing was seen.
-abbrev pub ProcessEndsHeld : View → Stay → Pid → Courses → View → HeldEnd → HeldSlots → View → Type 0
-ProcessEndsHeld first stay pid cs v Stays hs w =
-    (held_stays stay pid (values_seen v) cs ≡ true) × ((cs pid.slot).hold ≢ not_held) × AllFollow first cs hs w × (w ≡ v)
-ProcessEndsHeld first stay pid cs v GivenUp hs w =
-    (held_stays stay pid (values_seen v) cs ≡ false) × ((cs pid.slot).hold ≢ not_held) × AllFollow first (give_up_at pid.slot cs) hs w
-ProcessEndsHeld first stay pid cs v NotHeld hs w = ((cs pid.slot).hold ≡ not_held) × AllFollow first cs hs w × (w ≡ v)
+abbrev pub ProcessEndsHeld : View → Kept → Pid → Courses → View → HeldEnd → HeldSlots → View → Type 0
+ProcessEndsHeld first kept pid cs v Stays hs w =
+    (held_stays kept pid (values_seen v) cs ≡ true) × ((cs pid.slot).hold ≢ not_held) × AllFollow first cs hs w × (w ≡ v)
+ProcessEndsHeld first kept pid cs v GivenUp hs w =
+    (held_stays kept pid (values_seen v) cs ≡ false) × ((cs pid.slot).hold ≢ not_held) × AllFollow first (give_up_at pid.slot cs) hs w
+ProcessEndsHeld first kept pid cs v NotHeld hs w = ((cs pid.slot).hold ≡ not_held) × AllFollow first cs hs w × (w ≡ v)
 
 -- What became of the process of a child that may be held, where one stands for the child. Without a process nothing is held.
-abbrev pub StateEndsHeld : View → Stay → MemberState → Courses → View → HeldEnd → HeldSlots → View → Type 0
-StateEndsHeld first stay (Process q) cs v e hs w = ProcessEndsHeld first stay q.pid cs v e hs w
-StateEndsHeld first stay m cs v e hs w = (e ≡ NotHeld) × AllFollow first cs hs w
+abbrev pub StateEndsHeld : View → Kept → MemberState → Courses → View → HeldEnd → HeldSlots → View → Type 0
+StateEndsHeld first kept (Process q) cs v e hs w = ProcessEndsHeld first kept q.pid cs v e hs w
+StateEndsHeld first kept m cs v e hs w = (e ≡ NotHeld) × AllFollow first cs hs w
 
 abbrev pub ChildEndsHeld : View → Stay → Option Place → Courses → View → HeldEnd → HeldSlots → View → Type 0
 ChildEndsHeld first stay None cs v e hs w = (e ≡ NotHeld) × AllFollow first cs hs w
-ChildEndsHeld first stay (Some p) cs v e hs w = StateEndsHeld first stay p.child.state cs v e hs w
+ChildEndsHeld first stay (Some p) cs v e hs w = StateEndsHeld first (kept_at stay p.child.restart) p.child.state cs v e hs w

@@ -7,9 +7,10 @@ ghost use Rattle.started_members.specs.Places.{Place, with_below};
 ghost use Rattle.std.specs.Option.{option_map_or};
 
 use crate::{ChildName, HeldProcesses};
-use proc_table::{HandlerSeat, Pid, ProcTable};
+use proc_table::Pid;
 use std::sync::Wait;
-use sup_tree::{Member, NoSuper, Stay, Tree};
+use sup_tree::{Kept, Member, NoSuper, Stay, Tree};
+use table_access::{Seating, TableAccess};
 
 /// What becomes of the process of a child that may be held.
 #[derive(Clone, Copy)]
@@ -26,75 +27,66 @@ impl HeldProcesses {
     /// Ends a child of the one supervisor of its module, with all below it (OTP: supervisor:terminate_child/2): those of its
     /// processes that are held are given up and let go, then the others are given up, the last first. Nothing is done where the
     /// supervisor has no such child, nor where not exactly one is started. It waits for the slots, and takes no memory.
-    pub fn terminate_child<R: Wait>(
+    pub fn terminate_child<R: Wait, S: Seating>(
         &mut self,
         rt: &R,
-        table: &ProcTable,
-        seat: &mut HandlerSeat,
+        access: &mut TableAccess<'_, S>,
         tree: &mut Tree,
         child: &ChildName<'_>,
     ) -> Result<(), NoSuper>
         ghost followed: { Followed }
-        requires table { seat.old.table ≡ table.now }
-        requires follow { AllFollow followed.first followed.courses self.old seat.old.view }
-        ensures table { seat.new.table ≡ seat.old.table }
+        requires follow { AllFollow followed.first followed.courses self.old access.old }
         ensures terminated { TerminatesIn followed.first child.now.supervisor.now child.now.id.now
-            (scene_at followed tree.old) result tree.new self.new seat.new.view }
-        ensures longer { AreLonger seat.old.view seat.new.view }
+            (scene_at followed tree.old) result tree.new self.new access.new }
+        ensures longer { AreLonger access.old access.new }
     {
         if !tree.has_one_supervisor(child.supervisor) {
             return Err(NoSuper);
         }
-        self.give_up_all(table, seat, tree.child_members(child.supervisor, child.id));
-        tree.terminate_child(rt, table, seat, child.supervisor, child.id)
+        self.give_up_all(access, tree.child_members(child.supervisor, child.id));
+        tree.terminate_child(rt, access, child.supervisor, child.id)
     }
 
     /// Takes away a child of the one supervisor of its module, unless it is up, and answers whether nothing was done (OTP:
     /// supervisor:delete_child/2). Where its process is held, it counts as up or not by what was done to it. One that isn't up is
     /// given up, and let go. It waits for the slot of one that isn't held, and takes no memory.
-    pub fn delete_child<R: Wait>(
+    pub fn delete_child<R: Wait, S: Seating>(
         &mut self,
         rt: &R,
-        table: &ProcTable,
-        seat: &mut HandlerSeat,
+        access: &mut TableAccess<'_, S>,
         tree: &mut Tree,
         child: &ChildName<'_>,
     ) -> Result<bool, NoSuper>
         ghost followed: { Followed }
-        requires table { seat.old.table ≡ table.now }
-        requires follow { AllFollow followed.first followed.courses self.old seat.old.view }
-        ensures table { seat.new.table ≡ seat.old.table }
+        requires follow { AllFollow followed.first followed.courses self.old access.old }
         ensures deleted { DeletesIn followed.first child.now.supervisor.now child.now.id.now
-            (scene_at followed tree.old) result tree.new self.new seat.old.view seat.new.view }
-        ensures longer { AreLonger seat.old.view seat.new.view }
+            (scene_at followed tree.old) result tree.new self.new access.old access.new }
+        ensures longer { AreLonger access.old access.new }
     {
         if !tree.has_one_supervisor(child.supervisor) {
             return Err(NoSuper);
         }
         let members = tree.child_members(child.supervisor, child.id);
-        if let HeldEnd::Stays = self.end_held(table, seat, members, Stay::Up) {
+        if let HeldEnd::Stays = self.end_held(access, members, Stay::Up) {
             return Ok(true);
         }
-        tree.delete_child(rt, table, seat, child.supervisor, child.id)
+        tree.delete_child(rt, access, child.supervisor, child.id)
     }
 
     /// What becomes of the process of the first of these members, which is a child: where it is held, it stays, or is given up and
     /// let go.
-    pub(crate) fn end_held(
+    pub(crate) fn end_held<S: Seating>(
         &mut self,
-        table: &ProcTable,
-        seat: &mut HandlerSeat,
+        access: &mut TableAccess<'_, S>,
         members: &[Member],
         stay: Stay,
     ) -> HeldEnd
         ghost followed: { Followed }
-        requires table { seat.old.table ≡ table.now }
-        requires follow { AllFollow followed.first followed.courses self.old seat.old.view }
-        ensures table { seat.new.table ≡ seat.old.table }
+        requires follow { AllFollow followed.first followed.courses self.old access.old }
         ensures ended { (o : Option Place) → members.now ≡ option_map_or with_below o []
             → ChildEndsHeld followed.first stay o followed.courses
-            seat.old.view result self.new seat.new.view }
-        ensures longer { AreLonger seat.old.view seat.new.view }
+            access.old result self.new access.new }
+        ensures longer { AreLonger access.old access.new }
     {
         let Some(member) = members.first() else {
             return HeldEnd::NotHeld;
@@ -102,10 +94,10 @@ impl HeldProcesses {
         let Some(process) = member.process() else {
             return HeldEnd::NotHeld;
         };
-        match self.held_stays(process.pid, stay) {
+        match self.held_stays(process.pid, stay.kept_at(member.restart)) {
             Some(true) => HeldEnd::Stays,
             Some(false) => {
-                self.give_up_slot(table, seat, process.pid.slot);
+                self.give_up_slot(access, process.pid.slot);
                 HeldEnd::GivenUp
             }
             None => HeldEnd::NotHeld,
@@ -113,10 +105,10 @@ impl HeldProcesses {
     }
 
     // Whether the process stays, where it is held.
-    fn held_stays(&self, pid: Pid, stay: Stay) -> Option<bool>
-        ensures { ReportsStay stay pid self.now result }
+    fn held_stays(&self, pid: Pid, kept: Kept) -> Option<bool>
+        ensures { ReportsStay kept pid self.now result }
     {
         let value = self.held_value(pid.slot)?;
-        Some(stay.keeps(value, pid))
+        Some(kept.keeps(value, pid))
     }
 }

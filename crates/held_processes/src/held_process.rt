@@ -6,10 +6,11 @@ ghost use Rattle.held_processes.specs.InMemory.{hold_of, is_until_point};
 ghost use Rattle.held_processes.specs.Slots.{SlotPast, IsFollowed, Steps, Takes, dropped};
 ghost use Rattle.proc_table.specs.Views.{seen};
 
-use proc_table::{HandlerSeat, Held, Pid, ProcTable, Value};
+use proc_table::{Held, Pid, Value};
 use std::alloc::{AllocError, Global};
 use std::marker::Model;
 use std::sync::Wait;
+use table_access::{Seating, TableAccess};
 
 /// How long a process is held.
 #[derive(Clone, Copy)]
@@ -43,60 +44,53 @@ impl Model for HeldProcess {
 impl HeldProcess {
     /// Takes the process of the slot, once no client has it. Where no memory is left for a copy of what stands there, it is
     /// given back as it was.
-    pub(crate) fn take<R: Wait>(
+    pub(crate) fn take<R: Wait, S: Seating>(
         rt: &R,
         alloc: Global,
-        table: &ProcTable,
-        seat: &mut HandlerSeat,
+        access: &mut TableAccess<'_, S>,
         pid: Pid,
         hold: Hold,
     ) -> Result<HeldProcess, AllocError>
         ghost past: { SlotPast }
-        requires table { seat.old.table ≡ table.now }
-        requires free { IsFollowed past pid.slot past.course seat.old.view None }
-        ensures table { seat.new.table ≡ seat.old.table }
-        ensures taken { Takes past pid.slot (hold_of hold) seat.old.view result seat.new.view }
-        ensures longer { AreLonger seat.old.view seat.new.view }
+        requires free { IsFollowed past pid.slot past.course access.old None }
+        ensures taken { Takes past pid.slot (hold_of hold) access.old result access.new }
+        ensures longer { AreLonger access.old access.new }
     {
-        let held = table.hold(rt, seat, pid);
+        let held = access.hold(rt, pid);
         match held.value().copy(alloc) {
             Ok(saved) => Ok(HeldProcess { held, saved, hold }),
             Err(failed) => {
-                table.release(seat, held, &[]);
+                access.release(held, &[]);
                 Err(failed)
             }
         }
     }
 
     /// Gives the process back, with what was done to it.
-    pub(crate) fn let_go(self, table: &ProcTable, seat: &mut HandlerSeat)
+    pub(crate) fn let_go<S: Seating>(self, access: &mut TableAccess<'_, S>)
         ghost past: { SlotPast }
-        requires table { seat.old.table ≡ table.now }
-        requires held { IsFollowed past self.held.slot past.course seat.old.view (Some self) }
-        ensures table { seat.new.table ≡ seat.old.table }
+        requires held { IsFollowed past self.held.slot past.course access.old (Some self) }
         ensures gone { Steps past self.held.slot
-            (let_go past.course) seat.old.view None seat.new.view }
-        ensures longer { AreLonger seat.old.view seat.new.view }
+            (let_go past.course) access.old None access.new }
+        ensures longer { AreLonger access.old access.new }
     {
         let HeldProcess {
             held,
             saved: _saved,
             hold: _hold,
         } = self;
-        table.let_go(seat, held);
+        access.let_go(held);
     }
 
     /// Gives the process back as it was when it was taken.
-    pub(crate) fn roll_back(self, table: &ProcTable, seat: &mut HandlerSeat)
-        requires table { seat.old.table ≡ table.now }
+    pub(crate) fn roll_back<S: Seating>(self, access: &mut TableAccess<'_, S>)
         requires held { (past : SlotPast)
-            × IsFollowed past self.held.slot past.course seat.old.view (Some self) }
-        ensures table { seat.new.table ≡ seat.old.table }
+            × IsFollowed past self.held.slot past.course access.old (Some self) }
         ensures gone { (past : SlotPast)
-            → IsFollowed past self.held.slot past.course seat.old.view (Some self)
-            → Steps past self.held.slot (dropped past.course) seat.old.view None seat.new.view }
-        ensures seen { (p : ℕ) → seen seat.new.view p ≡ seen seat.old.view p }
-        ensures found { seat.new.view.found ≡ seat.old.view.found }
+            → IsFollowed past self.held.slot past.course access.old (Some self)
+            → Steps past self.held.slot (dropped past.course) access.old None access.new }
+        ensures seen { (p : ℕ) → seen access.new p ≡ seen access.old p }
+        ensures found { access.new.found ≡ access.old.found }
     {
         let HeldProcess {
             mut held,
@@ -104,7 +98,7 @@ impl HeldProcess {
             hold: _hold,
         } = self;
         held.set(saved);
-        table.release(seat, held, &[]);
+        access.release(held, &[]);
     }
 
     /// Whether it is held for a load, until the point of no return.

@@ -16,10 +16,11 @@ use crate::held_process::HeldProcess;
 use crate::steps::{self, Step, Undone};
 use erl_term::Term;
 use mod_table::{Old, Worker};
-use proc_table::{HandlerSeat, Pid, ProcTable, SLOTS, Value};
+use proc_table::{Pid, SLOTS, Value};
 use std::alloc::{AllocError, Global};
 use std::marker::Model;
 use std::sync::Wait;
+use table_access::{Seating, TableAccess};
 
 /// Processes that the handler holds while a script runs, one place for each slot. It ends in [`HeldProcesses::finish`] or
 /// [`HeldProcesses::roll_back`].
@@ -63,49 +64,43 @@ impl HeldProcesses {
 
     /// The processes of the module are held until they are resumed. It waits until no client has them. Where memory is
     /// refused, some of them aren't held. It asks for memory only for one that isn't held yet.
-    pub fn suspend<R: Wait>(
+    pub fn suspend<R: Wait, S: Seating>(
         &mut self,
         rt: &R,
         alloc: Global,
-        table: &ProcTable,
-        seat: &mut HandlerSeat,
+        access: &mut TableAccess<'_, S>,
         users: &Users<'_>,
     ) -> Result<(), Undone>
         ghost followed: { Followed }
-        requires table { seat.old.table ≡ table.now }
-        requires follow { AllFollow followed.first followed.courses self.old seat.old.view }
-        ensures table { seat.new.table ≡ seat.old.table }
+        requires follow { AllFollow followed.first followed.courses self.old access.old }
         ensures done { IsDone followed.first (modules_by_slot users.now.tree.now)
-            users.now.module.now suspend followed.courses result self.new seat.new.view }
+            users.now.module.now suspend followed.courses result self.new access.new }
         ensures asks { OnErr result (has_free_user (modules_by_slot users.now.tree.now)
             users.now.module.now followed.courses ≡ true) }
-        ensures longer { AreLonger seat.old.view seat.new.view }
+        ensures longer { AreLonger access.old access.new }
     {
-        self.perform(rt, table, seat, users, Step::Suspend(alloc))
+        self.perform(rt, access, users, Step::Suspend(alloc))
     }
 
     /// The processes of the module get this table. Those that aren't held are held for it, and wait for the point of no return
     /// if they are to be kept. It waits until no client has them. Where memory is refused, some of them don't have it.
-    pub fn load<R: Wait>(
+    pub fn load<R: Wait, S: Seating>(
         &mut self,
         rt: &R,
         alloc: Global,
-        table: &ProcTable,
-        seat: &mut HandlerSeat,
+        access: &mut TableAccess<'_, S>,
         users: &Users<'_>,
         worker: &Worker,
         keep: bool,
     ) -> Result<(), Undone>
         ghost followed: { Followed }
-        requires table { seat.old.table ≡ table.now }
-        requires follow { AllFollow followed.first followed.courses self.old seat.old.view }
-        ensures table { seat.new.table ≡ seat.old.table }
+        requires follow { AllFollow followed.first followed.courses self.old access.old }
         ensures done { IsDone followed.first (modules_by_slot users.now.tree.now)
             users.now.module.now (load keep worker.now) followed.courses result self.new
-            seat.new.view }
-        ensures longer { AreLonger seat.old.view seat.new.view }
+            access.new }
+        ensures longer { AreLonger access.old access.new }
     {
-        self.perform(rt, table, seat, users, Step::Load(alloc, worker, keep))
+        self.perform(rt, access, users, Step::Load(alloc, worker, keep))
     }
 
     /// The code of the processes of the module that are held and up is changed. Where one of them has no row for that, those in
@@ -139,29 +134,26 @@ impl HeldProcesses {
 
     /// Whether a process of the module is up. It looks at one after another, up to one that is. It adds nothing, and waits until no
     /// client has those that aren't held.
-    pub fn any_up<R: Wait>(
+    pub fn any_up<R: Wait, S: Seating>(
         &self,
         rt: &R,
-        table: &ProcTable,
-        seat: &mut HandlerSeat,
+        access: &mut TableAccess<'_, S>,
         users: &Users<'_>,
     ) -> bool
         ghost followed: { Followed }
-        requires table { seat.old.table ≡ table.now }
-        requires follow { AllFollow followed.first followed.courses self.now seat.old.view }
-        ensures table { seat.new.table ≡ seat.old.table }
-        ensures follow { AllFollow followed.first followed.courses self.now seat.new.view }
-        ensures reported { result ≡ uses_up (values_seen seat.new.view)
+        requires follow { AllFollow followed.first followed.courses self.now access.old }
+        ensures follow { AllFollow followed.first followed.courses self.now access.new }
+        ensures reported { result ≡ uses_up (values_seen access.new)
             (modules_by_slot users.now.tree.now) users.now.module.now followed.courses }
         ensures looked { AreLookedAt (modules_by_slot users.now.tree.now) users.now.module.now
-            followed.courses seat.old.view seat.new.view }
-        ensures longer { AreLonger seat.old.view seat.new.view }
+            followed.courses access.old access.new }
+        ensures longer { AreLonger access.old access.new }
     {
         let used = users.by_slot();
         for slot in 0..self.places.len() {
             if users.include(&used, slot) {
                 let pid = Pid { slot, round: 0 };
-                if steps::is_up(rt, table, seat, pid, &self.places[slot]) {
+                if steps::is_up(rt, access, pid, &self.places[slot]) {
                     return true;
                 }
             }
@@ -170,85 +162,73 @@ impl HeldProcesses {
     }
 
     /// The processes of the module that are held are let go. It waits for nobody.
-    pub fn resume(&mut self, table: &ProcTable, seat: &mut HandlerSeat, users: &Users<'_>)
+    pub fn resume<S: Seating>(&mut self, access: &mut TableAccess<'_, S>, users: &Users<'_>)
         ghost followed: { Followed }
-        requires table { seat.old.table ≡ table.now }
-        requires follow { AllFollow followed.first followed.courses self.old seat.old.view }
-        ensures table { seat.new.table ≡ seat.old.table }
+        requires follow { AllFollow followed.first followed.courses self.old access.old }
         ensures done { AllFollow followed.first (on_module (modules_by_slot users.now.tree.now)
-            users.now.module.now resume followed.courses) self.new seat.new.view }
-        ensures longer { AreLonger seat.old.view seat.new.view }
+            users.now.module.now resume followed.courses) self.new access.new }
+        ensures longer { AreLonger access.old access.new }
     {
-        self.release(table, seat, Which::Of(*users));
+        self.release(access, Which::Of(*users));
     }
 
     /// The point of no return: the processes that are held for a load are let go. It waits for nobody.
-    pub fn pass_point(&mut self, table: &ProcTable, seat: &mut HandlerSeat)
+    pub fn pass_point<S: Seating>(&mut self, access: &mut TableAccess<'_, S>)
         ghost followed: { Followed }
-        requires table { seat.old.table ≡ table.now }
-        requires follow { AllFollow followed.first followed.courses self.old seat.old.view }
-        ensures table { seat.new.table ≡ seat.old.table }
+        requires follow { AllFollow followed.first followed.courses self.old access.old }
         ensures done { AllFollow followed.first (on_all pass_point followed.courses)
-            self.new seat.new.view }
-        ensures longer { AreLonger seat.old.view seat.new.view }
+            self.new access.new }
+        ensures longer { AreLonger access.old access.new }
     {
-        self.release(table, seat, Which::UntilPoint);
+        self.release(access, Which::UntilPoint);
     }
 
     /// The processes of the module are stopped, where they are up. It waits until no client has those that aren't held.
-    pub fn stop<R: Wait>(
+    pub fn stop<R: Wait, S: Seating>(
         &mut self,
         rt: &R,
-        table: &ProcTable,
-        seat: &mut HandlerSeat,
+        access: &mut TableAccess<'_, S>,
         users: &Users<'_>,
     )
         ghost followed: { Followed }
-        requires table { seat.old.table ≡ table.now }
-        requires follow { AllFollow followed.first followed.courses self.old seat.old.view }
-        ensures table { seat.new.table ≡ seat.old.table }
+        requires follow { AllFollow followed.first followed.courses self.old access.old }
         ensures done { AllFollow followed.first (on_module (modules_by_slot users.now.tree.now)
-            users.now.module.now stop followed.courses) self.new seat.new.view }
-        ensures longer { AreLonger seat.old.view seat.new.view }
+            users.now.module.now stop followed.courses) self.new access.new }
+        ensures longer { AreLonger access.old access.new }
     {
-        let Ok(()) = self.perform(rt, table, seat, users, Step::Stop) else {
+        let Ok(()) = self.perform(rt, access, users, Step::Stop) else {
             unreachable!();
         };
     }
 
     /// The processes of the module are up again, where they were stopped. It waits until no client has those that aren't held.
-    pub fn start<R: Wait>(
+    pub fn start<R: Wait, S: Seating>(
         &mut self,
         rt: &R,
-        table: &ProcTable,
-        seat: &mut HandlerSeat,
+        access: &mut TableAccess<'_, S>,
         users: &Users<'_>,
     )
         ghost followed: { Followed }
-        requires table { seat.old.table ≡ table.now }
-        requires follow { AllFollow followed.first followed.courses self.old seat.old.view }
-        ensures table { seat.new.table ≡ seat.old.table }
+        requires follow { AllFollow followed.first followed.courses self.old access.old }
         ensures done { AllFollow followed.first (on_module (modules_by_slot users.now.tree.now)
-            users.now.module.now start followed.courses) self.new seat.new.view }
-        ensures longer { AreLonger seat.old.view seat.new.view }
+            users.now.module.now start followed.courses) self.new access.new }
+        ensures longer { AreLonger access.old access.new }
     {
-        let Ok(()) = self.perform(rt, table, seat, users, Step::Start) else {
+        let Ok(()) = self.perform(rt, access, users, Step::Start) else {
             unreachable!();
         };
     }
 
     /// The process of this slot is given up and let go, if it is held. It waits for nobody.
-    pub(crate) fn give_up_slot(&mut self, table: &ProcTable, seat: &mut HandlerSeat, slot: usize)
+    pub(crate) fn give_up_slot<S: Seating>(&mut self, access: &mut TableAccess<'_, S>, slot: usize)
         ghost followed: { Followed }
-        requires table { seat.old.table ≡ table.now }
-        requires follow { AllFollow followed.first followed.courses self.old seat.old.view }
-        ensures table { seat.new.table ≡ seat.old.table }
+        requires follow { AllFollow followed.first followed.courses self.old access.old }
         ensures done { AllFollow followed.first (give_up_at slot followed.courses)
-            self.new seat.new.view }
-        ensures longer { AreLonger seat.old.view seat.new.view }
+            self.new access.new }
+        ensures longer { AreLonger access.old access.new }
     {
         if slot < self.places.len() {
-            steps::give_up(table, seat, slot, &mut self.places[slot]);
+            steps::give_up(access, slot, &mut self.places[slot]);
         }
     }
 
@@ -265,18 +245,16 @@ impl HeldProcesses {
 
     /// The script has ended: what is still held is let go, with what was done to it. It takes no memory and waits for nobody.
     /// What the handler had seen of each slot stays in front (`longer`).
-    pub fn finish(self, table: &ProcTable, seat: &mut HandlerSeat)
+    pub fn finish<S: Seating>(self, access: &mut TableAccess<'_, S>)
         ghost followed: { Followed }
-        requires table { seat.old.table ≡ table.now }
-        requires follow { AllFollow followed.first followed.courses self seat.old.view }
-        ensures table { seat.new.table ≡ seat.old.table }
-        ensures left { AreLeft followed.first (on_all finish followed.courses) seat.new.view }
-        ensures longer { AreLonger seat.old.view seat.new.view }
+        requires follow { AllFollow followed.first followed.courses self access.old }
+        ensures left { AreLeft followed.first (on_all finish followed.courses) access.new }
+        ensures longer { AreLonger access.old access.new }
     {
         let HeldProcesses { mut places } = self;
         while let Some(place) = places.pop() {
             if let Some(process) = place {
-                process.let_go(table, seat);
+                process.let_go(access);
             }
         }
         places.destroy_empty();
@@ -284,49 +262,44 @@ impl HeldProcesses {
 
     /// The way back: what is still held is given back as it was when it was taken. It takes no memory and waits for nobody. It
     /// is for courses that only the proof knows, as they are after an operation that failed.
-    pub fn roll_back(self, table: &ProcTable, seat: &mut HandlerSeat)
-        requires table { seat.old.table ≡ table.now }
+    pub fn roll_back<S: Seating>(self, access: &mut TableAccess<'_, S>)
         requires follow { (first : View) × (courses : Courses)
-            × AllFollow first courses self seat.old.view }
-        ensures table { seat.new.table ≡ seat.old.table }
+            × AllFollow first courses self access.old }
         ensures left { (first : View) (courses : Courses)
-            → AllFollow first courses self seat.old.view → AreLeft first courses seat.new.view }
-        ensures seen { (p : ℕ) → seen seat.new.view p ≡ seen seat.old.view p }
-        ensures found { seat.new.view.found ≡ seat.old.view.found }
+            → AllFollow first courses self access.old → AreLeft first courses access.new }
+        ensures seen { (p : ℕ) → seen access.new p ≡ seen access.old p }
+        ensures found { access.new.found ≡ access.old.found }
     {
         let HeldProcesses { mut places } = self;
         while let Some(place) = places.pop() {
             if let Some(process) = place {
-                process.roll_back(table, seat);
+                process.roll_back(access);
             }
         }
         places.destroy_empty();
     }
 
-    fn perform<R: Wait>(
+    fn perform<R: Wait, S: Seating>(
         &mut self,
         rt: &R,
-        table: &ProcTable,
-        seat: &mut HandlerSeat,
+        access: &mut TableAccess<'_, S>,
         users: &Users<'_>,
         step: Step<'_>,
     ) -> Result<(), Undone>
         ghost followed: { Followed }
-        requires table { seat.old.table ≡ table.now }
-        requires follow { AllFollow followed.first followed.courses self.old seat.old.view }
-        ensures table { seat.new.table ≡ seat.old.table }
+        requires follow { AllFollow followed.first followed.courses self.old access.old }
         ensures done { IsDone followed.first (modules_by_slot users.now.tree.now)
             users.now.module.now (operation_of step.entry) followed.courses result self.new
-            seat.new.view }
+            access.new }
         ensures failed { IfErr result (λ e. AsksAt step.entry (modules_by_slot users.now.tree.now)
             users.now.module.now followed.courses e.slot) }
-        ensures longer { AreLonger seat.old.view seat.new.view }
+        ensures longer { AreLonger access.old access.new }
     {
         let used = users.by_slot();
         for slot in 0..self.places.len() {
             if users.include(&used, slot) {
                 let pid = Pid { slot, round: 0 };
-                match steps::perform(rt, table, seat, pid, &mut self.places[slot], step) {
+                match steps::perform(rt, access, pid, &mut self.places[slot], step) {
                     Ok(()) => {}
                     Err(_) => return Err(Undone { slot }),
                 }
@@ -335,19 +308,17 @@ impl HeldProcesses {
         Ok(())
     }
 
-    fn release(&mut self, table: &ProcTable, seat: &mut HandlerSeat, which: Which<'_>)
+    fn release<S: Seating>(&mut self, access: &mut TableAccess<'_, S>, which: Which<'_>)
         ghost followed: { Followed }
-        requires table { seat.old.table ≡ table.now }
-        requires follow { AllFollow followed.first followed.courses self.old seat.old.view }
-        ensures table { seat.new.table ≡ seat.old.table }
+        requires follow { AllFollow followed.first followed.courses self.old access.old }
         ensures done { AllFollow followed.first (behind_release which.entry followed.courses)
-            self.new seat.new.view }
-        ensures longer { AreLonger seat.old.view seat.new.view }
+            self.new access.new }
+        ensures longer { AreLonger access.old access.new }
     {
         let used = which.users_by_slot();
         for slot in 0..self.places.len() {
             if which.includes(&used, slot, &self.places[slot]) {
-                steps::let_go(table, seat, slot, &mut self.places[slot]);
+                steps::let_go(access, slot, &mut self.places[slot]);
             }
         }
     }

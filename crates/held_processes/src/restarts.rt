@@ -7,10 +7,10 @@ ghost use Rattle.sup_tree.specs.Loaded.{modules_in, tables_of};
 
 use crate::children::HeldEnd;
 use crate::{ChildName, HeldProcesses};
-use proc_table::{HandlerSeat, ProcTable};
 use std::alloc::Global;
 use std::sync::Wait;
 use sup_tree::{Loaded, RestartError, Stay, Tree};
+use table_access::{Seating, TableAccess};
 
 /// Why a child doesn't begin again, and whether what stood for it was given up all the same.
 #[derive(Clone, Copy, Debug)]
@@ -23,24 +23,21 @@ impl HeldProcesses {
     /// Begins a child of the one supervisor of its module again, beside the processes that are held, and answers whether nothing
     /// was done (OTP: supervisor:restart_child/2). Where its process is held, it counts as up or not by what was done to it; one
     /// that doesn't stay is given up and let go, also where the child doesn't begin then. It waits for the slots.
-    pub fn restart_child<R: Wait>(
+    pub fn restart_child<R: Wait, S: Seating>(
         &mut self,
         rt: &R,
         alloc: Global,
-        table: &ProcTable,
-        seat: &mut HandlerSeat,
+        access: &mut TableAccess<'_, S>,
         tree: &mut Tree,
         loaded: &Loaded,
         child: &ChildName<'_>,
     ) -> Result<bool, NotRestarted>
         ghost followed: { Followed }
-        requires table { seat.old.table ≡ table.now }
-        requires follow { AllFollow followed.first followed.courses self.old seat.old.view }
-        ensures table { seat.new.table ≡ seat.old.table }
+        requires follow { AllFollow followed.first followed.courses self.old access.old }
         ensures restarted { RestartsIn followed.first child.now.supervisor.now child.now.id.now
             (tables_of (modules_in loaded.now)) (scene_at followed tree.old)
-            result tree.new self.new seat.old.view seat.new.view }
-        ensures longer { AreLonger seat.old.view seat.new.view }
+            result tree.new self.new access.old access.new }
+        ensures longer { AreLonger access.old access.new }
     {
         if !tree.has_one_supervisor(child.supervisor) {
             return Err(NotRestarted {
@@ -49,12 +46,12 @@ impl HeldProcesses {
             });
         }
         let members = tree.child_members(child.supervisor, child.id);
-        let end = self.end_held(table, seat, members, Stay::UpOrTemporary);
+        let end = self.end_held(access, members, Stay::UpOrTemporary);
         if let HeldEnd::Stays = end {
             return Ok(true);
         }
-        seat.knows();
-        match tree.restart_child(rt, alloc, table, seat, loaded, child.supervisor, child.id) {
+        access.knows();
+        match tree.restart_child(rt, alloc, access, loaded, child.supervisor, child.id) {
             Ok(stays) => Ok(stays),
             Err(error) => Err(NotRestarted {
                 error,

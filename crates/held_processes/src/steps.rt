@@ -15,10 +15,11 @@ ghost use Rattle.proc_history.specs.Events.Event.{loaded};
 use crate::held_process::{HeldProcess, Hold};
 use erl_term::Term;
 use mod_table::{Old, Worker};
-use proc_table::{Entry, HandlerSeat, Pid, ProcTable, Standing, Value};
+use proc_table::{Entry, Pid, Standing, Value};
 use std::alloc::{AllocError, Global};
 use std::mem;
 use std::sync::Wait;
+use table_access::{Seating, TableAccess};
 
 /// What is done to a process, for which it is held if it isn't yet.
 #[derive(Clone, Copy)]
@@ -38,157 +39,139 @@ pub struct Undone {
 }
 
 /// Carries out a step on the process of the slot.
-pub(crate) fn perform<R: Wait>(
+pub(crate) fn perform<R: Wait, S: Seating>(
     rt: &R,
-    table: &ProcTable,
-    seat: &mut HandlerSeat,
+    access: &mut TableAccess<'_, S>,
     pid: Pid,
     place: &mut Option<HeldProcess>,
     step: Step<'_>,
 ) -> Result<(), AllocError>
     ghost past: { SlotPast }
-    requires table { seat.old.table ≡ table.now }
-    requires followed { IsFollowed past pid.slot past.course seat.old.view place.old }
-    ensures table { seat.new.table ≡ seat.old.table }
+    requires followed { IsFollowed past pid.slot past.course access.old place.old }
     ensures done { StepsBy past pid.slot (operation_of step.entry)
-        seat.old.view result place.new seat.new.view }
+        access.old result place.new access.new }
     ensures failed { OnErr result (takes_memory step.entry past.course.hold ≡ true) }
-    ensures longer { AreLonger seat.old.view seat.new.view }
+    ensures longer { AreLonger access.old access.new }
 {
     match step {
-        Step::Suspend(alloc) => suspend(rt, alloc, table, seat, pid, place),
-        Step::Load(alloc, worker, keep) => load(rt, alloc, table, seat, pid, place, worker, keep),
-        Step::Stop => Ok(stop(rt, table, seat, pid, place)),
-        Step::Start => Ok(start(rt, table, seat, pid, place)),
+        Step::Suspend(alloc) => suspend(rt, alloc, access, pid, place),
+        Step::Load(alloc, worker, keep) => load(rt, alloc, access, pid, place, worker, keep),
+        Step::Stop => Ok(stop(rt, access, pid, place)),
+        Step::Start => Ok(start(rt, access, pid, place)),
     }
 }
 
-fn suspend<R: Wait>(
+fn suspend<R: Wait, S: Seating>(
     rt: &R,
     alloc: Global,
-    table: &ProcTable,
-    seat: &mut HandlerSeat,
+    access: &mut TableAccess<'_, S>,
     pid: Pid,
     place: &mut Option<HeldProcess>,
 ) -> Result<(), AllocError>
     ghost past: { SlotPast }
-    requires table { seat.old.table ≡ table.now }
-    requires followed { IsFollowed past pid.slot past.course seat.old.view place.old }
-    ensures table { seat.new.table ≡ seat.old.table }
-    ensures done { StepsBy past pid.slot suspend seat.old.view result place.new seat.new.view }
+    requires followed { IsFollowed past pid.slot past.course access.old place.old }
+    ensures done { StepsBy past pid.slot suspend access.old result place.new access.new }
     ensures free { OnErr result (not (is_held past.course.hold) ≡ true) }
-    ensures longer { AreLonger seat.old.view seat.new.view }
+    ensures longer { AreLonger access.old access.new }
 {
     match place {
         Some(process) => process.hold = Hold::UntilResumed,
         None => {
-            let process = HeldProcess::take(rt, alloc, table, seat, pid, Hold::UntilResumed)?;
+            let process = HeldProcess::take(rt, alloc, access, pid, Hold::UntilResumed)?;
             put(place, process);
         }
     }
     Ok(())
 }
 
-fn load<R: Wait>(
+fn load<R: Wait, S: Seating>(
     rt: &R,
     alloc: Global,
-    table: &ProcTable,
-    seat: &mut HandlerSeat,
+    access: &mut TableAccess<'_, S>,
     pid: Pid,
     place: &mut Option<HeldProcess>,
     worker: &Worker,
     keep: bool,
 ) -> Result<(), AllocError>
     ghost past: { SlotPast }
-    requires table { seat.old.table ≡ table.now }
-    requires followed { IsFollowed past pid.slot past.course seat.old.view place.old }
-    ensures table { seat.new.table ≡ seat.old.table }
+    requires followed { IsFollowed past pid.slot past.course access.old place.old }
     ensures done { StepsBy past pid.slot (load keep worker.now)
-        seat.old.view result place.new seat.new.view }
-    ensures longer { AreLonger seat.old.view seat.new.view }
+        access.old result place.new access.new }
+    ensures longer { AreLonger access.old access.new }
 {
     let copy = worker.copy(alloc)?;
     match place {
         Some(process) => process.held.load(copy),
         None if keep => {
-            let mut process = HeldProcess::take(rt, alloc, table, seat, pid, Hold::UntilPoint)?;
+            let mut process = HeldProcess::take(rt, alloc, access, pid, Hold::UntilPoint)?;
             process.held.load(copy);
             put(place, process);
         }
-        None => load_alone(rt, table, seat, pid, worker, copy),
+        None => load_alone(rt, access, pid, worker, copy),
     }
     Ok(())
 }
 
 // The table of a process that isn't held, and its copy.
-fn load_alone<R: Wait>(
+fn load_alone<R: Wait, S: Seating>(
     rt: &R,
-    table: &ProcTable,
-    seat: &mut HandlerSeat,
+    access: &mut TableAccess<'_, S>,
     pid: Pid,
     worker: &Worker,
     copy: Worker,
 )
     ghost past: { SlotPast }
-    requires table { seat.old.table ≡ table.now }
-    requires free { IsFollowed past pid.slot past.course seat.old.view None }
+    requires free { IsFollowed past pid.slot past.course access.old None }
     requires same { copy ≡ worker.now }
-    ensures table { seat.new.table ≡ seat.old.table }
     ensures done { Steps past pid.slot (add_alone (loaded worker.now) past.course)
-        seat.old.view None seat.new.view }
-    ensures longer { AreLonger seat.old.view seat.new.view }
+        access.old None access.new }
+    ensures longer { AreLonger access.old access.new }
 {
-    let mut held = table.hold(rt, seat, pid);
+    let mut held = access.hold(rt, pid);
     held.load(copy);
-    table.release(seat, held, &[Entry::Loaded(worker)]);
+    access.release(held, &[Entry::Loaded(worker)]);
 }
 
-fn stop<R: Wait>(
+fn stop<R: Wait, S: Seating>(
     rt: &R,
-    table: &ProcTable,
-    seat: &mut HandlerSeat,
+    access: &mut TableAccess<'_, S>,
     pid: Pid,
     place: &mut Option<HeldProcess>,
 )
     ghost past: { SlotPast }
-    requires table { seat.old.table ≡ table.now }
-    requires followed { IsFollowed past pid.slot past.course seat.old.view place.old }
-    ensures table { seat.new.table ≡ seat.old.table }
+    requires followed { IsFollowed past pid.slot past.course access.old place.old }
     ensures done { Steps past pid.slot (course_after stop past.course)
-        seat.old.view place.new seat.new.view }
-    ensures longer { AreLonger seat.old.view seat.new.view }
+        access.old place.new access.new }
+    ensures longer { AreLonger access.old access.new }
 {
     match place {
         Some(process) => process.held.stop(),
         None => {
-            let mut held = table.hold(rt, seat, pid);
+            let mut held = access.hold(rt, pid);
             held.stop();
-            table.let_go(seat, held);
+            access.let_go(held);
         }
     }
 }
 
-fn start<R: Wait>(
+fn start<R: Wait, S: Seating>(
     rt: &R,
-    table: &ProcTable,
-    seat: &mut HandlerSeat,
+    access: &mut TableAccess<'_, S>,
     pid: Pid,
     place: &mut Option<HeldProcess>,
 )
     ghost past: { SlotPast }
-    requires table { seat.old.table ≡ table.now }
-    requires followed { IsFollowed past pid.slot past.course seat.old.view place.old }
-    ensures table { seat.new.table ≡ seat.old.table }
+    requires followed { IsFollowed past pid.slot past.course access.old place.old }
     ensures done { Steps past pid.slot (course_after start past.course)
-        seat.old.view place.new seat.new.view }
-    ensures longer { AreLonger seat.old.view seat.new.view }
+        access.old place.new access.new }
+    ensures longer { AreLonger access.old access.new }
 {
     match place {
         Some(process) => process.held.start(),
         None => {
-            let mut held = table.hold(rt, seat, pid);
+            let mut held = access.hold(rt, pid);
             held.start();
-            table.let_go(seat, held);
+            access.let_go(held);
         }
     }
 }
@@ -204,29 +187,26 @@ pub(crate) fn change(place: &mut Option<HeldProcess>, old: &Old, extra: &Term) -
 }
 
 /// Whether the process of the slot is up. One that isn't held is held for the look alone.
-pub(crate) fn is_up<R: Wait>(
+pub(crate) fn is_up<R: Wait, S: Seating>(
     rt: &R,
-    table: &ProcTable,
-    seat: &mut HandlerSeat,
+    access: &mut TableAccess<'_, S>,
     pid: Pid,
     place: &Option<HeldProcess>,
 ) -> bool
     ghost past: { SlotPast }
-    requires table { seat.old.table ≡ table.now }
-    requires followed { IsFollowed past pid.slot past.course seat.old.view place.now }
-    ensures table { seat.new.table ≡ seat.old.table }
-    ensures followed { Steps past pid.slot past.course seat.old.view place.now seat.new.view }
+    requires followed { IsFollowed past pid.slot past.course access.old place.now }
+    ensures followed { Steps past pid.slot past.course access.old place.now access.new }
     ensures reported { result ≡ is_some
-        (up_at (value_with (seen seat.new.view pid.slot) past.course).now) }
-    ensures looked { IsLookedAt past pid.slot seat.old.view seat.new.view }
-    ensures longer { AreLonger seat.old.view seat.new.view }
+        (up_at (value_with (seen access.new pid.slot) past.course).now) }
+    ensures looked { IsLookedAt past pid.slot access.old access.new }
+    ensures longer { AreLonger access.old access.new }
 {
     match place {
         Some(process) => is_up_in(process.held.value()),
         None => {
-            let held = table.hold(rt, seat, pid);
+            let held = access.hold(rt, pid);
             let up = is_up_in(held.value());
-            table.release(seat, held, &[]);
+            access.release(held, &[]);
             up
         }
     }
@@ -242,46 +222,40 @@ fn is_up_in(value: &Value) -> bool
 }
 
 /// Lets the process go, if it is held.
-pub(crate) fn let_go(
-    table: &ProcTable,
-    seat: &mut HandlerSeat,
+pub(crate) fn let_go<S: Seating>(
+    access: &mut TableAccess<'_, S>,
     slot: usize,
     place: &mut Option<HeldProcess>,
 )
     ghost past: { SlotPast }
-    requires table { seat.old.table ≡ table.now }
-    requires followed { IsFollowed past slot past.course seat.old.view place.old }
-    ensures table { seat.new.table ≡ seat.old.table }
+    requires followed { IsFollowed past slot past.course access.old place.old }
     ensures done { Steps past slot (course_after resume past.course)
-        seat.old.view place.new seat.new.view }
-    ensures longer { AreLonger seat.old.view seat.new.view }
+        access.old place.new access.new }
+    ensures longer { AreLonger access.old access.new }
 {
     match place.take() {
-        Some(process) => process.let_go(table, seat),
+        Some(process) => process.let_go(access),
         None => {}
     }
 }
 
 /// The process is given up, and let go, if it is held.
-pub(crate) fn give_up(
-    table: &ProcTable,
-    seat: &mut HandlerSeat,
+pub(crate) fn give_up<S: Seating>(
+    access: &mut TableAccess<'_, S>,
     slot: usize,
     place: &mut Option<HeldProcess>,
 )
     ghost past: { SlotPast }
-    requires table { seat.old.table ≡ table.now }
-    requires followed { IsFollowed past slot past.course seat.old.view place.old }
-    ensures table { seat.new.table ≡ seat.old.table }
+    requires followed { IsFollowed past slot past.course access.old place.old }
     ensures done { Steps past slot
         (if_held past.course.hold (course_after give_up past.course) past.course)
-        seat.old.view place.new seat.new.view }
-    ensures longer { AreLonger seat.old.view seat.new.view }
+        access.old place.new access.new }
+    ensures longer { AreLonger access.old access.new }
 {
     match place.take() {
         Some(mut process) => {
             process.held.give_up();
-            process.let_go(table, seat);
+            process.let_go(access);
         }
         None => {}
     }

@@ -32,9 +32,11 @@ use rel_files::{App, RelApp, StartType};
 use rel_handler::Handler;
 use rel_list::ListedRelease;
 use std::alloc::{AllocError, Global};
+use std::marker::Brand;
 use std::rc::Rc;
 use std::sync::Wait;
 use sup_tree::{StartError, Tree};
+use table_access::{Lent, Seating, TableAccess};
 
 /// What was started: the applications, and the modules that are loaded.
 #[derive(Drop)]
@@ -119,68 +121,94 @@ fn start_release<R: Wait>(
         tree: Tree::new(alloc),
         loaded: Loaded::of(alloc, libraries)?,
     };
-    started.start_apps(rt, alloc, table, seat, apps, libraries)?;
+    let mut done = Err(AllocError);
+    let lent = Lent { table, seat };
+    let _ = start_apps_at::<R, Brand>(rt, alloc, lent, &mut started, apps, libraries, &mut done);
+    done?;
     Ok(started)
+}
+
+// Starts those of the applications that a boot starts, at the table that is lent.
+fn start_apps_at<'t, R: Wait, S: Seating>(
+    rt: &R,
+    alloc: Global,
+    lent: Lent<'t>,
+    started: &mut Started,
+    apps: &[RelApp],
+    libraries: &[Rc<Library>],
+    done: &mut Result<(), AllocError>,
+) -> &'t mut HandlerSeat
+    requires name { lent.seat.ghost_name ≡ S.name }
+    requires table { (lent.seat.now.table ≡ S.table) × (lent.table.now ≡ S.table) }
+    requires alone { IsAlone lent.seat.now.view }
+    requires ready { AreReady (tables_of (modules_in started.old.loaded))
+        (started_parts (parts (map application_of apps.now) (map shared_of libraries.now)))
+        started.old.tree lent.seat.now.view }
+    ensures name { result.ghost_name ≡ S.name }
+    ensures table { result.now.table ≡ S.table }
+    ensures alone { IsAlone result.now.view }
+    ensures loaded { started.new.loaded ≡ started.old.loaded }
+    ensures started { OnOk done.new (StartedAll (tables_of (modules_in started.old.loaded))
+        (started_parts (parts (map application_of apps.now) (map shared_of libraries.now)))
+        started.old.tree lent.entry.seat.now.view started.new.tree result.now.view) }
+{
+    let mut access: TableAccess<'t, S> = TableAccess::new(lent);
+    *done = started.start_apps(rt, alloc, &mut access, apps, libraries);
+    access.into_seat()
 }
 
 impl Started {
     // Starts those of the applications that a boot starts, in order.
-    fn start_apps<R: Wait>(
+    fn start_apps<R: Wait, S: Seating>(
         &mut self,
         rt: &R,
         alloc: Global,
-        table: &ProcTable,
-        seat: &mut HandlerSeat,
+        access: &mut TableAccess<'_, S>,
         apps: &[RelApp],
         libraries: &[Rc<Library>],
     ) -> Result<(), AllocError>
-        requires table { seat.old.table ≡ table.now }
-        requires alone { IsAlone seat.old.view }
+        requires alone { IsAlone access.old }
         requires ready { AreReady (tables_of (modules_in self.old.loaded))
             (started_parts (parts (map application_of apps.now) (map shared_of libraries.now)))
-            self.old.tree seat.old.view }
-        ensures table { seat.new.table ≡ table.now }
-        ensures alone { IsAlone seat.new.view }
+            self.old.tree access.old }
+        ensures alone { IsAlone access.new }
         ensures loaded { self.new.loaded ≡ self.old.loaded }
         ensures started { OnOk result (StartedAll (tables_of (modules_in self.old.loaded))
             (started_parts (parts (map application_of apps.now) (map shared_of libraries.now)))
-            self.old.tree seat.old.view self.new.tree seat.new.view) }
+            self.old.tree access.old self.new.tree access.new) }
     {
         for place in 0..apps.len().min(libraries.len()) {
             let library = libraries[place].as_ref();
             if starts(apps[place].start) {
-                self.start_app(rt, alloc, table, seat, &library.app)?;
+                self.start_app(rt, alloc, access, &library.app)?;
             }
         }
         Ok(())
     }
 
     // Starts an application that can start.
-    fn start_app<R: Wait>(
+    fn start_app<R: Wait, S: Seating>(
         &mut self,
         rt: &R,
         alloc: Global,
-        table: &ProcTable,
-        seat: &mut HandlerSeat,
+        access: &mut TableAccess<'_, S>,
         app: &App,
     ) -> Result<(), AllocError>
-        requires table { seat.old.table ≡ table.now }
-        requires alone { IsAlone seat.old.view }
+        requires alone { IsAlone access.old }
         requires new { app_named (specification_of app.now).name self.old.tree ≡ None }
         requires fault { app_fault (tables_of (modules_in self.old.loaded))
             (specification_of app.now).top ≡ None }
         requires room { length (app_starts (tables_of (modules_in self.old.loaded))
-            (specification_of app.now).top) ≤ free_count seat.old.view }
-        ensures table { seat.new.table ≡ table.now }
-        ensures alone { IsAlone seat.new.view }
+            (specification_of app.now).top) ≤ free_count access.old }
+        ensures alone { IsAlone access.new }
         ensures loaded { self.new.loaded ≡ self.old.loaded }
         ensures started { OnOk result (AppStarted (specification_of app.now).name
             (specification_of app.now).top (tables_of (modules_in self.old.loaded))
-            self.old.tree seat.old.view self.new.tree seat.new.view) }
+            self.old.tree access.old self.new.tree access.new) }
     {
         match self
             .tree
-            .start_app(rt, alloc, table, seat, app, &self.loaded)
+            .start_app(rt, alloc, access, app, &self.loaded)
         {
             Ok(()) => Ok(()),
             Err(StartError::NoMemory) => Err(AllocError),

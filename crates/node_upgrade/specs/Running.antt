@@ -6,7 +6,9 @@ use Rattle.relup_exec.specs.Following.{AreUntouched}
 use Rattle.relup_exec.specs.Outcome.{IsBroken, IsFinished, IsRefused, Start}
 use Rattle.relup_exec.specs.Fault.{Cause}
 use Rattle.relup_exec.specs.Fault.Cause.{no_memory}
-use Rattle.loaded_modules.specs.Loaded.{NamedModules}
+use Rattle.relup_exec.specs.declared.site.Site.{Site}
+use Rattle.relup_exec.specs.Sites.{view_in}
+use Rattle.loaded_modules.specs.Loaded.{NamedModules, listed_in}
 use Rattle.relup_exec.specs.Tree.{App}
 use Rattle.node_command.specs.declared.error.HandlerError.TheVariants as command
 use Rattle.node_upgrade.specs.declared.error.InstallError.{InstallError}
@@ -25,6 +27,10 @@ pub record NodeState : Type 0 where
 
 abbrev pub state : View → List App → NamedModules → NodeState
 state v apps modules = record { view = v; apps = apps; modules = modules }
+
+-- the processes of a site, what is started there and what is loaded
+abbrev pub state_in : Site → NodeState
+state_in s = state (view_in s) s.tree.now (listed_in s.loaded.now)
 
 abbrev pub start_in : NodeState → Start
 start_in n = record { first = n.view; apps = n.apps }

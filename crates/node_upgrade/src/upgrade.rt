@@ -1,13 +1,14 @@
 //! The script by which a release is installed.
-ghost use Rattle.std.specs.Prelude.{◌≡◌, IfErr, IfOk};
+ghost use Rattle.std.specs.Prelude.{◌≡◌, IfErr, IfOk, OnOk};
 ghost use Rattle.std.specs.Option.{option_map, option_copied};
 ghost use Rattle.relup_exec.specs.Following.{HoldsNothing};
 ghost use Rattle.node_upgrade.specs.Failure.{failure_of};
 ghost use Rattle.node_upgrade.specs.InMemory.{upgrade_of};
-ghost use Rattle.node_upgrade.specs.Running.{IsInstalled, RunRefused, ReportsRefusal, start_in, state};
+ghost use Rattle.node_upgrade.specs.Running.{IsCarriedOut, IsInstalled, RunRefused, ReportsRefusal, start_in, state, state_in};
 ghost use Rattle.node_upgrade.specs.Upgrade.{IsNoUpgrade, IsUpgrade, changes_emulator, erts_of, script_failure, site_for};
 ghost use Rattle.rel_files.specs.Release.{release_of};
-ghost use Rattle.relup_exec.specs.Outcome.{IsFinished, Start};
+ghost use Rattle.relup_exec.specs.Outcome.{Start};
+ghost use Rattle.relup_exec.specs.Sites.{IsSeated, LendsSame, site_in, view_in};
 ghost use Rattle.relup_file.specs.Script.{IsRunnable, restarts};
 ghost use Rattle.relup_file.specs.Search.{found_of};
 ghost use Rattle.relup_exec.specs.InMemory.{cause_of};
@@ -22,7 +23,7 @@ use node_command::{HandlerError, find_installation};
 use proc_table::{HandlerSeat, Name, ProcTable};
 use rel_files::Rel;
 use rel_list::ReleaseList;
-use relup_exec::{Cause, Failed, Refused, Site, Tree, run_before};
+use relup_exec::{Cause, Done, Failed, Refused, Site, Tree, run_before};
 use relup_file::{Found, check, restarts};
 use std::alloc::Global;
 use std::rc::Rc;
@@ -132,13 +133,49 @@ impl Upgrade<'_> {
             (state seat.old.view tree.old (listed_in loaded.old))
             (state seat.new.view tree.new (listed_in loaded.new))) }
     {
+        let mut site = Site {
+            table,
+            seat,
+            tree,
+            loaded,
+            target: self.target,
+            list: self.list,
+        };
+        let result = self.install(rt, alloc, &mut site);
+        give_back(site);
+        result
+    }
+
+    // Carries the script out where it runs, with the memory for the answer taken before.
+    fn install<R: Wait>(
+        self,
+        rt: &R,
+        alloc: Global,
+        site: &mut Site<'_>,
+    ) -> Result<Installed, InstallError>
+        requires seated { IsSeated site.old }
+        requires sources { site_in site.old
+            ≡ site_for (upgrade_of self) (listed_in site.old.loaded.now) }
+        requires free { HoldsNothing (view_in site.old) }
+        requires runnable { IsRunnable (upgrade_of self).found.script }
+        ensures table { site.new.table.now ≡ site.old.table.now }
+        ensures seat { site.new.seat.ghost_name ≡ site.old.seat.ghost_name }
+        ensures tree { site.new.tree.ghost_name ≡ site.old.tree.ghost_name }
+        ensures loaded { site.new.loaded.ghost_name ≡ site.old.loaded.ghost_name }
+        ensures seated { IsSeated site.new }
+        ensures free { HoldsNothing (view_in site.new) }
+        ensures lent { (view_in site.new).lent ≡ (view_in site.old).lent }
+        ensures installed { IfOk result (λ i. IsInstalled (upgrade_of self.entry)
+            (state_in site.old) i (state_in site.new)) }
+        ensures refused { IfErr result (RunRefused (upgrade_of self.entry)
+            (state_in site.old) (state_in site.new)) }
+    {
         let other = String::from_str(alloc, self.found.other)?;
         let descr = self.found.descr.clone()?;
         let target = Loaded::of(alloc, self.target)?;
-        let mut stale = names_concerned(alloc, loaded, &target, self.found.script)?;
-        let next = self.carry_out(rt, alloc, table, seat, tree, loaded)?;
-        keep_stale(&mut stale, &next, &target);
-        *loaded = next;
+        let mut stale = names_concerned(alloc, &*site.loaded, &target, self.found.script)?;
+        self.carry_out(rt, alloc, site)?;
+        keep_stale(&mut stale, &*site.loaded, &target);
         Ok(Installed {
             other,
             descr,
@@ -146,43 +183,32 @@ impl Upgrade<'_> {
         })
     }
 
-    // Carries the script out, and answers what is loaded then. What the handler had seen and what was started at first is known
-    // to the proof.
+    // Carries the script out. What the handler had seen and what was started at first is known to the proof.
     fn carry_out<R: Wait>(
         self,
         rt: &R,
         alloc: Global,
-        table: &ProcTable,
-        seat: &mut HandlerSeat,
-        tree: &mut Tree,
-        loaded: &Loaded,
-    ) -> Result<Loaded, InstallError>
+        site: &mut Site<'_>,
+    ) -> Result<(), InstallError>
         ghost start: { Start }
-        requires start { start ≡ start_in (state seat.old.view tree.old (listed_in loaded.now)) }
-        requires table { seat.old.table ≡ table.now }
-        requires free { HoldsNothing seat.old.view }
+        requires start { start ≡ start_in (state_in site.old) }
+        requires seated { IsSeated site.old }
+        requires sources { site_in site.old
+            ≡ site_for (upgrade_of self) (listed_in site.old.loaded.now) }
+        requires free { HoldsNothing (view_in site.old) }
         requires runnable { IsRunnable (upgrade_of self).found.script }
-        ensures table { seat.new.table ≡ seat.old.table }
-        ensures free { HoldsNothing seat.new.view }
-        ensures lent { seat.new.view.lent ≡ seat.old.view.lent }
-        ensures finished { IfOk result (λ next. IsFinished
-            (site_for (upgrade_of self.entry) (listed_in loaded.now))
-            (start_in (state seat.old.view tree.old (listed_in loaded.now)))
-            (upgrade_of self.entry).found.script (listed_in next) tree.new seat.new.view) }
+        ensures same { LendsSame site.old site.new }
+        ensures seated { IsSeated site.new }
+        ensures free { HoldsNothing (view_in site.new) }
+        ensures lent { (view_in site.new).lent ≡ (view_in site.old).lent }
+        ensures finished { OnOk result (IsCarriedOut (upgrade_of self.entry)
+            (state_in site.old) (state_in site.new)) }
         ensures refused { IfErr result (RunRefused (upgrade_of self.entry)
-            (state seat.old.view tree.old (listed_in loaded.now))
-            (state seat.new.view tree.new (listed_in loaded.now))) }
+            (state_in site.old) (state_in site.new)) }
     {
-        let script = self.found.script;
-        let site = Site {
-            table,
-            list: self.list,
-            target: self.target,
-            loaded,
-        };
-        match run_before(rt, alloc, &site, seat, tree, script) {
-            Ok(armed) => match armed.run_after(rt, alloc, &site, seat, tree, script) {
-                Ok(next) => Ok(next),
+        match run_before(rt, alloc, site, self.found.script) {
+            Ok(armed) => match armed.run_after(rt, alloc, site) {
+                Ok(Done) => Ok(()),
                 Err(Failed { instr, cause }) => Err(InstallError::MustReboot(ScriptFailure {
                     instr,
                     why: Why::Fails(cause),
@@ -191,6 +217,22 @@ impl Upgrade<'_> {
             Err(Refused { instr, cause }) => Err(refusal(instr, cause)),
         }
     }
+}
+
+// What a site lent is free again, as it stands there.
+fn give_back(site: Site<'_>)
+    ensures seat { site.exit.1.0.now ≡ site.entry.seat.now }
+    ensures tree { site.exit.1.1.0.now ≡ site.entry.tree.now }
+    ensures loaded { site.exit.1.1.1.0.now ≡ site.entry.loaded.now }
+{
+    let Site {
+        table: _table,
+        seat: _seat,
+        tree: _tree,
+        loaded: _loaded,
+        target: _target,
+        list: _list,
+    } = site;
 }
 
 // What is reported of an instruction before the point of no return that fails. Out of memory is reported as `NoMemory`.

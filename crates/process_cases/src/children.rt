@@ -1,13 +1,11 @@
 //! The members of started applications, and supervisors whose children change.
-ghost use Rattle.std.specs.Prelude.{◌≡◌};
-
 use crate::processes::push_pid;
 use loaded_modules::Loaded;
 use mod_table::Table;
-use proc_table::{HandlerSeat, ProcTable};
 use std::alloc::Global;
 use std::sync::Wait;
 use sup_tree::{MemberState, Tree};
+use table_access::{Seating, TableAccess};
 use text_cases::{Answer, first_word};
 
 /// Appends what comes of a step on the members of applications.
@@ -38,31 +36,27 @@ pub(crate) fn step_of_children(
 
 /// Appends what comes of a step on one child: `terminate MODULE ID`, `delete MODULE ID` and `restart MODULE ID`. The last two
 /// answer `nothing` where nothing was done.
-pub(crate) fn step_of_child<R: Wait>(
+pub(crate) fn step_of_child<R: Wait, S: Seating>(
     rt: &R,
     alloc: Global,
+    access: &mut TableAccess<'_, S>,
     loaded: &Loaded,
-    table: &ProcTable,
-    seat: &mut HandlerSeat,
     tree: &mut Tree,
     word: &str,
     child: &str,
     answer: &mut Answer,
-)
-    requires { seat.old.table ≡ table.now }
-    ensures { seat.new.table ≡ seat.old.table }
-{
+) {
     let (module, id) = first_word(child);
     match word {
-        "terminate" => match tree.terminate_child(rt, table, seat, module, id) {
+        "terminate" => match tree.terminate_child(rt, access, module, id) {
             Ok(()) => answer.push("ok"),
             Err(error) => answer.push_shown(&error),
         },
-        "delete" => match tree.delete_child(rt, table, seat, module, id) {
+        "delete" => match tree.delete_child(rt, access, module, id) {
             Ok(nothing) => push_done(nothing, answer),
             Err(error) => answer.push_shown(&error),
         },
-        _ => match tree.restart_child(rt, alloc, table, seat, loaded, module, id) {
+        _ => match tree.restart_child(rt, alloc, access, loaded, module, id) {
             Ok(nothing) => push_done(nothing, answer),
             Err(error) => answer.push_shown(&error),
         },

@@ -11,9 +11,11 @@ use loaded_modules::Loaded;
 use proc_table::{HandlerSeat, ProcTable};
 use rel_files::parts::list_in;
 use std::alloc::{AllocError, Global};
+use std::marker::Brand;
 use std::rc::Rc;
 use std::sync::Wait;
 use sup_tree::{StartError, Tree};
+use table_access::{Lent, Seating, TableAccess};
 use text_cases::{Answer, first_word, number};
 
 /// Appends what steps at a new table and a new tree answer, with `; ` between them as between the steps. The text is the list of
@@ -115,11 +117,10 @@ fn step_of_apps<R: Wait>(
 {
     let (word, rest) = first_word(step);
     match word {
-        "start" => push_start(rt, alloc, libraries, apps, table, seat, rest, answer),
-        "stop" => match apps.tree.stop_app(rt, table, seat, rest) {
-            Ok(()) => answer.push("ok"),
-            Err(error) => answer.push_shown(&error),
-        },
+        "start" | "stop" | "terminate" | "delete" | "restart" => {
+            let step = Step { word, rest };
+            change_processes(rt, alloc, libraries, apps, table, seat, &step, answer);
+        }
         "fetch" | "load" | "remove" | "copy" => change_loaded(
             alloc,
             libraries,
@@ -131,17 +132,6 @@ fn step_of_apps<R: Wait>(
         "members" | "change" => {
             step_of_children(alloc, &apps.loaded, &mut apps.tree, word, rest, answer);
         }
-        "terminate" | "delete" | "restart" => step_of_child(
-            rt,
-            alloc,
-            &apps.loaded,
-            table,
-            seat,
-            &mut apps.tree,
-            word,
-            rest,
-            answer,
-        ),
         "vsn" | "versions" => push_loaded(alloc, &apps.loaded, word, rest, answer),
         "find" | "using" | "in" | "supervises" => {
             push_found(alloc, &apps.tree, word, rest, answer);
@@ -150,24 +140,92 @@ fn step_of_apps<R: Wait>(
     }
 }
 
-fn push_start<R: Wait>(
+// A step on applications or children, and what it names.
+#[derive(Clone, Copy)]
+struct Step<'a> {
+    word: &'a str,
+    rest: &'a str,
+}
+
+// A step that begins processes, or gives them up.
+fn change_processes<R: Wait>(
     rt: &R,
     alloc: Global,
     libraries: &[Rc<Library>],
     apps: &mut Apps,
     table: &ProcTable,
     seat: &mut HandlerSeat,
-    name: &str,
+    step: &Step<'_>,
     answer: &mut Answer,
 )
     requires { seat.old.table ≡ table.now }
     ensures { seat.new.table ≡ seat.old.table }
 {
+    let lent = Lent { table, seat };
+    let _ = change_processes_at::<R, Brand>(rt, alloc, libraries, apps, lent, step, answer);
+}
+
+fn change_processes_at<'t, R: Wait, S: Seating>(
+    rt: &R,
+    alloc: Global,
+    libraries: &[Rc<Library>],
+    apps: &mut Apps,
+    lent: Lent<'t>,
+    step: &Step<'_>,
+    answer: &mut Answer,
+) -> &'t mut HandlerSeat
+    requires name { lent.seat.ghost_name ≡ S.name }
+    requires table { (lent.seat.now.table ≡ S.table) × (lent.table.now ≡ S.table) }
+    ensures name { result.ghost_name ≡ S.name }
+    ensures table { result.now.table ≡ S.table }
+{
+    let mut access: TableAccess<'t, S> = TableAccess::new(lent);
+    push_changed(rt, alloc, libraries, apps, &mut access, step, answer);
+    access.into_seat()
+}
+
+fn push_changed<R: Wait, S: Seating>(
+    rt: &R,
+    alloc: Global,
+    libraries: &[Rc<Library>],
+    apps: &mut Apps,
+    access: &mut TableAccess<'_, S>,
+    step: &Step<'_>,
+    answer: &mut Answer,
+) {
+    match step.word {
+        "start" => push_start(rt, alloc, libraries, apps, access, step.rest, answer),
+        "stop" => match apps.tree.stop_app(rt, access, step.rest) {
+            Ok(()) => answer.push("ok"),
+            Err(error) => answer.push_shown(&error),
+        },
+        _ => step_of_child(
+            rt,
+            alloc,
+            access,
+            &apps.loaded,
+            &mut apps.tree,
+            step.word,
+            step.rest,
+            answer,
+        ),
+    }
+}
+
+fn push_start<R: Wait, S: Seating>(
+    rt: &R,
+    alloc: Global,
+    libraries: &[Rc<Library>],
+    apps: &mut Apps,
+    access: &mut TableAccess<'_, S>,
+    name: &str,
+    answer: &mut Answer,
+) {
     for library in libraries {
         if library.app.name.as_str() == name {
             match apps
                 .tree
-                .start_app(rt, alloc, table, seat, &library.app, &apps.loaded)
+                .start_app(rt, alloc, access, &library.app, &apps.loaded)
             {
                 Ok(()) => answer.push("ok"),
                 Err(StartError::NoTable(module)) => answer.push_after("NoTable ", module),

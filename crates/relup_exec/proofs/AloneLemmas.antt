@@ -12,13 +12,14 @@ use Rattle.relup_instruction.specs.declared.instruction.Direction.{Direction}
 use Rattle.relup_instruction.specs.Instruction.{ChangeForm, Instruction}
 use Rattle.relup_instruction.specs.Instruction.Instruction.{apply, code_change, point_of_no_return, remove}
 use Rattle.relup_file.specs.Script.{is_error, is_point}
+use Rattle.started_members.specs.declared.looks.Kept.{Kept}
 use Rattle.started_members.specs.declared.looks.Stay.{Stay}
 use Rattle.started_members.specs.declared.looks.Stay.TheVariants.{Up, UpOrTemporary}
 use Rattle.started_members.specs.declared.member.MemberState.{MemberState}
 use Rattle.started_members.specs.declared.member.MemberState.TheVariants.{Ended, Process, Supervisor}
 use Rattle.started_members.specs.Places.{Place}
 use Rattle.sup_tree.specs.Children.{child_place}
-use Rattle.started_members.specs.Looks.{process_stays}
+use Rattle.started_members.specs.Looks.{kept_at, process_stays}
 use Rattle.sup_tree.specs.Tree.{supervises}
 use Rattle.held_processes.specs.Children.{child_stays, state_stays}
 use Rattle.held_processes.specs.Course.{Courses, added, runs}
@@ -60,14 +61,14 @@ uses_alike name f g r same =
     any_alike _ _ slots (λ p inside. ap (λ x. runs name (modules_by_slot_in r p) && is_some (up_at (replay_from x (r.courses p).pending).now)) (same p inside))
 
 -- a child stays so by what is left in the slots
-state_alike : (stay : Stay) (f g : Values) (m : MemberState) → Alike f g → state_stays stay f m ≡ state_stays stay g m
-state_alike stay f g Ended same = refl
-state_alike stay f g (Process q) same = ap (process_stays stay q.pid) (same q.pid.slot q.pid.inside)
-state_alike stay f g (Supervisor m) same = refl
+state_alike : (kept : Kept) (f g : Values) (m : MemberState) → Alike f g → state_stays kept f m ≡ state_stays kept g m
+state_alike kept f g Ended same = refl
+state_alike kept f g (Process q) same = ap (process_stays kept q.pid) (same q.pid.slot q.pid.inside)
+state_alike kept f g (Supervisor m) same = refl
 
 pub place_alike : (stay : Stay) (f g : Values) (o : Option Place) → Alike f g → child_stays stay f o ≡ child_stays stay g o
 place_alike stay f g None same = refl
-place_alike stay f g (Some p) same = state_alike stay f g p.child.state same
+place_alike stay f g (Some p) same = state_alike (kept_at stay p.child.restart) f g p.child.state same
 
 pub now_alike : (f g : Values) (cs : Courses) → Alike f g → Alike (now_in f cs) (now_in g cs)
 now_alike f g cs same p inside = ap (λ x. replay_from x (cs p).pending) (same p inside)

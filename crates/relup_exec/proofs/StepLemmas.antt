@@ -1,5 +1,5 @@
 -- What a step leaves, of what its parts leave.
-use Rattle.std.proofs.Common.{◌≡◌, ℕ, ◌<◌, ◌+◌, ◌&&◌, ◌||◌, Bool, true, false, true≢false, not, is_some, List, [], ◌∷◌, ◌++◌, map, take, drop, length, get_or, if◌then◌else◌, nat_lt, refl, sym, ap, ap₂, subst, ◌∙◌, Option, Some, None, IsSome, unwrap_or, Result, Ok, Err, IsErrAnd, arith}
+use Rattle.std.proofs.Common.{◌≡◌, ℕ, zero, suc, ◌<◌, ◌+◌, ◌&&◌, ◌||◌, Bool, true, false, true≢false, not, is_some, List, [], ◌∷◌, ◌++◌, map, take, drop, length, get_or, if◌then◌else◌, nat_lt, refl, sym, ap, ap₂, subst, ◌∙◌, Option, Some, None, IsSome, unwrap_or, Result, Ok, Err, IsErrAnd, arith}
 use Rattle.library.specs.Library.{Library}
 use Rattle.worker_table.specs.Table.{OldVersion, WorkerTable}
 use Rattle.proc_history.specs.Changes.{finds_row}
@@ -63,6 +63,12 @@ suspended s past early ss (Err e) a tree hs v w done longer did = (
 names_of : (fs : List SuspensionForm) (f : SuspensionForm) (gs : List SuspensionForm) → suspended_in (fs ++ (f ∷ gs)) ≡ suspended_in fs ++ (f.name ∷ suspended_in gs)
 names_of [] f gs = refl
 names_of (g ∷ fs) f gs = ap (λ (ns : List (List ℕ)). g.name ∷ ns) (names_of fs f gs)
+
+-- the module that is suspended at this place
+pub suspended_at : (ss : List Suspension) (i : ℕ) (s : Suspension) → i < length ss → s ≡ get_or ss i s → get_or (suspended_in (map suspension_of ss)) i [] ≡ (suspension_of s).name
+suspended_at [] i s within at = absurd (omega (arith, within))
+suspended_at (t ∷ ss) zero s within at = ap (λ (x : Suspension). (suspension_of x).name) (sym at)
+suspended_at (t ∷ ss) (suc i) s within at = suspended_at ss i s (omega (arith, within)) at
 
 -- processes of one more module are suspended
 pub suspended_more : (ss : List Suspension) (i : ℕ) (s : Suspension) (users : ModulesBySlot) (cs : Courses) → i < length ss → s ≡ get_or ss i s

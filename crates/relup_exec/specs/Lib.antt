@@ -3,6 +3,7 @@ pub use Rattle.script_progress.specs.Fault
 pub use Rattle.script_progress.specs.Script
 pub use Rattle.sup_tree.specs.Tree
 pub mod Outcome
+pub mod Sites
 pub mod Alone
 pub mod InMemory
 pub mod Stepwise

@@ -1,23 +1,25 @@
 //! A script after its point of no return.
-ghost use Rattle.std.specs.Prelude.{◌≡◌, IfErr, IfOk, OnErr};
-ghost use Rattle.held_processes.specs.Course.{on_all};
-ghost use Rattle.held_processes.specs.Course.Operation.{finish, pass_point};
-ghost use Rattle.held_processes.specs.Following.{AllFollow, AreLeft, AreLonger, Followed};
+ghost use Rattle.std.specs.Prelude.{◌≡◌, IfErr, IfOk, OnErr, OnOk};
 ghost use Rattle.script_progress.specs.InMemory.{cause_of, site_of};
-ghost use Rattle.relup_exec.specs.Outcome.{IsArmed, IsBrokenFrom, IsFinishedFrom, Start};
-ghost use Rattle.relup_exec.specs.InMemory.{armed_of};
 ghost use Rattle.relup_instruction.specs.Instruction.{script_of};
+ghost use Rattle.relup_exec.specs.Outcome.{IsArmed, IsBrokenFrom, IsFinishedFrom, Start};
+ghost use Rattle.relup_exec.specs.InMemory.{armed_in, armed_of, script_in};
+ghost use Rattle.relup_exec.specs.Sites.{IsSeated, LendsSame, site_in, some_start, view_in};
 ghost use Rattle.loaded_modules.specs.Loaded.{listed_in};
 
 use crate::armed::Armed;
-use crate::{Cause, Failure, Progress, Site, carry_out_late};
-use held_processes::HeldProcesses;
-use loaded_modules::Loaded;
-use proc_table::HandlerSeat;
-use relup_instruction::Instr;
+use crate::script_run::{Ended, ScriptRun};
+use crate::{Cause, Site};
+use proc_table::{HandlerSeat, ProcTable};
+use script_progress::Sources;
 use std::alloc::Global;
+use std::marker::Brand;
 use std::sync::Wait;
-use sup_tree::Tree;
+use table_access::{Lent, Seating, TableAccess};
+
+/// A script was carried out to its end.
+#[derive(Clone, Copy)]
+pub struct Done;
 
 /// A script of which an instruction after the point of no return failed.
 #[derive(Drop)]
@@ -27,135 +29,148 @@ pub struct Failed {
     pub cause: Cause,
 }
 
-impl Armed {
-    /// Carries out the script from its point of no return on, and answers what is loaded then. The tree is that of what is
-    /// started then. Where an instruction fails, the tree stays, and what was held is let go with the changes made so far. No
-    /// instruction is judged by a view from before this call. It waits for processes that clients have.
+// From where a script started. It exists in the proofs alone.
+trait Beginning {
+    ghost start: { Start };
+}
+
+impl Beginning for Brand {
+    ghost start = { some_start };
+}
+
+impl Armed<'_> {
+    /// Carries out the script from its point of no return on. What is started and loaded then stands in the site. Where an
+    /// instruction fails, that stays as it was, and what was held is let go with the changes made so far. No instruction is
+    /// judged by a view from before this call. It waits for processes that clients have.
     pub fn run_after<R: Wait>(
         self,
         rt: &R,
         alloc: Global,
-        site: &Site<'_>,
-        seat: &mut HandlerSeat,
-        tree: &mut Tree,
-        script: &[Instr],
-    ) -> Result<Loaded, Failed>
+        site: &mut Site<'_>,
+    ) -> Result<Done, Failed>
         ghost start: { Start }
-        requires table { seat.old.table ≡ site.now.table.now }
-        requires armed { IsArmed (site_of site.now) start (script_of script.now)
-            (armed_of self) seat.old.view }
-        ensures table { seat.new.table ≡ seat.old.table }
-        ensures finished { IfOk result (λ loaded. IsFinishedFrom (site_of site.now) start
-            (script_of script.now) seat.old.view (listed_in loaded) tree.new seat.new.view) }
-        ensures broken { IfErr result (λ e. IsBrokenFrom (site_of site.now) start
-            (script_of script.now) seat.old.view e.instr (cause_of e.cause) seat.new.view) }
-        ensures kept { OnErr result (tree.new ≡ tree.old) }
+        requires seated { IsSeated site.old }
+        requires armed { IsArmed (site_in site.old) start (script_in self) (armed_of self)
+            (view_in site.old) }
+        ensures same { LendsSame site.old site.new }
+        ensures seated { IsSeated site.new }
+        ensures finished { OnOk result (IsFinishedFrom (site_in site.old) start
+            (script_in self.entry) (view_in site.old) (listed_in site.new.loaded.now)
+            site.new.tree.now (view_in site.new)) }
+        ensures broken { IfErr result (λ e. IsBrokenFrom (site_in site.old) start
+            (script_in self.entry) (view_in site.old) e.instr (cause_of e.cause)
+            (view_in site.new)) }
+        ensures kept { OnErr result ((site.new.tree.now ≡ site.old.tree.now)
+            × (listed_in site.new.loaded.now ≡ listed_in site.old.loaded.now)) }
     {
+        let sources = Sources {
+            list: site.list,
+            target: site.target,
+            loaded: &*site.loaded,
+        };
         let Armed {
+            script,
             place,
-            mut progress,
-            mut reported,
+            progress,
+            reported,
         } = self;
-        let_pass(site, seat, &mut progress.held, &script[..place]);
-        for i in place + 1..script.len() {
-            let before = &script[..i];
-            let instr = &script[i];
-            let done = carry_out_late(
-                &mut progress,
-                rt,
-                alloc,
-                site,
-                seat,
-                before,
-                reported.as_slice(),
-                instr,
-            );
-            match done {
-                Ok(stays) => reported.push_reserved(stays),
-                Err(failure) => {
-                    let Progress {
-                        held,
-                        fetched: _fetched,
-                        next: _next,
-                        tree: _tree,
-                    } = progress;
-                    close(
-                        held,
-                        site,
-                        seat,
-                        before,
-                        reported.as_slice(),
-                        instr,
-                        &failure,
-                    );
-                    let Failure { cause, .. } = failure;
-                    return Err(Failed {
-                        instr: i + 1,
-                        cause,
-                    });
-                }
+        let run = ScriptRun {
+            sources: &sources,
+            script,
+            done: place,
+            reported,
+            progress,
+        };
+        match run_late_with(rt, alloc, site.table, &mut *site.seat, run) {
+            Ok(Ended { tree, loaded }) => {
+                *site.tree = tree;
+                *site.loaded = loaded;
+                Ok(Done)
             }
+            Err(failed) => Err(failed),
         }
-        let Progress {
-            held,
-            fetched: _done,
-            next,
-            tree: started,
-        } = progress;
-        end(held, site, seat, script, reported.as_slice());
-        *tree = started;
-        Ok(next)
     }
 }
 
-// The point of no return: what is held for a load alone is let go. By the instructions before it the caller's proof names what
-// was done.
-fn let_pass(site: &Site<'_>, seat: &mut HandlerSeat, held: &mut HeldProcesses, _before: &[Instr])
-    ghost followed: { Followed }
-    requires table { seat.old.table ≡ site.now.table.now }
-    requires follow { AllFollow followed.first followed.courses held.old seat.old.view }
+// Carries out a script that has come to its point of no return, by this seat at its table.
+fn run_late_with<R: Wait>(
+    rt: &R,
+    alloc: Global,
+    table: &ProcTable,
+    seat: &mut HandlerSeat,
+    run: ScriptRun<'_>,
+) -> Result<Ended, Failed>
+    ghost start: { Start }
+    requires table { seat.old.table ≡ table.now }
+    requires armed { IsArmed (site_of run.sources.now) start (script_of run.script.now)
+        (armed_in run) seat.old.view }
     ensures table { seat.new.table ≡ seat.old.table }
-    ensures longer { AreLonger seat.old.view seat.new.view }
-    ensures passed { AllFollow followed.first (on_all pass_point followed.courses)
-        held.new seat.new.view }
+    ensures finished { IfOk result (λ e. IsFinishedFrom (site_of run.entry.sources.now) start
+        (script_of run.entry.script.now) seat.old.view (listed_in e.loaded) e.tree
+        seat.new.view) }
+    ensures broken { IfErr result (λ e. IsBrokenFrom (site_of run.entry.sources.now) start
+        (script_of run.entry.script.now) seat.old.view e.instr (cause_of e.cause)
+        seat.new.view) }
 {
-    held.pass_point(site.table, seat);
+    let mut ended = Err(Failed {
+        instr: 0,
+        cause: Cause::NoMemory,
+    });
+    let lent = Lent { table, seat };
+    let _ = run_late_at::<R, Brand, Brand>(rt, alloc, lent, run, &mut ended);
+    ended
 }
 
-// An instruction failed: what is still held is let go. By its arguments the caller's proof names what was done.
-fn close(
-    held: HeldProcesses,
-    site: &Site<'_>,
-    seat: &mut HandlerSeat,
-    _before: &[Instr],
-    _reported: &[bool],
-    _instr: &Instr,
-    _failure: &Failure,
-)
-    ghost followed: { Followed }
-    requires table { seat.old.table ≡ site.now.table.now }
-    requires follow { AllFollow followed.first followed.courses held seat.old.view }
-    ensures table { seat.new.table ≡ seat.old.table }
-    ensures left { AreLeft followed.first (on_all finish followed.courses) seat.new.view }
-    ensures longer { AreLonger seat.old.view seat.new.view }
+// Carries out the rest of the script by an access to the table that is lent, and gives the seat back.
+fn run_late_at<'t, R: Wait, S: Seating, B: Beginning>(
+    rt: &R,
+    alloc: Global,
+    lent: Lent<'t>,
+    run: ScriptRun<'_>,
+    ended: &mut Result<Ended, Failed>,
+) -> &'t mut HandlerSeat
+    requires name { lent.seat.ghost_name ≡ S.name }
+    requires table { (lent.seat.now.table ≡ S.table) × (lent.table.now ≡ S.table) }
+    requires armed { IsArmed (site_of run.sources.now) B.start (script_of run.script.now)
+        (armed_in run) lent.seat.now.view }
+    ensures name { result.ghost_name ≡ S.name }
+    ensures table { result.now.table ≡ S.table }
+    ensures finished { IfOk ended.new (λ e. IsFinishedFrom (site_of run.entry.sources.now) B.start
+        (script_of run.entry.script.now) lent.entry.seat.now.view (listed_in e.loaded) e.tree
+        result.now.view) }
+    ensures broken { IfErr ended.new (λ e. IsBrokenFrom (site_of run.entry.sources.now) B.start
+        (script_of run.entry.script.now) lent.entry.seat.now.view e.instr (cause_of e.cause)
+        result.now.view) }
 {
-    held.finish(site.table, seat);
+    let mut access: TableAccess<'t, S> = TableAccess::new(lent);
+    *ended = run_late(run, rt, alloc, &mut access);
+    access.into_seat()
 }
 
-// The script has ended: what is still held is let go.
-fn end(
-    held: HeldProcesses,
-    site: &Site<'_>,
-    seat: &mut HandlerSeat,
-    _script: &[Instr],
-    _reported: &[bool],
-)
-    ghost followed: { Followed }
-    requires table { seat.old.table ≡ site.now.table.now }
-    requires follow { AllFollow followed.first followed.courses held seat.old.view }
-    ensures table { seat.new.table ≡ seat.old.table }
-    ensures longer { AreLonger seat.old.view seat.new.view }
-    ensures left { AreLeft followed.first (on_all finish followed.courses) seat.new.view }
+// Carries out its instructions from the point of no return on, one after another.
+fn run_late<R: Wait, S: Seating>(
+    mut run: ScriptRun<'_>,
+    rt: &R,
+    alloc: Global,
+    access: &mut TableAccess<'_, S>,
+) -> Result<Ended, Failed>
+    ghost start: { Start }
+    requires armed { IsArmed (site_of run.sources.now) start (script_of run.script.now)
+        (armed_in run) access.old }
+    ensures finished { IfOk result (λ e. IsFinishedFrom (site_of run.entry.sources.now) start
+        (script_of run.entry.script.now) access.old (listed_in e.loaded) e.tree access.new) }
+    ensures broken { IfErr result (λ e. IsBrokenFrom (site_of run.entry.sources.now) start
+        (script_of run.entry.script.now) access.old e.instr (cause_of e.cause) access.new) }
 {
-    held.finish(site.table, seat);
+    let script = run.script;
+    let place = run.done;
+    run.pass_point(access);
+    for i in place + 1..script.len() {
+        let instr = &script[i];
+        match run.next_late(rt, alloc, access, instr) {
+            Ok(_) => {}
+            Err(failure) => return Err(run.close(access, failure)),
+        }
+    }
+    Ok(run.end(access))
 }

@@ -2,22 +2,28 @@
 ghost use Rattle.std.specs.Prelude.{◌≡◌, IfErr, IfOk};
 ghost use Rattle.std.specs.List.{AllByRecursion};
 ghost use Rattle.held_processes.specs.Following.{AreLonger, HoldsNothing};
+ghost use Rattle.script_progress.specs.Fault.Cause.{no_memory};
 ghost use Rattle.script_progress.specs.InMemory.{cause_of, site_of};
 ghost use Rattle.relup_exec.specs.Outcome.{IsArmed, IsPointAt, IsRefused, Start};
-ghost use Rattle.relup_exec.specs.InMemory.{armed_of};
+ghost use Rattle.relup_exec.specs.InMemory.{armed_of, script_in};
+ghost use Rattle.relup_exec.specs.Sites.{IsSeated, LendsSame, site_in, start_in, view_in};
 ghost use Rattle.relup_exec.specs.Stepwise.{HasBegun, RunsAll, start_at};
 ghost use Rattle.script_progress.specs.Steps.{IsEarly, progress_of};
 ghost use Rattle.relup_instruction.specs.Instruction.{script_of};
 ghost use Rattle.relup_file.specs.Script.{IsRunnable};
+ghost use Rattle.loaded_modules.specs.Loaded.{listed_in};
 
-use crate::armed::Armed;
-use crate::{Cause, Failure, Progress, Site, carry_out_early};
-use proc_table::HandlerSeat;
+use crate::armed::{Armed, roll_back_with};
+use crate::script_run::ScriptRun;
+use crate::{Cause, Failure, Progress, Site};
+use proc_table::{HandlerSeat, ProcTable};
 use relup_file::is_point;
 use relup_instruction::Instr;
+use script_progress::Sources;
 use std::alloc::Global;
+use std::marker::Brand;
 use std::sync::Wait;
-use sup_tree::Tree;
+use table_access::{Lent, Seating, TableAccess};
 
 /// A script of which an instruction failed.
 #[derive(Drop)]
@@ -30,47 +36,73 @@ pub struct Refused {
 /// Carries out a script up to its point of no return. Where an instruction fails, all processes that were held by then go back
 /// as they were. It waits for processes that clients have. Out of memory before the first instruction is reported of it, and then
 /// nothing was tried.
-pub fn run_before<R: Wait>(
+pub fn run_before<'s, R: Wait>(
     rt: &R,
     alloc: Global,
-    site: &Site<'_>,
-    seat: &mut HandlerSeat,
-    tree: &Tree,
-    script: &[Instr],
-) -> Result<Armed, Refused>
-    requires table { seat.old.table ≡ site.now.table.now }
-    requires free { HoldsNothing seat.old.view }
+    site: &mut Site<'_>,
+    script: &'s [Instr],
+) -> Result<Armed<'s>, Refused>
+    requires seated { IsSeated site.old }
+    requires free { HoldsNothing (view_in site.old) }
     requires runnable { IsRunnable (script_of script.now) }
-    ensures table { seat.new.table ≡ seat.old.table }
-    ensures armed { IfOk result (λ a. IsArmed (site_of site.now)
-        (start_at seat.old.view tree.now) (script_of script.now) (armed_of a) seat.new.view) }
-    ensures refused { IfErr result (λ e. IsRefused (site_of site.now)
-        (start_at seat.old.view tree.now) (script_of script.now)
-        e.instr (cause_of e.cause) seat.new.view) }
+    ensures same { LendsSame site.old site.new }
+    ensures seated { IsSeated site.new }
+    ensures kept { (site.new.tree.now ≡ site.old.tree.now)
+        × (listed_in site.new.loaded.now ≡ listed_in site.old.loaded.now) }
+    ensures armed { IfOk result (λ a. IsArmed (site_in site.old) (start_in site.old)
+        (script_of script.now) (armed_of a) (view_in site.new)) }
+    ensures script { IfOk result (λ a. script_in a ≡ script_of script.now) }
+    ensures refused { IfErr result (λ e. IsRefused (site_in site.old) (start_in site.old)
+        (script_of script.now) e.instr (cause_of e.cause) (view_in site.new)) }
 {
     let place = point_in(script);
     let Ok(reported) = Vec::with_capacity(alloc, script.len()) else {
-        return Err(Refused {
-            instr: 1,
-            cause: Cause::NoMemory,
-        });
+        return Err(out_of_memory());
     };
-    let Ok(mut progress) = Progress::new(alloc, site, tree) else {
-        return Err(Refused {
-            instr: 1,
-            cause: Cause::NoMemory,
-        });
+    let sources = Sources {
+        list: site.list,
+        target: site.target,
+        loaded: &*site.loaded,
     };
-    match run_early(rt, alloc, site, seat, &mut progress, &script[..place]) {
+    let Ok(progress) = Progress::new(alloc, &sources, &*site.tree) else {
+        return Err(out_of_memory());
+    };
+    let mut run = ScriptRun {
+        sources: &sources,
+        script: &script[..place],
+        done: 0,
+        reported,
+        progress,
+    };
+    let done = run_early_with(rt, alloc, site.table, &mut *site.seat, &mut run);
+    let ScriptRun {
+        sources: _sources,
+        script: _before,
+        done: _done,
+        reported,
+        progress,
+    } = run;
+    match done {
         Ok(()) => Ok(Armed {
+            script,
             place,
             progress,
             reported,
         }),
         Err(refused) => {
-            progress.roll_back(site.table, seat);
+            roll_back_with(site.table, &mut *site.seat, progress);
             Err(refused)
         }
+    }
+}
+
+// Out of memory before the first instruction.
+fn out_of_memory() -> Refused
+    ensures { (result.instr ≡ 1) × (cause_of result.cause ≡ no_memory) }
+{
+    Refused {
+        instr: 1,
+        cause: Cause::NoMemory,
     }
 }
 
@@ -87,28 +119,79 @@ fn point_in(script: &[Instr]) -> usize
     unreachable!()
 }
 
-// Carries out these instructions, one after another.
-fn run_early<R: Wait>(
+// Carries out a script whose instructions all stand before the point of no return, by this seat at its table.
+fn run_early_with<R: Wait>(
     rt: &R,
     alloc: Global,
-    site: &Site<'_>,
+    table: &ProcTable,
     seat: &mut HandlerSeat,
-    progress: &mut Progress,
-    instrs: &[Instr],
+    run: &mut ScriptRun<'_>,
+) -> Result<(), Refused>
+    requires table { seat.old.table ≡ table.now }
+    requires early { AllByRecursion IsEarly (script_of run.old.script.now) }
+    requires first { run.old.done ≡ 0 }
+    requires begun { HasBegun (site_of run.old.sources.now)
+        (start_at seat.old.view run.old.progress.tree)
+        (progress_of run.old.progress) run.old.progress.tree seat.old.view }
+    ensures table { seat.new.table ≡ seat.old.table }
+    ensures reported { run.new.reported ≡ run.old.reported }
+    ensures ran { RunsAll (site_of run.old.sources.now)
+        (start_at seat.old.view run.old.progress.tree) (script_of run.old.script.now)
+        result (progress_of run.new.progress) run.new.progress.tree seat.new.view }
+{
+    let mut done = Ok(());
+    let lent = Lent { table, seat };
+    let _ = run_early_at::<R, Brand>(rt, alloc, lent, run, &mut done);
+    done
+}
+
+// Carries out the instructions by an access to the table that is lent, and gives the seat back.
+fn run_early_at<'t, R: Wait, S: Seating>(
+    rt: &R,
+    alloc: Global,
+    lent: Lent<'t>,
+    run: &mut ScriptRun<'_>,
+    done: &mut Result<(), Refused>,
+) -> &'t mut HandlerSeat
+    requires name { lent.seat.ghost_name ≡ S.name }
+    requires table { (lent.seat.now.table ≡ S.table) × (lent.table.now ≡ S.table) }
+    requires early { AllByRecursion IsEarly (script_of run.old.script.now) }
+    requires first { run.old.done ≡ 0 }
+    requires begun { HasBegun (site_of run.old.sources.now)
+        (start_at lent.seat.now.view run.old.progress.tree)
+        (progress_of run.old.progress) run.old.progress.tree lent.seat.now.view }
+    ensures name { result.ghost_name ≡ S.name }
+    ensures table { result.now.table ≡ S.table }
+    ensures reported { run.new.reported ≡ run.old.reported }
+    ensures ran { RunsAll (site_of run.old.sources.now)
+        (start_at lent.entry.seat.now.view run.old.progress.tree) (script_of run.old.script.now)
+        done.new (progress_of run.new.progress) run.new.progress.tree result.now.view }
+{
+    let mut access: TableAccess<'t, S> = TableAccess::new(lent);
+    *done = run_early(run, rt, alloc, &mut access);
+    access.into_seat()
+}
+
+// Carries out its instructions, one after another.
+fn run_early<R: Wait, S: Seating>(
+    run: &mut ScriptRun<'_>,
+    rt: &R,
+    alloc: Global,
+    access: &mut TableAccess<'_, S>,
 ) -> Result<(), Refused>
     ghost start: { Start }
-    requires table { seat.old.table ≡ site.now.table.now }
-    requires early { AllByRecursion IsEarly (script_of instrs.now) }
-    requires begun { HasBegun (site_of site.now) start
-        (progress_of progress.old) progress.old.tree seat.old.view }
-    requires since { AreLonger start.first seat.old.view }
-    ensures table { seat.new.table ≡ seat.old.table }
-    ensures ran { RunsAll (site_of site.now) start (script_of instrs.now)
-        result (progress_of progress.new) progress.new.tree seat.new.view }
+    requires early { AllByRecursion IsEarly (script_of run.old.script.now) }
+    requires first { run.old.done ≡ 0 }
+    requires begun { HasBegun (site_of run.old.sources.now) start
+        (progress_of run.old.progress) run.old.progress.tree access.old }
+    requires since { AreLonger start.first access.old }
+    ensures reported { run.new.reported ≡ run.old.reported }
+    ensures ran { RunsAll (site_of run.old.sources.now) start (script_of run.old.script.now)
+        result (progress_of run.new.progress) run.new.progress.tree access.new }
 {
-    for (i, instr) in instrs.iter().enumerate() {
-        let before = &instrs[..i];
-        let done = carry_out_early(progress, rt, alloc, site, seat, before, instr);
+    let script = run.script;
+    for (i, instr) in script.iter().enumerate() {
+        let done = run.next_early(rt, alloc, access, instr);
         if let Err(Failure { cause, .. }) = done {
             return Err(Refused {
                 instr: i + 1,

@@ -18,24 +18,24 @@ use held_processes::Users;
 use mod_table::{Old, Table};
 use proc_table::Pid;
 use relup_instruction::{Change, Conversion, Direction};
-use script_progress::{Cause, Failure, Progress, Site};
+use script_progress::{Cause, Failure, Progress, Sources};
 use std::alloc::{AllocError, Global};
 
 // Changes of code, one after another.
 pub(crate) fn change_code(
     progress: &mut Progress,
     alloc: Global,
-    site: &Site<'_>,
+    sources: &Sources<'_>,
     conversion: &Conversion,
 ) -> Result<(), Failure>
     ensures { (past : Past) (v : View) (early : Bool)
         → HasDone past (progress_of progress.old) progress.old.tree v
-        → CarriesOut (site_of site.now) past early (code_change (conversion_of conversion.now))
+        → CarriesOut (site_of sources.now) past early (code_change (conversion_of conversion.now))
         result (progress_of progress.new) progress.new.tree v v }
 {
     let mode = conversion.mode.unwrap_or(Direction::Up);
     for (i, change) in conversion.changes.iter().enumerate() {
-        change_once(progress, alloc, site, mode, i, change)?;
+        change_once(progress, alloc, sources, mode, i, change)?;
     }
     Ok(())
 }
@@ -44,16 +44,16 @@ pub(crate) fn change_code(
 fn change_once(
     progress: &mut Progress,
     alloc: Global,
-    site: &Site<'_>,
+    sources: &Sources<'_>,
     mode: Direction,
     number: usize,
     change: &Change,
 ) -> Result<(), Failure>
     ensures { (past : Past) (v : View) → HasDone past (progress_of progress.old) progress.old.tree v
-        → ChangesOnce (site_of site.now) past mode number (change_of change.now)
+        → ChangesOnce (site_of sources.now) past mode number (change_of change.now)
         result (progress_of progress.new) progress.new.tree v }
 {
-    change_processes(progress, alloc, site, mode, number, change)?;
+    change_processes(progress, alloc, sources, mode, number, change)?;
     match change_supervisors(progress, alloc, change.name.as_str()) {
         Ok(()) => Ok(()),
         Err(_) => Err(Failure {
@@ -89,13 +89,13 @@ fn change_supervisors(
 fn change_processes(
     progress: &mut Progress,
     alloc: Global,
-    site: &Site<'_>,
+    sources: &Sources<'_>,
     mode: Direction,
     number: usize,
     change: &Change,
 ) -> Result<(), Failure>
     ensures { (past : Past) (v : View) → HasDone past (progress_of progress.old) progress.old.tree v
-        → ChangesProcesses (site_of site.now) past mode number (change_of change.now)
+        → ChangesProcesses (site_of sources.now) past mode number (change_of change.now)
         result (progress_of progress.new) progress.new.tree v }
 {
     let module = change.name.as_str();
@@ -106,7 +106,7 @@ fn change_processes(
     if !progress.held.holds(&users) {
         return Ok(());
     }
-    match old_version(progress, alloc, site, mode, module) {
+    match old_version(progress, alloc, sources, mode, module) {
         Ok(Some(old)) => change_from(progress, &old, number, change),
         Ok(None) => Err(Failure {
             cause: Cause::NoChange,
@@ -152,19 +152,19 @@ fn change_from(
 fn old_version(
     progress: &Progress,
     alloc: Global,
-    site: &Site<'_>,
+    sources: &Sources<'_>,
     mode: Direction,
     name: &str,
 ) -> Result<Option<Old>, AllocError>
     ensures found { IfOk result (λ o. (past : Past) (v : View)
         → HasDone past (progress_of progress.now) progress.now.tree v
-        → option_map old_of o ≡ old_version (site_of site.now) mode name.now past.run) }
+        → option_map old_of o ≡ old_version (site_of sources.now) mode name.now past.run) }
     ensures asks { OnErr result ((past : Past) (v : View)
         → HasDone past (progress_of progress.now) progress.now.tree v
-        → is_some (old_version (site_of site.now) mode name.now past.run) ≡ true) }
+        → is_some (old_version (site_of sources.now) mode name.now past.run) ≡ true) }
 {
     match mode {
-        Direction::Up => match site.loaded.vsn(name) {
+        Direction::Up => match sources.loaded.vsn(name) {
             Some(vsn) => Ok(Some(Old::Up(String::from_str(alloc, vsn)?))),
             None => Ok(None),
         },

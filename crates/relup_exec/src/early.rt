@@ -9,37 +9,33 @@ use crate::change::change_code;
 use crate::fetch::fetch;
 use crate::load::load;
 use crate::suspend::suspend;
-use proc_table::HandlerSeat;
 use relup_instruction::Instr;
-use script_progress::{Failure, Progress, Site, error_term, raise};
+use script_progress::{Failure, Progress, Sources, error_term, raise};
 use std::alloc::Global;
 use std::sync::Wait;
+use table_access::{Seating, TableAccess};
 
-/// Carries out an instruction that may stand before the point of no return. It waits for processes that clients have. By the
-/// instructions before it the caller's proof names what was done.
-pub fn carry_out_early<R: Wait>(
+/// Carries out an instruction that may stand before the point of no return. It waits for processes that clients have.
+pub fn carry_out_early<R: Wait, S: Seating>(
     progress: &mut Progress,
     rt: &R,
     alloc: Global,
-    site: &Site<'_>,
-    seat: &mut HandlerSeat,
-    _before: &[Instr],
+    access: &mut TableAccess<'_, S>,
+    sources: &Sources<'_>,
     instr: &Instr,
 ) -> Result<(), Failure>
     ghost past: { Past }
-    requires table { seat.old.table ≡ site.now.table.now }
     requires early { IsEarly (instruction_of instr.now) }
-    requires done { HasDone past (progress_of progress.old) progress.old.tree seat.old.view }
-    ensures table { seat.new.table ≡ seat.old.table }
-    ensures longer { AreLonger seat.old.view seat.new.view }
-    ensures carried { CarriesOut (site_of site.now) past true (instruction_of instr.now)
-        result (progress_of progress.new) progress.new.tree seat.old.view seat.new.view }
+    requires done { HasDone past (progress_of progress.old) progress.old.tree access.old }
+    ensures longer { AreLonger access.old access.new }
+    ensures carried { CarriesOut (site_of sources.now) past true (instruction_of instr.now)
+        result (progress_of progress.new) progress.new.tree access.old access.new }
 {
     match instr {
-        Instr::LoadObjectCode(modules) => fetch(progress, alloc, site, modules),
-        Instr::Suspend(suspensions) => suspend(progress, rt, alloc, site, seat, suspensions),
-        Instr::Load(purging) => load(progress, rt, alloc, site, seat, true, purging),
-        Instr::CodeChange(conversion) => change_code(progress, alloc, site, conversion),
+        Instr::LoadObjectCode(modules) => fetch(progress, alloc, sources, modules),
+        Instr::Suspend(suspensions) => suspend(progress, rt, alloc, access, suspensions),
+        Instr::Load(purging) => load(progress, rt, alloc, access, true, purging),
+        Instr::CodeChange(conversion) => change_code(progress, alloc, sources, conversion),
         Instr::Apply(call) => Err(raise(error_term(call))),
         _ => unreachable!(),
     }

@@ -13,7 +13,7 @@ ghost use Rattle.loaded_modules.specs.Loaded.{listed_in};
 use library::Library;
 use loaded_modules::Loaded;
 use relup_instruction::Fetch;
-use script_progress::{Cause, Failure, Progress, Site, failure_at_start};
+use script_progress::{Cause, Failure, Progress, Sources, failure_at_start};
 use std::alloc::Global;
 use std::rc::Rc;
 
@@ -21,15 +21,15 @@ use std::rc::Rc;
 pub(crate) fn fetch(
     progress: &mut Progress,
     alloc: Global,
-    site: &Site<'_>,
+    sources: &Sources<'_>,
     fetch: &Fetch,
 ) -> Result<(), Failure>
     ensures { (past : Past) (v : View) (early : Bool)
         → HasDone past (progress_of progress.old) progress.old.tree v
-        → CarriesOut (site_of site.now) past early (load_object_code (fetch_of fetch.now))
+        → CarriesOut (site_of sources.now) past early (load_object_code (fetch_of fetch.now))
         result (progress_of progress.new) progress.new.tree v v }
 {
-    match fetch_from(alloc, site, &mut progress.fetched, fetch) {
+    match fetch_from(alloc, sources, &mut progress.fetched, fetch) {
         Ok(()) => Ok(()),
         Err(cause) => Err(failure_at_start(cause)),
     }
@@ -37,14 +37,14 @@ pub(crate) fn fetch(
 
 fn fetch_from(
     alloc: Global,
-    site: &Site<'_>,
+    sources: &Sources<'_>,
     fetched: &mut Loaded,
     fetch: &Fetch,
 ) -> Result<(), Cause>
-    ensures { Fetches (library_for (site_of site.now) (fetch_of fetch.now))
+    ensures { Fetches (library_for (site_of sources.now) (fetch_of fetch.now))
         (fetch_of fetch.now).modules (listed_in fetched.old) result (listed_in fetched.new) }
 {
-    match site.list.library(fetch.app.as_str(), fetch.vsn.as_str()) {
+    match sources.list.library(fetch.app.as_str(), fetch.vsn.as_str()) {
         Some(library) => fetch_all(alloc, library, fetched, fetch.modules.as_slice()),
         None => Err(Cause::NoLibrary),
     }

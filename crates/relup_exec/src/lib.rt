@@ -26,12 +26,15 @@ pub mod laws;
 mod load;
 mod release;
 mod remove;
+mod script_run;
+mod site;
 mod suspend;
 
-pub use after::Failed;
+pub use after::{Done, Failed};
 pub use armed::Armed;
 pub use before::{Refused, run_before};
 pub use early::carry_out_early;
 pub use late::carry_out_late;
-pub use script_progress::{Cause, Failure, Progress, Site};
+pub use script_progress::{Cause, Failure, Progress, Sources};
+pub use site::Site;
 pub use sup_tree::Tree;

@@ -2,7 +2,7 @@
 ghost use Rattle.held_processes.specs.Operations.{is_used, modules_by_slot};
 ghost use Rattle.relup_instruction.specs.Instruction.Instruction.{load};
 ghost use Rattle.relup_instruction.specs.Instruction.{purging_of};
-ghost use Rattle.script_progress.specs.InMemory.{site_of};
+ghost use Rattle.script_progress.specs.Script as script;
 ghost use Rattle.script_progress.specs.Script.{worker_in};
 ghost use Rattle.script_progress.specs.Steps.{CarriesOut, HasDone, Past, progress_of};
 ghost use Rattle.relup_exec.specs.Steps.{GivesTable};
@@ -14,56 +14,51 @@ ghost use Rattle.held_processes.specs.Following.{AreLonger};
 use held_processes::Users;
 use loaded_modules::Loaded;
 use mod_table::{Table, Worker};
-use proc_table::{HandlerSeat, Pid};
+use proc_table::Pid;
 use relup_instruction::Purging;
-use script_progress::{Cause, Failure, Progress, Site, failure_at_start};
+use script_progress::{Cause, Failure, Progress, failure_at_start};
 use std::alloc::Global;
 use std::sync::Wait;
+use table_access::{Seating, TableAccess};
 
 // The module that was fetched is loaded. Before the point of no return its processes are held until then.
-pub(crate) fn load<R: Wait>(
+pub(crate) fn load<R: Wait, S: Seating>(
     progress: &mut Progress,
     rt: &R,
     alloc: Global,
-    site: &Site<'_>,
-    seat: &mut HandlerSeat,
+    access: &mut TableAccess<'_, S>,
     early: bool,
     purging: &Purging,
 ) -> Result<(), Failure>
     ghost past: { Past }
-    requires table { seat.old.table ≡ site.now.table.now }
-    requires done { HasDone past (progress_of progress.old) progress.old.tree seat.old.view }
-    ensures table { seat.new.table ≡ seat.old.table }
-    ensures longer { AreLonger seat.old.view seat.new.view }
-    ensures carried { CarriesOut (site_of site.now) past early (load (purging_of purging.now))
-        result (progress_of progress.new) progress.new.tree seat.old.view seat.new.view }
+    requires done { HasDone past (progress_of progress.old) progress.old.tree access.old }
+    ensures longer { AreLonger access.old access.new }
+    ensures carried { (s : script.Site) → CarriesOut s past early (load (purging_of purging.now))
+        result (progress_of progress.new) progress.new.tree access.old access.new }
 {
     match progress.fetched.vsn(purging.name.as_str()) {
-        Some(_) => load_fetched(progress, rt, alloc, site, seat, early, purging),
+        Some(_) => load_fetched(progress, rt, alloc, access, early, purging),
         None => Err(failure_at_start(Cause::NotFetched)),
     }
 }
 
 // Loads a module that was fetched.
-fn load_fetched<R: Wait>(
+fn load_fetched<R: Wait, S: Seating>(
     progress: &mut Progress,
     rt: &R,
     alloc: Global,
-    site: &Site<'_>,
-    seat: &mut HandlerSeat,
+    access: &mut TableAccess<'_, S>,
     early: bool,
     purging: &Purging,
 ) -> Result<(), Failure>
     ghost past: { Past }
-    requires table { seat.old.table ≡ site.now.table.now }
-    requires done { HasDone past (progress_of progress.old) progress.old.tree seat.old.view }
+    requires done { HasDone past (progress_of progress.old) progress.old.tree access.old }
     requires fetched { IsSome (module_named (purging_of purging.now).name past.run.fetched) }
-    ensures table { seat.new.table ≡ seat.old.table }
-    ensures longer { AreLonger seat.old.view seat.new.view }
-    ensures carried { CarriesOut (site_of site.now) past early (load (purging_of purging.now))
-        result (progress_of progress.new) progress.new.tree seat.old.view seat.new.view }
+    ensures longer { AreLonger access.old access.new }
+    ensures carried { (s : script.Site) → CarriesOut s past early (load (purging_of purging.now))
+        result (progress_of progress.new) progress.new.tree access.old access.new }
 {
-    give_table(progress, rt, alloc, site, seat, early, purging)?;
+    give_table(progress, rt, alloc, access, early, purging)?;
     let module = purging.name.as_str();
     match progress.next.load_from(alloc, &progress.fetched, module) {
         Ok(_) => Ok(()),
@@ -76,25 +71,22 @@ fn load_fetched<R: Wait>(
 }
 
 // The processes of the module get the table that was fetched.
-fn give_table<R: Wait>(
+fn give_table<R: Wait, S: Seating>(
     progress: &mut Progress,
     rt: &R,
     alloc: Global,
-    site: &Site<'_>,
-    seat: &mut HandlerSeat,
+    access: &mut TableAccess<'_, S>,
     early: bool,
     purging: &Purging,
 ) -> Result<(), Failure>
     ghost past: { Past }
-    requires table { seat.old.table ≡ site.now.table.now }
-    requires done { HasDone past (progress_of progress.old) progress.old.tree seat.old.view }
-    ensures table { seat.new.table ≡ seat.old.table }
-    ensures longer { AreLonger seat.old.view seat.new.view }
+    requires done { HasDone past (progress_of progress.old) progress.old.tree access.old }
+    ensures longer { AreLonger access.old access.new }
     ensures fetched { progress.new.fetched ≡ progress.old.fetched }
     ensures next { progress.new.next ≡ progress.old.next }
     ensures tree { progress.new.tree ≡ progress.old.tree }
     ensures given { GivesTable past early (purging_of purging.now).name
-        result progress.new.held seat.new.view }
+        result progress.new.held access.new }
 {
     let users = Users {
         module: purging.name.as_str(),
@@ -109,7 +101,7 @@ fn give_table<R: Wait>(
     };
     match progress
         .held
-        .load(rt, alloc, site.table, seat, &users, worker, early)
+        .load(rt, alloc, access, &users, worker, early)
     {
         Ok(()) => Ok(()),
         Err(undone) => Err(Failure {

@@ -1,17 +1,17 @@
 //! `resume`, `stop` and `start`: operations on the processes of some modules that take no memory and don't fail.
-ghost use Rattle.std.specs.Prelude.{◌≡◌, Ok, false, map, string_bytes};
+ghost use Rattle.std.specs.Prelude.{◌<◌, [], Ok, false, length, map, slice_index_or, string_bytes};
 ghost use Rattle.held_processes.specs.Course.{on_module};
 ghost use Rattle.held_processes.specs.Following.{AllFollow, AreLonger, Followed};
 ghost use Rattle.held_processes.specs.Operations.{modules_by_slot};
-ghost use Rattle.script_progress.specs.InMemory.{site_of};
 ghost use Rattle.relup_exec.specs.Plain.{plain_instruction, plain_operation};
+ghost use Rattle.script_progress.specs.Script as script;
 ghost use Rattle.script_progress.specs.Script.{on_each};
 ghost use Rattle.script_progress.specs.Steps.{CarriesOut, HasDone, Past, progress_of};
 
 use held_processes::{HeldProcesses, Users};
-use proc_table::{HandlerSeat, ProcTable};
-use script_progress::{Progress, Site, Tree};
+use script_progress::{Progress, Tree};
 use std::sync::Wait;
+use table_access::{Seating, TableAccess};
 
 /// What is done to processes without asking for memory.
 #[derive(Clone, Copy)]
@@ -22,27 +22,23 @@ pub(crate) enum Plain {
 }
 
 // This is done to the processes of these modules.
-pub(crate) fn do_plain<R: Wait>(
+pub(crate) fn do_plain<R: Wait, S: Seating>(
     progress: &mut Progress,
     rt: &R,
-    site: &Site<'_>,
-    seat: &mut HandlerSeat,
+    access: &mut TableAccess<'_, S>,
     plain: Plain,
     names: &[String],
 )
     ghost past: { Past }
-    requires table { seat.old.table ≡ site.now.table.now }
-    requires done { HasDone past (progress_of progress.old) progress.old.tree seat.old.view }
-    ensures table { seat.new.table ≡ seat.old.table }
-    ensures longer { AreLonger seat.old.view seat.new.view }
-    ensures carried { CarriesOut {X = Unit {0}} (site_of site.now) past false
+    requires done { HasDone past (progress_of progress.old) progress.old.tree access.old }
+    ensures longer { AreLonger access.old access.new }
+    ensures carried { (s : script.Site) → CarriesOut {X = Unit {0}} s past false
         (plain_instruction plain (map string_bytes names.now)) (Ok tt)
-        (progress_of progress.new) progress.new.tree seat.old.view seat.new.view }
+        (progress_of progress.new) progress.new.tree access.old access.new }
 {
     do_all(
         rt,
-        site.table,
-        seat,
+        access,
         &progress.tree,
         &mut progress.held,
         plain,
@@ -51,61 +47,66 @@ pub(crate) fn do_plain<R: Wait>(
 }
 
 // Carries out an operation on the processes of these modules, one module after another.
-fn do_all<R: Wait>(
+fn do_all<R: Wait, S: Seating>(
     rt: &R,
-    table: &ProcTable,
-    seat: &mut HandlerSeat,
+    access: &mut TableAccess<'_, S>,
     tree: &Tree,
     held: &mut HeldProcesses,
     plain: Plain,
     names: &[String],
 )
     ghost followed: { Followed }
-    requires table { seat.old.table ≡ table.now }
-    requires follow { AllFollow followed.first followed.courses held.old seat.old.view }
-    ensures table { seat.new.table ≡ seat.old.table }
-    ensures longer { AreLonger seat.old.view seat.new.view }
+    requires follow { AllFollow followed.first followed.courses held.old access.old }
+    ensures longer { AreLonger access.old access.new }
     ensures done { AllFollow followed.first (on_each (plain_operation plain)
         (map string_bytes names.now) (modules_by_slot tree.now) followed.courses)
-        held.new seat.new.view }
+        held.new access.new }
 {
-    for (i, name) in names.iter().enumerate() {
-        let before = &names[..i];
-        let module = name.as_str();
-        do_next(
-            rt,
-            table,
-            seat,
-            held,
-            plain,
-            before,
-            &Users { tree, module },
-        );
+    for at in 0..names.len() {
+        do_next(rt, access, tree, held, plain, names, at);
     }
 }
 
-// Carries out an operation on the processes of one more module. By the modules before it the caller's proof names what was
-// done.
-fn do_next<R: Wait>(
+// Carries out the operation on the processes of the module at this place.
+fn do_next<R: Wait, S: Seating>(
     rt: &R,
-    table: &ProcTable,
-    seat: &mut HandlerSeat,
+    access: &mut TableAccess<'_, S>,
+    tree: &Tree,
     held: &mut HeldProcesses,
     plain: Plain,
-    _before: &[String],
+    names: &[String],
+    at: usize,
+)
+    ghost followed: { Followed }
+    requires inside { at < length names.now }
+    requires follow { AllFollow followed.first followed.courses held.old access.old }
+    ensures longer { AreLonger access.old access.new }
+    ensures done { AllFollow followed.first (on_module (modules_by_slot tree.now)
+        (slice_index_or (map string_bytes names.now) at []) (plain_operation plain)
+        followed.courses) held.new access.new }
+{
+    let name = &names[at];
+    let module = name.as_str();
+    do_once(rt, access, held, plain, &Users { tree, module });
+}
+
+// Carries out the operation on the processes of these users.
+fn do_once<R: Wait, S: Seating>(
+    rt: &R,
+    access: &mut TableAccess<'_, S>,
+    held: &mut HeldProcesses,
+    plain: Plain,
     users: &Users<'_>,
 )
     ghost followed: { Followed }
-    requires table { seat.old.table ≡ table.now }
-    requires follow { AllFollow followed.first followed.courses held.old seat.old.view }
-    ensures table { seat.new.table ≡ seat.old.table }
-    ensures longer { AreLonger seat.old.view seat.new.view }
+    requires follow { AllFollow followed.first followed.courses held.old access.old }
+    ensures longer { AreLonger access.old access.new }
     ensures done { AllFollow followed.first (on_module (modules_by_slot users.now.tree.now)
-        users.now.module.now (plain_operation plain) followed.courses) held.new seat.new.view }
+        users.now.module.now (plain_operation plain) followed.courses) held.new access.new }
 {
     match plain {
-        Plain::Resume => held.resume(table, seat, users),
-        Plain::Stop => held.stop(rt, table, seat, users),
-        Plain::Start => held.start(rt, table, seat, users),
+        Plain::Resume => held.resume(access, users),
+        Plain::Stop => held.stop(rt, access, users),
+        Plain::Start => held.start(rt, access, users),
     }
 }

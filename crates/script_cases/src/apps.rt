@@ -9,8 +9,10 @@ use loaded_modules::Loaded;
 use proc_table::{HandlerSeat, Pass, Pid, ProcTable};
 use rel_files::App;
 use std::alloc::Global;
+use std::marker::Brand;
 use std::sync::Wait;
 use sup_tree::Tree;
+use table_access::{Lent, Seating, TableAccess};
 use text_cases::Answer;
 
 /// An application, what is loaded, the module of processes that are held, and a process that a client calls meanwhile.
@@ -39,16 +41,55 @@ pub(crate) fn restart_app<R: Wait>(
     ensures table { seat.new.table ≡ seat.old.table }
     ensures pass { pass.new.table ≡ pass.old.table }
 {
+    let lent = Lent { table, seat };
+    let _ = restart_app_at::<R, Brand>(rt, lent, pass, tree, restart, answer);
+}
+
+fn restart_app_at<'t, R: Wait, S: Seating>(
+    rt: &R,
+    lent: Lent<'t>,
+    pass: &mut Pass,
+    tree: &mut Tree,
+    restart: &Restart<'_>,
+    answer: &mut Answer,
+) -> &'t mut HandlerSeat
+    requires name { lent.seat.ghost_name ≡ S.name }
+    requires table { (lent.seat.now.table ≡ S.table) × (lent.table.now ≡ S.table) }
+    requires pass { pass.old.table ≡ lent.table.now }
+    requires nothing { HoldsNothing lent.seat.now.view }
+    ensures name { result.ghost_name ≡ S.name }
+    ensures table { result.now.table ≡ S.table }
+    ensures pass { pass.new.table ≡ pass.old.table }
+{
+    let table = lent.table;
+    let mut access: TableAccess<'t, S> = TableAccess::new(lent);
+    begin(rt, &mut access, table, pass, tree, restart, answer);
+    access.into_seat()
+}
+
+fn begin<R: Wait, S: Seating>(
+    rt: &R,
+    access: &mut TableAccess<'_, S>,
+    table: &ProcTable,
+    pass: &mut Pass,
+    tree: &mut Tree,
+    restart: &Restart<'_>,
+    answer: &mut Answer,
+)
+    requires pass { pass.old.table ≡ table.now }
+    requires nothing { HoldsNothing access.old }
+    ensures pass { pass.new.table ≡ pass.old.table }
+{
     let Ok(held) = HeldProcesses::new(restart.alloc) else {
         return answer.note_no_memory();
     };
-    suspend(rt, table, seat, pass, tree, held, restart, answer);
+    suspend(rt, access, table, pass, tree, held, restart, answer);
 }
 
-fn suspend<R: Wait>(
+fn suspend<R: Wait, S: Seating>(
     rt: &R,
+    access: &mut TableAccess<'_, S>,
     table: &ProcTable,
-    seat: &mut HandlerSeat,
     pass: &mut Pass,
     tree: &mut Tree,
     mut held: HeldProcesses,
@@ -56,29 +97,27 @@ fn suspend<R: Wait>(
     answer: &mut Answer,
 )
     ghost followed: { Followed }
-    requires table { seat.old.table ≡ table.now }
     requires pass { pass.old.table ≡ table.now }
-    requires follow { AllFollow followed.first followed.courses held seat.old.view }
-    ensures table { seat.new.table ≡ seat.old.table }
+    requires follow { AllFollow followed.first followed.courses held access.old }
     ensures pass { pass.new.table ≡ pass.old.table }
 {
     let users = Users {
         tree,
         module: restart.module,
     };
-    match held.suspend(rt, restart.alloc, table, seat, &users) {
-        Ok(()) => stop(rt, table, seat, pass, tree, held, restart, answer),
+    match held.suspend(rt, restart.alloc, access, &users) {
+        Ok(()) => stop(rt, access, table, pass, tree, held, restart, answer),
         Err(_) => {
             answer.note_no_memory();
-            held.roll_back(table, seat);
+            held.roll_back(access);
         }
     }
 }
 
-fn stop<R: Wait>(
+fn stop<R: Wait, S: Seating>(
     rt: &R,
+    access: &mut TableAccess<'_, S>,
     table: &ProcTable,
-    seat: &mut HandlerSeat,
     pass: &mut Pass,
     tree: &mut Tree,
     mut held: HeldProcesses,
@@ -86,26 +125,24 @@ fn stop<R: Wait>(
     answer: &mut Answer,
 )
     ghost before: { Followed × List Application }
-    requires table { seat.old.table ≡ table.now }
     requires pass { pass.old.table ≡ table.now }
     requires apps { tree.old ≡ before.1 }
-    requires follow { AllFollow before.0.first before.0.courses held seat.old.view }
-    ensures table { seat.new.table ≡ seat.old.table }
+    requires follow { AllFollow before.0.first before.0.courses held access.old }
     ensures pass { pass.new.table ≡ pass.old.table }
 {
     push_call(table, pass, restart.pid, 1, answer);
     let app = AppName {
         name: restart.app.name.as_str(),
     };
-    held.stop_app(rt, table, seat, tree, &app);
+    held.stop_app(rt, access, tree, &app);
     push_call(table, pass, restart.pid, 1, answer);
-    start(rt, table, seat, pass, tree, held, restart, answer);
+    start(rt, access, table, pass, tree, held, restart, answer);
 }
 
-fn start<R: Wait>(
+fn start<R: Wait, S: Seating>(
     rt: &R,
+    access: &mut TableAccess<'_, S>,
     table: &ProcTable,
-    seat: &mut HandlerSeat,
     pass: &mut Pass,
     tree: &mut Tree,
     held: HeldProcesses,
@@ -113,15 +150,13 @@ fn start<R: Wait>(
     answer: &mut Answer,
 )
     ghost followed: { Followed }
-    requires table { seat.old.table ≡ table.now }
     requires pass { pass.old.table ≡ table.now }
-    requires follow { AllFollow followed.first followed.courses held seat.old.view }
-    ensures table { seat.new.table ≡ seat.old.table }
+    requires follow { AllFollow followed.first followed.courses held access.old }
     ensures pass { pass.new.table ≡ pass.old.table }
 {
     let alloc = restart.alloc;
-    let started = held.start_app(rt, alloc, table, seat, tree, restart.app, restart.loaded);
-    held.roll_back(table, seat);
+    let started = held.start_app(rt, alloc, access, tree, restart.app, restart.loaded);
+    held.roll_back(access);
     match started {
         Ok(()) => push_first(table, pass, tree, restart, answer),
         Err(error) => answer.push_shown(&error),

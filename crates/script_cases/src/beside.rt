@@ -2,18 +2,23 @@
 ghost use Rattle.std.specs.Prelude.{◌≡◌};
 ghost use Rattle.held_processes.specs.Following.{HoldsNothing};
 ghost use Rattle.relup_instruction.specs.Instruction.{script_of};
+ghost use Rattle.relup_exec.specs.Sites.{IsSeated, view_in};
 ghost use Rattle.relup_file.specs.Script.{IsRunnable};
 
 use crate::cases::push_stopped;
 use crate::node::{
     other_libraries, push_calls, push_states, release_list, running_libraries, script,
 };
+use crate::starts::{Start, start_app};
+use library::Library;
 use loaded_modules::Loaded;
 use proc_table::{HandlerSeat, Pass, Pid, ProcTable, Tried};
+use rel_list::ReleaseList;
 use relup_exec::{Refused, Site, run_before};
 use relup_file::check;
 use relup_instruction::Instr;
 use std::alloc::Global;
+use std::rc::Rc;
 use std::sync::{Barrier, Wait};
 use std::thread;
 use std::thread::{Threads, join};
@@ -29,6 +34,22 @@ struct Work<'a> {
     script: &'a [Instr],
     runs: u32,
     calls: u32,
+}
+
+/// Where scripts run beside calls: the table, the libraries of the release to which they lead, and the list.
+#[derive(Clone, Copy)]
+struct Ground<'a> {
+    table: &'a ProcTable,
+    target: &'a [Rc<Library>],
+    list: &'a ReleaseList,
+}
+
+/// The seat of the handler, what is started, and what is loaded.
+#[derive(Drop)]
+struct Started {
+    seat: HandlerSeat,
+    tree: Tree,
+    loaded: Loaded,
 }
 
 /// How often a script was refused, and for what: what is told of the first time, and whether it was told each time.
@@ -87,73 +108,72 @@ fn push_on_node<R: Threads + Wait + Sync>(
     let Some(library) = libraries.first() else {
         return answer.push("no library");
     };
-    let mut tree = Tree::new(alloc);
-    match tree.start_app(rt, alloc, &table, &mut seat, &library.app, &loaded) {
-        Ok(()) => {
-            let site = Site {
-                table: &table,
-                list: &list,
-                target: target.as_slice(),
-                loaded: &loaded,
-            };
-            push_work(rt, alloc, &site, seat, &tree, inputs, work, answer);
-        }
-        Err(error) => answer.push_shown(&error),
-    }
+    let start = Start {
+        app: &library.app,
+        loaded: &loaded,
+    };
+    let Some(tree) = start_app(rt, alloc, &table, &mut seat, &start, answer) else {
+        return;
+    };
+    let ground = Ground {
+        table: &table,
+        target: target.as_slice(),
+        list: &list,
+    };
+    let node = Started { seat, tree, loaded };
+    push_work(rt, alloc, &ground, node, inputs, work, answer);
 }
 
 fn push_work<R: Threads + Wait + Sync>(
     rt: &R,
     alloc: Global,
-    site: &Site<'_>,
-    seat: HandlerSeat,
-    tree: &Tree,
+    ground: &Ground<'_>,
+    node: Started,
     inputs: &str,
     work: &Work<'_>,
     answer: &mut Answer,
 )
-    requires table { seat.table ≡ site.now.table.now }
-    requires nothing { HoldsNothing seat.view }
+    requires table { node.seat.table ≡ ground.now.table.now }
+    requires nothing { HoldsNothing node.seat.view }
 {
     let Some(ch3) = Pid::new(0, 1) else {
         return answer.push("no such slot");
     };
-    let mut seat = seat;
-    let mut pass = site.table.new_pass(&mut seat);
-    push_calls(site.table, &mut pass, ch3, inputs, answer);
+    let mut node = node;
+    let mut pass = ground.table.new_pass(&mut node.seat);
+    push_calls(ground.table, &mut pass, ch3, inputs, answer);
     answer.push(", ");
     match check(work.script) {
-        Ok(()) => push_both(rt, alloc, site, seat, tree, work, answer),
+        Ok(()) => push_both(rt, alloc, ground, node, work, answer),
         Err(fault) => answer.push_shown(&fault),
     }
-    push_states(site.table, &mut pass, answer);
+    push_states(ground.table, &mut pass, answer);
 }
 
 fn push_both<R: Threads + Wait + Sync>(
     rt: &R,
     alloc: Global,
-    site: &Site<'_>,
-    seat: HandlerSeat,
-    tree: &Tree,
+    ground: &Ground<'_>,
+    node: Started,
     work: &Work<'_>,
     answer: &mut Answer,
 )
-    requires table { seat.table ≡ site.now.table.now }
-    requires nothing { HoldsNothing seat.view }
+    requires table { node.seat.table ≡ ground.now.table.now }
+    requires nothing { HoldsNothing node.seat.view }
     requires runnable { IsRunnable (script_of work.now.script.now) }
 {
     let Some(aux) = Pid::new(1, 1) else {
         return answer.push("no such slot");
     };
-    let mut seat = seat;
-    let table = site.table;
-    let pass = table.new_pass(&mut seat);
+    let mut node = node;
+    let table = ground.table;
+    let pass = table.new_pass(&mut node.seat);
     let calls = work.calls;
     let start = Barrier::new(2);
     let (done, refusals) = join(
         rt,
         || call_often(rt, table, &start, pass, aux, calls),
-        || refuse_often(rt, alloc, site, &start, seat, tree, work),
+        || refuse_often(rt, alloc, ground, &start, node, work),
     );
     push_refusals(&refusals, answer);
     answer.push_counted(", calls done ", done as u64);
@@ -198,21 +218,28 @@ fn is_done_at_last(table: &ProcTable, pass: &mut Pass, pid: Pid) -> bool
 fn refuse_often<R: Wait>(
     rt: &R,
     alloc: Global,
-    site: &Site<'_>,
+    ground: &Ground<'_>,
     start: &Barrier,
-    seat: HandlerSeat,
-    tree: &Tree,
+    node: Started,
     work: &Work<'_>,
 ) -> Refusals
-    requires table { seat.table ≡ site.now.table.now }
-    requires nothing { HoldsNothing seat.view }
+    requires table { node.seat.table ≡ ground.now.table.now }
+    requires nothing { HoldsNothing node.seat.view }
     requires runnable { IsRunnable (script_of work.now.script.now) }
 {
     let _ = start.wait(rt);
-    let mut seat = seat;
+    let mut node = node;
+    let mut site = Site {
+        table: ground.table,
+        seat: &mut node.seat,
+        tree: &mut node.tree,
+        loaded: &mut node.loaded,
+        target: ground.target,
+        list: ground.list,
+    };
     let mut refusals = Refusals::new(alloc);
     for _ in 0..work.runs {
-        if let Some(refused) = refusal(rt, alloc, site, &mut seat, tree, work.script) {
+        if let Some(refused) = refusal(rt, alloc, &mut site, work.script) {
             refusals.note(alloc, &refused);
         }
     }
@@ -223,20 +250,18 @@ fn refuse_often<R: Wait>(
 fn refusal<R: Wait>(
     rt: &R,
     alloc: Global,
-    site: &Site<'_>,
-    seat: &mut HandlerSeat,
-    tree: &Tree,
+    site: &mut Site<'_>,
     script: &[Instr],
 ) -> Option<Refused>
-    requires table { seat.old.table ≡ site.now.table.now }
-    requires nothing { HoldsNothing seat.old.view }
+    requires seated { IsSeated site.old }
+    requires nothing { HoldsNothing (view_in site.old) }
     requires runnable { IsRunnable (script_of script.now) }
-    ensures table { seat.new.table ≡ seat.old.table }
-    ensures nothing { HoldsNothing seat.new.view }
+    ensures seated { IsSeated site.new }
+    ensures nothing { HoldsNothing (view_in site.new) }
 {
-    match run_before(rt, alloc, site, seat, tree, script) {
+    match run_before(rt, alloc, site, script) {
         Ok(armed) => {
-            armed.roll_back(site.table, seat);
+            armed.roll_back(site);
             None
         }
         Err(refused) => Some(refused),

@@ -3,6 +3,7 @@ ghost use Rattle.std.specs.Prelude.{◌≡◌};
 ghost use Rattle.held_processes.specs.Following.{HoldsNothing};
 ghost use Rattle.relup_instruction.specs.Instruction.{script_of};
 ghost use Rattle.relup_exec.specs.Outcome.{Start};
+ghost use Rattle.relup_exec.specs.Sites.{IsSeated, LendsSame, start_in, view_in};
 ghost use Rattle.relup_file.specs.Script.{IsRunnable};
 
 use crate::beside::push_beside;
@@ -10,10 +11,11 @@ use crate::held::push_way;
 use crate::node::{
     other_libraries, push_call, push_calls, release_list, running_libraries, script,
 };
+use crate::starts::{Start as Application, start_app};
 use loaded_modules::Loaded;
-use proc_table::{HandlerSeat, Pass, Pid, ProcTable};
+use proc_table::{Pass, Pid, ProcTable};
 use rel_list::ReleaseList;
-use relup_exec::{Cause, Site, run_before};
+use relup_exec::{Cause, Done, Site, run_before};
 use relup_file::check;
 use relup_instruction::Instr;
 use std::alloc::{AllocError, Global};
@@ -95,76 +97,72 @@ fn push_with_list<R: Wait>(
     ) else {
         return answer.note_no_memory();
     };
-    let Ok(loaded) = Loaded::of(alloc, libraries.as_slice()) else {
+    let Ok(mut loaded) = Loaded::of(alloc, libraries.as_slice()) else {
         return answer.note_no_memory();
     };
     let Some(library) = libraries.first() else {
         return answer.push("no library");
     };
-    let mut tree = Tree::new(alloc);
-    match tree.start_app(rt, alloc, &table, &mut seat, &library.app, &loaded) {
-        Ok(()) => {
-            let site = Site {
-                table: &table,
-                list,
-                target: target.as_slice(),
-                loaded: &loaded,
-            };
-            push_script(rt, alloc, &site, &mut seat, &mut tree, case, answer);
-        }
-        Err(error) => answer.push_shown(&error),
-    }
+    let start = Application {
+        app: &library.app,
+        loaded: &loaded,
+    };
+    let Some(mut tree) = start_app(rt, alloc, &table, &mut seat, &start, answer) else {
+        return;
+    };
+    let mut site = Site {
+        table: &table,
+        seat: &mut seat,
+        tree: &mut tree,
+        loaded: &mut loaded,
+        target: target.as_slice(),
+        list,
+    };
+    push_script(rt, alloc, &mut site, case, answer);
 }
 
 fn push_script<R: Wait>(
     rt: &R,
     alloc: Global,
-    site: &Site<'_>,
-    seat: &mut HandlerSeat,
-    tree: &mut Tree,
+    site: &mut Site<'_>,
     case: &Case<'_>,
     answer: &mut Answer,
 )
-    requires table { seat.old.table ≡ site.now.table.now }
-    requires nothing { HoldsNothing seat.old.view }
+    requires seated { IsSeated site.old }
+    requires nothing { HoldsNothing (view_in site.old) }
 {
     let Some(pid) = Pid::new(0, 1) else {
         return answer.push("no such slot");
     };
-    let mut pass = site.table.new_pass(seat);
+    let mut pass = site.table.new_pass(&mut *site.seat);
     push_calls(site.table, &mut pass, pid, case.inputs, answer);
     answer.push(", ");
-    push_outcome(rt, alloc, site, seat, tree, &mut pass, case, answer);
+    push_outcome(rt, alloc, site, &mut pass, case, answer);
     push_calls(site.table, &mut pass, pid, case.behind, answer);
     if let Mode::Tree = case.mode {
-        push_members(tree, answer);
+        push_members(&*site.tree, answer);
     }
-    site.table.take_back(seat, pass);
+    site.table.take_back(&mut *site.seat, pass);
 }
 
 fn push_outcome<R: Wait>(
     rt: &R,
     alloc: Global,
-    site: &Site<'_>,
-    seat: &mut HandlerSeat,
-    tree: &mut Tree,
+    site: &mut Site<'_>,
     pass: &mut Pass,
     case: &Case<'_>,
     answer: &mut Answer,
 )
-    requires table { seat.old.table ≡ site.now.table.now }
-    requires nothing { HoldsNothing seat.old.view }
-    requires pass_table { pass.old.table ≡ site.now.table.now }
-    ensures table { seat.new.table ≡ seat.old.table }
+    requires seated { IsSeated site.old }
+    requires nothing { HoldsNothing (view_in site.old) }
+    requires pass_table { pass.old.table ≡ site.old.table.now }
+    ensures same { LendsSame site.old site.new }
+    ensures seated { IsSeated site.new }
     ensures pass_table { pass.new.table ≡ pass.old.table }
 {
     match (check(case.script), case.mode) {
-        (Ok(()), Mode::Before) => {
-            push_before(rt, alloc, site, seat, tree, pass, case.script, answer);
-        }
-        (Ok(()), Mode::Whole | Mode::Tree) => {
-            push_whole(rt, alloc, site, seat, tree, case.script, answer);
-        }
+        (Ok(()), Mode::Before) => push_before(rt, alloc, site, pass, case.script, answer),
+        (Ok(()), Mode::Whole | Mode::Tree) => push_whole(rt, alloc, site, case.script, answer),
         (Err(fault), _) => answer.push_shown(&fault),
     }
 }
@@ -172,27 +170,26 @@ fn push_outcome<R: Wait>(
 fn push_before<R: Wait>(
     rt: &R,
     alloc: Global,
-    site: &Site<'_>,
-    seat: &mut HandlerSeat,
-    tree: &Tree,
+    site: &mut Site<'_>,
     pass: &mut Pass,
     script: &[Instr],
     answer: &mut Answer,
 )
-    requires table { seat.old.table ≡ site.now.table.now }
-    requires nothing { HoldsNothing seat.old.view }
-    requires pass_table { pass.old.table ≡ site.now.table.now }
+    requires seated { IsSeated site.old }
+    requires nothing { HoldsNothing (view_in site.old) }
+    requires pass_table { pass.old.table ≡ site.old.table.now }
     requires runnable { IsRunnable (script_of script.now) }
-    ensures table { seat.new.table ≡ seat.old.table }
+    ensures same { LendsSame site.old site.new }
+    ensures seated { IsSeated site.new }
     ensures pass_table { pass.new.table ≡ pass.old.table }
 {
-    match run_before(rt, alloc, site, seat, tree, script) {
+    match run_before(rt, alloc, site, script) {
         Ok(armed) => {
             answer.push("armed");
             if let Some(pid) = Pid::new(0, 1) {
                 push_call(site.table, pass, pid, 1, answer);
             }
-            armed.roll_back(site.table, seat);
+            armed.roll_back(site);
         }
         Err(refused) => push_stopped(alloc, "refused ", refused.instr, &refused.cause, answer),
     }
@@ -202,23 +199,21 @@ fn push_before<R: Wait>(
 fn push_whole<R: Wait>(
     rt: &R,
     alloc: Global,
-    site: &Site<'_>,
-    seat: &mut HandlerSeat,
-    tree: &mut Tree,
+    site: &mut Site<'_>,
     script: &[Instr],
     answer: &mut Answer,
 )
     ghost start: { Start }
-    requires table { seat.old.table ≡ site.now.table.now }
-    requires nothing { HoldsNothing seat.old.view }
+    requires seated { IsSeated site.old }
+    requires nothing { HoldsNothing (view_in site.old) }
     requires runnable { IsRunnable (script_of script.now) }
-    requires first { seat.old.view ≡ start.first }
-    requires apps { tree.old ≡ start.apps }
-    ensures table { seat.new.table ≡ seat.old.table }
+    requires start { start_in site.old ≡ start }
+    ensures same { LendsSame site.old site.new }
+    ensures seated { IsSeated site.new }
 {
-    match run_before(rt, alloc, site, seat, tree, script) {
-        Ok(armed) => match armed.run_after(rt, alloc, site, seat, tree, script) {
-            Ok(loaded) => push_loaded(alloc, &loaded, answer),
+    match run_before(rt, alloc, site, script) {
+        Ok(armed) => match armed.run_after(rt, alloc, site) {
+            Ok(Done) => push_loaded(alloc, &*site.loaded, answer),
             Err(failed) => push_stopped(alloc, "failed ", failed.instr, &failed.cause, answer),
         },
         Err(refused) => push_stopped(alloc, "refused ", refused.instr, &refused.cause, answer),

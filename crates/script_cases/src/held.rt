@@ -4,13 +4,13 @@ ghost use Rattle.held_processes.specs.Following.{HoldsNothing};
 
 use crate::apps::{Restart, restart_app};
 use crate::node::{libraries, push_calls, push_states};
+use crate::starts::{Start, start_app};
 use crate::ways::{Upgrade, Way, carry_out};
 use erl_term::{Term, read_record};
 use held_processes::Users;
 use loaded_modules::Loaded;
 use mod_table::{Old, Table, Worker, read_mod};
 use proc_table::{HandlerSeat, Pid, ProcTable};
-use rel_files::App;
 use std::alloc::Global;
 use std::sync::Wait;
 use sup_tree::Tree;
@@ -73,24 +73,21 @@ fn push_case<R: Wait>(
     let Some(library) = libraries.first() else {
         return answer.push("no library");
     };
-    let mut tree = Tree::new(alloc);
-    match tree.start_app(rt, alloc, &table, &mut seat, &library.app, &loaded) {
-        Ok(()) if way == Way::AppRestarted => push_restart(
-            rt,
-            alloc,
-            &table,
-            &mut seat,
-            &mut tree,
-            &library.app,
-            &loaded,
-            before,
-            behind,
-            answer,
-        ),
-        Ok(()) => push_script(
+    let start = Start {
+        app: &library.app,
+        loaded: &loaded,
+    };
+    let Some(mut tree) = start_app(rt, alloc, &table, &mut seat, &start, answer) else {
+        return;
+    };
+    if way == Way::AppRestarted {
+        push_restart(
+            rt, alloc, &table, &mut seat, &mut tree, &start, before, behind, answer,
+        );
+    } else {
+        push_script(
             rt, alloc, &table, &mut seat, &tree, way, before, behind, answer,
-        ),
-        Err(error) => answer.push_shown(&error),
+        );
     }
 }
 
@@ -144,8 +141,7 @@ fn push_restart<R: Wait>(
     table: &ProcTable,
     seat: &mut HandlerSeat,
     tree: &mut Tree,
-    app: &App,
-    loaded: &Loaded,
+    start: &Start<'_>,
     before: &str,
     behind: &str,
     answer: &mut Answer,
@@ -159,8 +155,8 @@ fn push_restart<R: Wait>(
     };
     let whole = Restart {
         alloc,
-        app,
-        loaded,
+        app: start.app,
+        loaded: start.loaded,
         module: "ch3",
         pid,
     };

@@ -7,6 +7,7 @@ mod beside;
 mod cases;
 mod held;
 mod node;
+mod starts;
 mod ways;
 
 use crate::cases::answer;

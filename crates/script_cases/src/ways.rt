@@ -8,7 +8,9 @@ use held_processes::{HeldProcesses, Users};
 use mod_table::{Old, Worker};
 use proc_table::{HandlerSeat, Pass, Pid, ProcTable};
 use std::alloc::Global;
+use std::marker::Brand;
 use std::sync::Wait;
+use table_access::{Lent, Seating, TableAccess};
 use text_cases::Answer;
 
 /// What a script does.
@@ -59,72 +61,105 @@ pub(crate) fn carry_out<R: Wait>(
     ensures table { seat.new.table ≡ seat.old.table }
     ensures pass { pass.new.table ≡ pass.old.table }
 {
+    let lent = Lent { table, seat };
+    let _ = carry_out_at::<R, Brand>(rt, lent, pass, upgrade, answer);
+}
+
+fn carry_out_at<'t, R: Wait, S: Seating>(
+    rt: &R,
+    lent: Lent<'t>,
+    pass: &mut Pass,
+    upgrade: &Upgrade<'_>,
+    answer: &mut Answer,
+) -> &'t mut HandlerSeat
+    requires name { lent.seat.ghost_name ≡ S.name }
+    requires table { (lent.seat.now.table ≡ S.table) × (lent.table.now ≡ S.table) }
+    requires pass { pass.old.table ≡ lent.table.now }
+    requires nothing { HoldsNothing lent.seat.now.view }
+    ensures name { result.ghost_name ≡ S.name }
+    ensures table { result.now.table ≡ S.table }
+    ensures pass { pass.new.table ≡ pass.old.table }
+{
+    let table = lent.table;
+    let mut access: TableAccess<'t, S> = TableAccess::new(lent);
+    begin(rt, &mut access, table, pass, upgrade, answer);
+    access.into_seat()
+}
+
+fn begin<R: Wait, S: Seating>(
+    rt: &R,
+    access: &mut TableAccess<'_, S>,
+    table: &ProcTable,
+    pass: &mut Pass,
+    upgrade: &Upgrade<'_>,
+    answer: &mut Answer,
+)
+    requires pass { pass.old.table ≡ table.now }
+    requires nothing { HoldsNothing access.old }
+    ensures pass { pass.new.table ≡ pass.old.table }
+{
     let Ok(held) = HeldProcesses::new(upgrade.alloc) else {
         return answer.note_no_memory();
     };
     match upgrade.way {
-        Way::Kept | Way::Alone => load(rt, table, seat, pass, held, upgrade, answer),
-        Way::Restarted => stop(rt, table, seat, pass, held, upgrade, answer),
-        _ => suspend(rt, table, seat, pass, held, upgrade, answer),
+        Way::Kept | Way::Alone => load(rt, access, table, pass, held, upgrade, answer),
+        Way::Restarted => stop(rt, access, table, pass, held, upgrade, answer),
+        _ => suspend(rt, access, table, pass, held, upgrade, answer),
     }
 }
 
-fn suspend<R: Wait>(
+fn suspend<R: Wait, S: Seating>(
     rt: &R,
+    access: &mut TableAccess<'_, S>,
     table: &ProcTable,
-    seat: &mut HandlerSeat,
     pass: &mut Pass,
     mut held: HeldProcesses,
     upgrade: &Upgrade<'_>,
     answer: &mut Answer,
 )
     ghost followed: { Followed }
-    requires table { seat.old.table ≡ table.now }
     requires pass { pass.old.table ≡ table.now }
-    requires follow { AllFollow followed.first followed.courses held seat.old.view }
-    ensures table { seat.new.table ≡ seat.old.table }
+    requires follow { AllFollow followed.first followed.courses held access.old }
     ensures pass { pass.new.table ≡ pass.old.table }
 {
-    match held.suspend(rt, upgrade.alloc, table, seat, &upgrade.users) {
-        Ok(()) => load(rt, table, seat, pass, held, upgrade, answer),
+    match held.suspend(rt, upgrade.alloc, access, &upgrade.users) {
+        Ok(()) => load(rt, access, table, pass, held, upgrade, answer),
         Err(_) => {
             answer.note_no_memory();
-            held.roll_back(table, seat);
+            held.roll_back(access);
         }
     }
 }
 
-fn load<R: Wait>(
+fn load<R: Wait, S: Seating>(
     rt: &R,
+    access: &mut TableAccess<'_, S>,
     table: &ProcTable,
-    seat: &mut HandlerSeat,
     pass: &mut Pass,
     mut held: HeldProcesses,
     upgrade: &Upgrade<'_>,
     answer: &mut Answer,
 )
     ghost followed: { Followed }
-    requires table { seat.old.table ≡ table.now }
     requires pass { pass.old.table ≡ table.now }
-    requires follow { AllFollow followed.first followed.courses held seat.old.view }
-    ensures table { seat.new.table ≡ seat.old.table }
+    requires follow { AllFollow followed.first followed.courses held access.old }
     ensures pass { pass.new.table ≡ pass.old.table }
 {
     let keep = upgrade.way != Way::Alone;
     let alloc = upgrade.alloc;
-    match held.load(rt, alloc, table, seat, &upgrade.users, upgrade.worker, keep) {
-        Ok(()) => go_on(table, seat, pass, held, upgrade, keep, answer),
+    match held.load(rt, alloc, access, &upgrade.users, upgrade.worker, keep) {
+        Ok(()) => go_on(access, table, pass, held, upgrade, keep, answer),
         Err(_) => {
             answer.note_no_memory();
-            held.roll_back(table, seat);
+            held.roll_back(access);
         }
     }
 }
 
 // The client calls after a load.
-fn go_on(
+fn go_on<S: Seating>(
+    access: &mut TableAccess<'_, S>,
     table: &ProcTable,
-    seat: &mut HandlerSeat,
     pass: &mut Pass,
     held: HeldProcesses,
     upgrade: &Upgrade<'_>,
@@ -132,122 +167,103 @@ fn go_on(
     answer: &mut Answer,
 )
     ghost followed: { Followed }
-    requires table { seat.old.table ≡ table.now }
     requires pass { pass.old.table ≡ table.now }
-    requires follow { AllFollow followed.first followed.courses held seat.old.view }
-    ensures table { seat.new.table ≡ seat.old.table }
+    requires follow { AllFollow followed.first followed.courses held access.old }
     ensures pass { pass.new.table ≡ pass.old.table }
 {
     push_call(table, pass, upgrade.pid, 1, answer);
     match upgrade.way {
-        Way::Kept | Way::Alone => pass_point(table, seat, held, upgrade),
-        _ => change(table, seat, held, upgrade, answer),
+        Way::Kept | Way::Alone => pass_point(access, held, upgrade),
+        _ => change(access, held, upgrade, answer),
     }
 }
 
-fn change(
-    table: &ProcTable,
-    seat: &mut HandlerSeat,
+fn change<S: Seating>(
+    access: &mut TableAccess<'_, S>,
     mut held: HeldProcesses,
     upgrade: &Upgrade<'_>,
     answer: &mut Answer,
 )
     ghost followed: { Followed }
-    requires table { seat.old.table ≡ table.now }
-    requires follow { AllFollow followed.first followed.courses held seat.old.view }
-    ensures { seat.new.table ≡ seat.old.table }
+    requires follow { AllFollow followed.first followed.courses held access.old }
 {
     match held.change(&upgrade.users, upgrade.old, upgrade.extra) {
-        Ok(()) => end(table, seat, held, upgrade),
+        Ok(()) => end(access, held, upgrade),
         Err(_) => {
             answer.push(", no row");
-            held.roll_back(table, seat);
+            held.roll_back(access);
         }
     }
 }
 
 // The end of a script that changed the code.
-fn end(table: &ProcTable, seat: &mut HandlerSeat, held: HeldProcesses, upgrade: &Upgrade<'_>)
+fn end<S: Seating>(access: &mut TableAccess<'_, S>, held: HeldProcesses, upgrade: &Upgrade<'_>)
     ghost followed: { Followed }
-    requires table { seat.old.table ≡ table.now }
-    requires follow { AllFollow followed.first followed.courses held seat.old.view }
-    ensures { seat.new.table ≡ seat.old.table }
+    requires follow { AllFollow followed.first followed.courses held access.old }
 {
     match upgrade.way {
-        Way::Resumed => resume(table, seat, held, upgrade),
-        Way::Finished => finish(table, seat, held, upgrade),
-        _ => held.roll_back(table, seat),
+        Way::Resumed => resume(access, held, upgrade),
+        Way::Finished => finish(access, held, upgrade),
+        _ => held.roll_back(access),
     }
 }
 
-fn resume(table: &ProcTable, seat: &mut HandlerSeat, mut held: HeldProcesses, upgrade: &Upgrade<'_>)
+fn resume<S: Seating>(access: &mut TableAccess<'_, S>, mut held: HeldProcesses, upgrade: &Upgrade<'_>)
     ghost followed: { Followed }
-    requires table { seat.old.table ≡ table.now }
-    requires follow { AllFollow followed.first followed.courses held seat.old.view }
-    ensures { seat.new.table ≡ seat.old.table }
+    requires follow { AllFollow followed.first followed.courses held access.old }
 {
-    held.resume(table, seat, &upgrade.users);
-    finish(table, seat, held, upgrade);
+    held.resume(access, &upgrade.users);
+    finish(access, held, upgrade);
 }
 
-fn pass_point(
-    table: &ProcTable,
-    seat: &mut HandlerSeat,
+fn pass_point<S: Seating>(
+    access: &mut TableAccess<'_, S>,
     mut held: HeldProcesses,
     upgrade: &Upgrade<'_>,
 )
     ghost followed: { Followed }
-    requires table { seat.old.table ≡ table.now }
-    requires follow { AllFollow followed.first followed.courses held seat.old.view }
-    ensures { seat.new.table ≡ seat.old.table }
+    requires follow { AllFollow followed.first followed.courses held access.old }
 {
-    held.pass_point(table, seat);
-    finish(table, seat, held, upgrade);
+    held.pass_point(access);
+    finish(access, held, upgrade);
 }
 
-fn stop<R: Wait>(
+fn stop<R: Wait, S: Seating>(
     rt: &R,
+    access: &mut TableAccess<'_, S>,
     table: &ProcTable,
-    seat: &mut HandlerSeat,
     pass: &mut Pass,
     mut held: HeldProcesses,
     upgrade: &Upgrade<'_>,
     answer: &mut Answer,
 )
     ghost followed: { Followed }
-    requires table { seat.old.table ≡ table.now }
     requires pass { pass.old.table ≡ table.now }
-    requires follow { AllFollow followed.first followed.courses held seat.old.view }
-    ensures table { seat.new.table ≡ seat.old.table }
+    requires follow { AllFollow followed.first followed.courses held access.old }
     ensures pass { pass.new.table ≡ pass.old.table }
 {
-    held.stop(rt, table, seat, &upgrade.users);
+    held.stop(rt, access, &upgrade.users);
     push_call(table, pass, upgrade.pid, 1, answer);
-    start(rt, table, seat, held, upgrade);
+    start(rt, access, held, upgrade);
 }
 
-fn start<R: Wait>(
+fn start<R: Wait, S: Seating>(
     rt: &R,
-    table: &ProcTable,
-    seat: &mut HandlerSeat,
+    access: &mut TableAccess<'_, S>,
     mut held: HeldProcesses,
     upgrade: &Upgrade<'_>,
 )
     ghost followed: { Followed }
-    requires table { seat.old.table ≡ table.now }
-    requires follow { AllFollow followed.first followed.courses held seat.old.view }
-    ensures { seat.new.table ≡ seat.old.table }
+    requires follow { AllFollow followed.first followed.courses held access.old }
 {
-    held.start(rt, table, seat, &upgrade.users);
-    finish(table, seat, held, upgrade);
+    held.start(rt, access, &upgrade.users);
+    finish(access, held, upgrade);
 }
 
 // By the script the caller's proof names what was done.
-fn finish(table: &ProcTable, seat: &mut HandlerSeat, held: HeldProcesses, _upgrade: &Upgrade<'_>)
+fn finish<S: Seating>(access: &mut TableAccess<'_, S>, held: HeldProcesses, _upgrade: &Upgrade<'_>)
     ghost followed: { Followed }
-    requires table { seat.old.table ≡ table.now }
-    requires follow { AllFollow followed.first followed.courses held seat.old.view }
-    ensures { seat.new.table ≡ seat.old.table }
+    requires follow { AllFollow followed.first followed.courses held access.old }
 {
-    held.finish(table, seat);
+    held.finish(access);
 }

@@ -4,13 +4,13 @@ use Rattle.erl_term.specs.Value.{value_of}
 use Rattle.library.specs.InMemory.{shared_of}
 use Rattle.script_progress.specs.declared.cause.Cause as declared
 use Rattle.script_progress.specs.declared.cause.Cause.TheVariants.{NoLibrary, NoModule, NotFetched, NoTable, NoChange, Raised, InUse, NoApp, NoSlot, Unsupported, NoSuper, NoMemory}
-use Rattle.script_progress.specs.declared.site.Site as lent
+use Rattle.script_progress.specs.declared.sources.Sources as lent
 use Rattle.script_progress.specs.Fault.{Cause}
 use Rattle.script_progress.specs.Fault.Cause.{no_library, no_module, not_fetched, no_table, no_change, raised, in_use, no_app, no_slot, unsupported, no_super, no_memory}
 use Rattle.script_progress.specs.Script.{Site}
 use Rattle.loaded_modules.specs.Loaded.{listed_in}
 
-abbrev pub site_of : lent.Site → Site
+abbrev pub site_of : lent.Sources → Site
 site_of s = record { releases = s.list.now; target = map shared_of s.target.now; loaded = listed_in s.loaded.now }
 
 abbrev pub cause_of : declared.Cause → Cause

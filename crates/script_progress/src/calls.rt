@@ -9,26 +9,26 @@ ghost use Rattle.relup_instruction.specs.Instruction.Instruction.{apply};
 ghost use Rattle.relup_file.specs.Script.{is_supported_call};
 ghost use Rattle.script_progress.specs.Apps.{CallsApp, StartsFrom, app_call_of, start_cause};
 ghost use Rattle.script_progress.specs.InMemory.{cause_of, site_of};
-ghost use Rattle.script_progress.specs.Calls.AppCall.{stops};
 ghost use Rattle.script_progress.specs.Calls.{app_call, first_atom};
-ghost use Rattle.script_progress.specs.Script.{called_after, target_library};
+ghost use Rattle.script_progress.specs.Script.{scene_of, target_library, with_scene};
 ghost use Rattle.script_progress.specs.Steps.{CarriesOutLate, HasDone, GoesByLooks, Past, progress_of};
 ghost use Rattle.script_progress.specs.Stops.{AsksMemory, app_takes_memory, may_start};
+ghost use Rattle.held_processes.specs.Applications.{with_stopped};
 ghost use Rattle.held_processes.specs.Following.{AreLonger};
 
 use crate::cause::failure_at_start;
 use crate::child::{call_child, child_call};
 use crate::errors::{error_term, raise};
-use crate::{Cause, Failure, Progress, Site, on_no_child};
+use crate::{Cause, Failure, Progress, Sources, on_no_child};
 use erl_term::Term;
 use held_processes::AppName;
 use library::Library;
-use proc_table::HandlerSeat;
 use relup_instruction::Call;
 use std::alloc::Global;
 use std::rc::Rc;
 use std::sync::Wait;
 use sup_tree::StartError;
+use table_access::{Seating, TableAccess};
 
 // What a call does to applications. Those that load and unload them do nothing.
 enum AppCall<'a> {
@@ -40,58 +40,54 @@ enum AppCall<'a> {
 /// Makes a call on an application or on a child of a supervisor after the point of no return, or raises the script's error. It
 /// reports whether a child was left as it is. Where it fails, the failure reports why, and whether what stood for a child was given
 /// up. It waits for processes that clients have.
-pub fn apply<R: Wait>(
+pub fn apply<R: Wait, S: Seating>(
     progress: &mut Progress,
     rt: &R,
     alloc: Global,
-    site: &Site<'_>,
-    seat: &mut HandlerSeat,
+    access: &mut TableAccess<'_, S>,
+    sources: &Sources<'_>,
     call: &Call,
 ) -> Result<bool, Failure>
     ghost past: { Past }
-    requires table { seat.old.table ≡ site.now.table.now }
     requires supported { IsTrue (is_supported_call (call_of call.now)) }
-    requires done { HasDone past (progress_of progress.old) progress.old.tree seat.old.view }
-    ensures table { seat.new.table ≡ seat.old.table }
-    ensures longer { AreLonger seat.old.view seat.new.view }
-    ensures carried { CarriesOutLate (site_of site.now) past (apply (call_of call.now))
-        result (progress_of progress.new) progress.new.tree seat.old.view seat.new.view }
+    requires done { HasDone past (progress_of progress.old) progress.old.tree access.old }
+    ensures longer { AreLonger access.old access.new }
+    ensures carried { CarriesOutLate (site_of sources.now) past (apply (call_of call.now))
+        result (progress_of progress.new) progress.new.tree access.old access.new }
     ensures looked { GoesByLooks past (apply (call_of call.now)) result
-        seat.old.view seat.new.view }
+        access.old access.new }
 {
     match call.name.as_str() {
-        "application" => on_no_child(call_app(progress, rt, alloc, site, seat, app_call(call))),
-        "supervisor" => call_child(progress, rt, alloc, site, seat, child_call(call)),
+        "application" => on_no_child(call_app(progress, rt, alloc, access, sources, app_call(call))),
+        "supervisor" => call_child(progress, rt, alloc, access, child_call(call)),
         _ => Err(raise(error_term(call))),
     }
 }
 
 // A call on an application. It does nothing where it neither starts nor stops one.
-fn call_app<R: Wait>(
+fn call_app<R: Wait, S: Seating>(
     progress: &mut Progress,
     rt: &R,
     alloc: Global,
-    site: &Site<'_>,
-    seat: &mut HandlerSeat,
+    access: &mut TableAccess<'_, S>,
+    sources: &Sources<'_>,
     call: AppCall<'_>,
 ) -> Result<(), Failure>
     ghost past: { Past }
-    requires table { seat.old.table ≡ site.now.table.now }
-    requires done { HasDone past (progress_of progress.old) progress.old.tree seat.old.view }
-    ensures table { seat.new.table ≡ seat.old.table }
-    ensures longer { AreLonger seat.old.view seat.new.view }
-    ensures called { CallsApp (site_of site.now) past (app_call_of call.entry)
-        result (progress_of progress.new) progress.new.tree seat.new.view }
+    requires done { HasDone past (progress_of progress.old) progress.old.tree access.old }
+    ensures longer { AreLonger access.old access.new }
+    ensures called { CallsApp (site_of sources.now) past (app_call_of call.entry)
+        result (progress_of progress.new) progress.new.tree access.new }
     ensures memory { AsksMemory
-        (app_takes_memory (site_of site.now) (app_call_of call.entry) past.run) result }
+        (app_takes_memory (site_of sources.now) (app_call_of call.entry) past.run) result }
 {
     match call {
-        AppCall::Starts(app) => match target_library(site, app) {
-            Some(library) => start_from(progress, rt, alloc, site, seat, library.as_ref()),
+        AppCall::Starts(app) => match target_library(sources, app) {
+            Some(library) => start_from(progress, rt, alloc, access, library.as_ref()),
             None => Err(failure_at_start(Cause::NoApp)),
         },
         AppCall::Stops(name) => {
-            stop_app(progress, rt, site, seat, &AppName { name });
+            stop_app(progress, rt, access, &AppName { name });
             Ok(())
         }
         AppCall::Idle => Ok(()),
@@ -99,29 +95,25 @@ fn call_app<R: Wait>(
 }
 
 // The application of this library is started, unless it is.
-fn start_from<R: Wait>(
+fn start_from<R: Wait, S: Seating>(
     progress: &mut Progress,
     rt: &R,
     alloc: Global,
-    site: &Site<'_>,
-    seat: &mut HandlerSeat,
+    access: &mut TableAccess<'_, S>,
     library: &Library,
 ) -> Result<(), Failure>
     ghost past: { Past }
-    requires table { seat.old.table ≡ site.now.table.now }
-    requires done { HasDone past (progress_of progress.old) progress.old.tree seat.old.view }
-    ensures table { seat.new.table ≡ seat.old.table }
-    ensures longer { AreLonger seat.old.view seat.new.view }
+    requires done { HasDone past (progress_of progress.old) progress.old.tree access.old }
+    ensures longer { AreLonger access.old access.new }
     ensures started { StartsFrom (Some (library_of library.now)) past
-        result (progress_of progress.new) progress.new.tree seat.new.view }
+        result (progress_of progress.new) progress.new.tree access.new }
     ensures memory { AsksMemory (may_start (Some (library_of library.now)) past.run) result }
 {
     let Library { app, .. } = library;
     match progress.held.start_app(
         rt,
         alloc,
-        site.table,
-        seat,
+        access,
         &mut progress.tree,
         app,
         &progress.next,
@@ -135,26 +127,22 @@ fn start_from<R: Wait>(
 }
 
 // The application is stopped, if it is started.
-fn stop_app<R: Wait>(
+fn stop_app<R: Wait, S: Seating>(
     progress: &mut Progress,
     rt: &R,
-    site: &Site<'_>,
-    seat: &mut HandlerSeat,
+    access: &mut TableAccess<'_, S>,
     app: &AppName<'_>,
 )
     ghost past: { Past }
-    requires table { seat.old.table ≡ site.now.table.now }
-    requires done { HasDone past (progress_of progress.old) progress.old.tree seat.old.view }
-    ensures table { seat.new.table ≡ seat.old.table }
-    ensures longer { AreLonger seat.old.view seat.new.view }
+    requires done { HasDone past (progress_of progress.old) progress.old.tree access.old }
+    ensures longer { AreLonger access.old access.new }
     ensures done { HasDone (record past {
-      run = called_after (site_of site.now)
-          (stops app.now.name.now) past.run;
-    }) (progress_of progress.new) progress.new.tree seat.new.view }
+      run = with_scene past.run (with_stopped app.now.name.now (scene_of past.run));
+    }) (progress_of progress.new) progress.new.tree access.new }
 {
     progress
         .held
-        .stop_app(rt, site.table, seat, &mut progress.tree, app);
+        .stop_app(rt, access, &mut progress.tree, app);
 }
 
 // What a call does to applications.
@@ -183,11 +171,11 @@ pub(crate) fn first_atom(args: &[Term]) -> &str
 }
 
 // The library of this application in the release to which the script leads.
-fn target_library<'a>(site: &Site<'a>, app: &str) -> Option<&'a Rc<Library>>
+fn target_library<'a>(sources: &Sources<'a>, app: &str) -> Option<&'a Rc<Library>>
     ensures { option_map (λ l. shared_of l.now) result
-        ≡ target_library (site_of site.now) app.now }
+        ≡ target_library (site_of sources.now) app.now }
 {
-    for library in site.target {
+    for library in sources.target {
         if library.app.name.as_str() == app {
             return Some(library);
         }

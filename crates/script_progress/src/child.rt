@@ -11,14 +11,14 @@ ghost use Rattle.held_processes.specs.Following.{AreLonger};
 
 use crate::calls::first_atom;
 use crate::cause::failure_at_start;
-use crate::{Cause, Failure, Progress, Site};
+use crate::{Cause, Failure, Progress};
 use erl_term::Term;
 use held_processes::{ChildName, NotRestarted};
-use proc_table::HandlerSeat;
 use relup_instruction::Call;
 use std::alloc::Global;
 use std::sync::Wait;
 use sup_tree::RestartError;
+use table_access::{Seating, TableAccess};
 
 // What a call does to a child of a supervisor.
 pub(crate) enum ChildCall<'a> {
@@ -29,51 +29,45 @@ pub(crate) enum ChildCall<'a> {
 }
 
 // A call on a child of a supervisor, which reports whether the child was left as it is.
-pub(crate) fn call_child<R: Wait>(
+pub(crate) fn call_child<R: Wait, S: Seating>(
     progress: &mut Progress,
     rt: &R,
     alloc: Global,
-    site: &Site<'_>,
-    seat: &mut HandlerSeat,
+    access: &mut TableAccess<'_, S>,
     call: ChildCall<'_>,
 ) -> Result<bool, Failure>
     ghost past: { Past }
-    requires table { seat.old.table ≡ site.now.table.now }
-    requires done { HasDone past (progress_of progress.old) progress.old.tree seat.old.view }
-    ensures table { seat.new.table ≡ seat.old.table }
-    ensures longer { AreLonger seat.old.view seat.new.view }
+    requires done { HasDone past (progress_of progress.old) progress.old.tree access.old }
+    ensures longer { AreLonger access.old access.new }
     ensures called { CallsChild past (child_call_of call.entry)
         result (progress_of progress.new) progress.new.tree
-        seat.old.view seat.new.view }
+        access.old access.new }
 {
     match call {
-        ChildCall::Terminates(child) => terminate_child(progress, rt, site, seat, &child),
-        ChildCall::Deletes(child) => delete_child(progress, rt, site, seat, &child),
-        ChildCall::Restarts(child) => restart_child(progress, rt, alloc, site, seat, &child),
+        ChildCall::Terminates(child) => terminate_child(progress, rt, access, &child),
+        ChildCall::Deletes(child) => delete_child(progress, rt, access, &child),
+        ChildCall::Restarts(child) => restart_child(progress, rt, alloc, access, &child),
         ChildCall::Nothing => Ok(false),
     }
 }
 
 // The child is terminated, if its supervisor has it.
-fn terminate_child<R: Wait>(
+fn terminate_child<R: Wait, S: Seating>(
     progress: &mut Progress,
     rt: &R,
-    site: &Site<'_>,
-    seat: &mut HandlerSeat,
+    access: &mut TableAccess<'_, S>,
     child: &ChildName<'_>,
 ) -> Result<bool, Failure>
     ghost past: { Past }
-    requires table { seat.old.table ≡ site.now.table.now }
-    requires done { HasDone past (progress_of progress.old) progress.old.tree seat.old.view }
-    ensures table { seat.new.table ≡ seat.old.table }
-    ensures longer { AreLonger seat.old.view seat.new.view }
+    requires done { HasDone past (progress_of progress.old) progress.old.tree access.old }
+    ensures longer { AreLonger access.old access.new }
     ensures called { CallsChild past (terminates child.now.supervisor.now child.now.id.now)
         result (progress_of progress.new) progress.new.tree
-        seat.old.view seat.new.view }
+        access.old access.new }
 {
     match progress
         .held
-        .terminate_child(rt, site.table, seat, &mut progress.tree, child)
+        .terminate_child(rt, access, &mut progress.tree, child)
     {
         Ok(()) => Ok(false),
         Err(_) => Err(failure_at_start(Cause::NoSuper)),
@@ -81,25 +75,22 @@ fn terminate_child<R: Wait>(
 }
 
 // The child is deleted, unless it is up.
-fn delete_child<R: Wait>(
+fn delete_child<R: Wait, S: Seating>(
     progress: &mut Progress,
     rt: &R,
-    site: &Site<'_>,
-    seat: &mut HandlerSeat,
+    access: &mut TableAccess<'_, S>,
     child: &ChildName<'_>,
 ) -> Result<bool, Failure>
     ghost past: { Past }
-    requires table { seat.old.table ≡ site.now.table.now }
-    requires done { HasDone past (progress_of progress.old) progress.old.tree seat.old.view }
-    ensures table { seat.new.table ≡ seat.old.table }
-    ensures longer { AreLonger seat.old.view seat.new.view }
+    requires done { HasDone past (progress_of progress.old) progress.old.tree access.old }
+    ensures longer { AreLonger access.old access.new }
     ensures called { CallsChild past (deletes child.now.supervisor.now child.now.id.now)
         result (progress_of progress.new) progress.new.tree
-        seat.old.view seat.new.view }
+        access.old access.new }
 {
     match progress
         .held
-        .delete_child(rt, site.table, seat, &mut progress.tree, child)
+        .delete_child(rt, access, &mut progress.tree, child)
     {
         Ok(stays) => Ok(stays),
         Err(_) => Err(failure_at_start(Cause::NoSuper)),
@@ -107,28 +98,24 @@ fn delete_child<R: Wait>(
 }
 
 // The child begins again, with the tables that are loaded, unless it stays.
-fn restart_child<R: Wait>(
+fn restart_child<R: Wait, S: Seating>(
     progress: &mut Progress,
     rt: &R,
     alloc: Global,
-    site: &Site<'_>,
-    seat: &mut HandlerSeat,
+    access: &mut TableAccess<'_, S>,
     child: &ChildName<'_>,
 ) -> Result<bool, Failure>
     ghost past: { Past }
-    requires table { seat.old.table ≡ site.now.table.now }
-    requires done { HasDone past (progress_of progress.old) progress.old.tree seat.old.view }
-    ensures table { seat.new.table ≡ seat.old.table }
-    ensures longer { AreLonger seat.old.view seat.new.view }
+    requires done { HasDone past (progress_of progress.old) progress.old.tree access.old }
+    ensures longer { AreLonger access.old access.new }
     ensures called { CallsChild past (restarts child.now.supervisor.now child.now.id.now)
         result (progress_of progress.new) progress.new.tree
-        seat.old.view seat.new.view }
+        access.old access.new }
 {
     match progress.held.restart_child(
         rt,
         alloc,
-        site.table,
-        seat,
+        access,
         &mut progress.tree,
         &progress.next,
         child,

@@ -20,11 +20,11 @@ mod cause;
 mod child;
 mod errors;
 mod progress;
-mod site;
+mod sources;
 
 pub use calls::apply;
 pub use cause::{Cause, Failure, failure_at_start, on_no_child};
 pub use errors::{error_term, raise};
 pub use progress::Progress;
-pub use site::Site;
+pub use sources::Sources;
 pub use sup_tree::Tree;

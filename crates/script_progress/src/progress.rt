@@ -9,12 +9,12 @@ ghost use Rattle.script_progress.specs.InMemory.{site_of};
 ghost use Rattle.script_progress.specs.Script.{began};
 ghost use Rattle.script_progress.specs.Steps.{HasDone, progress_of};
 
-use crate::Site;
+use crate::Sources;
 use held_processes::HeldProcesses;
 use loaded_modules::Loaded;
-use proc_table::{HandlerSeat, ProcTable};
 use std::alloc::{AllocError, Global};
 use sup_tree::Tree;
+use table_access::{Seating, TableAccess};
 
 /// What a script holds and has fetched so far, and what is loaded and started once it has ended well.
 pub struct Progress {
@@ -26,13 +26,13 @@ pub struct Progress {
 
 impl Progress {
     /// Nothing was done yet, where these applications are started.
-    pub fn new(alloc: Global, site: &Site<'_>, tree: &Tree) -> Result<Progress, AllocError>
+    pub fn new(alloc: Global, sources: &Sources<'_>, tree: &Tree) -> Result<Progress, AllocError>
         ensures tree { IfOk result (λ p. p.tree ≡ tree.now) }
         ensures begun { IfOk result (λ p. (v : View) → HoldsNothing v → HasDone
-            (record { first = v; run = began (site_of site.now) p.tree (values_seen v) })
+            (record { first = v; run = began (site_of sources.now) p.tree (values_seen v) })
             (progress_of p) p.tree v) }
     {
-        let next = site.loaded.copy()?;
+        let next = sources.loaded.copy()?;
         let tree = tree.copy(alloc)?;
         let held = HeldProcesses::new(alloc)?;
         let fetched = Loaded::new(alloc);
@@ -45,15 +45,13 @@ impl Progress {
     }
 
     /// Each process that is held goes back as it was. It takes no memory, and waits for nobody.
-    pub fn roll_back(self, table: &ProcTable, seat: &mut HandlerSeat)
-        requires table { seat.old.table ≡ table.now }
+    pub fn roll_back<S: Seating>(self, access: &mut TableAccess<'_, S>)
         requires follow { (first : View) × (courses : Courses)
-            × AllFollow first courses self.held seat.old.view }
-        ensures table { seat.new.table ≡ seat.old.table }
+            × AllFollow first courses self.held access.old }
         ensures left { (first : View) (courses : Courses) → AllFollow first courses self.held
-            seat.old.view → AreLeft first courses seat.new.view }
-        ensures seen { (p : ℕ) → seen seat.new.view p ≡ seen seat.old.view p }
-        ensures found { seat.new.view.found ≡ seat.old.view.found }
+            access.old → AreLeft first courses access.new }
+        ensures seen { (p : ℕ) → seen access.new p ≡ seen access.old p }
+        ensures found { access.new.found ≡ access.old.found }
     {
         let Progress {
             held,
@@ -61,6 +59,6 @@ impl Progress {
             next: _next,
             tree: _tree,
         } = self;
-        held.roll_back(table, seat);
+        held.roll_back(access);
     }
 }

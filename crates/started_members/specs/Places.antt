@@ -10,7 +10,7 @@ use Rattle.started_members.specs.declared.member.Member.{Member}
 use Rattle.started_members.specs.declared.looks.Stay.{Stay}
 use Rattle.started_members.specs.declared.member.MemberState.TheVariants.{Ended}
 use Rattle.started_members.specs.Changes.{one_deeper}
-use Rattle.started_members.specs.Looks.{StateLookedAt}
+use Rattle.started_members.specs.Looks.{StateLookedAt, kept_at}
 use Rattle.started_members.specs.Ends.{MemberEnded}
 use Rattle.started_members.specs.Members.{is_supervisor, process_in}
 
@@ -82,7 +82,7 @@ nothing_kept p = []
 -- Whether the child stays, by a look at what stands for it. Where there is none, nothing is to be done either.
 abbrev pub ChildLookedAt : Stay → Option Place → Bool → View → View → Type 0
 ChildLookedAt stay None stays v w = (stays ≡ true) × (w ≡ v)
-ChildLookedAt stay (Some p) stays v w = StateLookedAt stay p.child.state stays v w
+ChildLookedAt stay (Some p) stays v w = StateLookedAt (kept_at stay p.child.restart) p.child.state stays v w
 
 -- The process of the child was given up, unless it stays.
 abbrev pub ChildEndedUnless : Bool → Option Place → View → View → Type 0

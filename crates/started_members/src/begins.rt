@@ -8,7 +8,8 @@ ghost use Rattle.started_members.specs.Begins.{state_before};
 use crate::{Member, MemberState, StartedProcess};
 use app_members::NewMember;
 use mod_table::Table;
-use proc_table::{Beginning, HandlerSeat, Name, ProcTable};
+use proc_table::{Beginning, Name};
+use table_access::{Seating, TableAccess};
 use std::alloc::{AllocError, Global};
 use std::sync::Wait;
 
@@ -34,42 +35,36 @@ pub struct Preparation {
 
 /// A process begins for each member that is one, in the lowest slot in which one can, one after another. There are as many such
 /// slots, and so much room. It waits for the slots.
-pub fn begin_all<R: Wait>(
+pub fn begin_all<R: Wait, S: Seating>(
     rt: &R,
-    table: &ProcTable,
-    seat: &mut HandlerSeat,
+    access: &mut TableAccess<'_, S>,
     prepared: Vec<Preparation>,
     members: &mut Vec<Member>,
 )
-    requires table { seat.old.table ≡ table.now }
-    requires slots { length (to_begin prepared.items) ≤ free_count seat.old.view }
+    requires slots { length (to_begin prepared.items) ≤ free_count access.old }
     requires none { members.old.items ≡ [] }
     requires room { length prepared.items ≤ vec_capacity members.old }
-    ensures table { seat.new.table ≡ seat.old.table }
-    ensures began { AllBegan prepared.items seat.old.view members.new.items seat.new.view }
+    ensures began { AllBegan prepared.items access.old members.new.items access.new }
 {
     for preparation in prepared {
-        members.push_reserved(begin(rt, table, seat, preparation));
+        members.push_reserved(begin(rt, access, preparation));
     }
 }
 
 // The process of a member begins, where it is one.
-fn begin<R: Wait>(
+fn begin<R: Wait, S: Seating>(
     rt: &R,
-    table: &ProcTable,
-    seat: &mut HandlerSeat,
+    access: &mut TableAccess<'_, S>,
     preparation: Preparation,
 ) -> Member
-    requires table { seat.old.table ≡ table.now }
-    requires slots { length (to_begin (preparation ∷ [])) ≤ free_count seat.old.view }
-    ensures table { seat.new.table ≡ seat.old.table }
-    ensures began { IsBegun preparation seat.old.view result seat.new.view }
+    requires slots { length (to_begin (preparation ∷ [])) ≤ free_count access.old }
+    ensures began { IsBegun preparation access.old result access.new }
 {
     let Preparation { member, process } = preparation;
     let Some(NewProcess { begins, id, module }) = process else {
         return member;
     };
-    let Ok(pid) = table.begin_lowest(rt, seat, begins) else {
+    let Ok(pid) = access.begin_lowest(rt, begins) else {
         unreachable!();
     };
     let mut begun = member;

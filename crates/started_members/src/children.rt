@@ -13,60 +13,54 @@ use crate::looks::{Stay, member_stays};
 use crate::places::{range_of_child, take_out};
 use crate::{Member, MemberState};
 use mod_table::Restart;
-use proc_table::{HandlerSeat, ProcTable};
+use table_access::{Seating, TableAccess};
 use std::sync::Wait;
 
 /// The child of this id of the first supervisor of this module among these members ends, and those below it: their processes are
 /// given up, the last first. Its specification stays, unless it is temporary. Nothing is done where there is no such child.
-pub fn terminate<R: Wait>(
+pub fn terminate<R: Wait, S: Seating>(
     rt: &R,
-    table: &ProcTable,
-    seat: &mut HandlerSeat,
+    access: &mut TableAccess<'_, S>,
     members: &mut Vec<Member>,
     module: &str,
     id: &str,
 )
-    requires { seat.old.table ≡ table.now }
-    ensures table { seat.new.table ≡ seat.old.table }
     ensures ended { EndedInOrder (reverse (pids_of (processes_among
         (option_map_or with_below (child_in «module».now id.now members.old.items) []))))
-        seat.old.view seat.new.view }
+        access.old access.new }
     ensures members { members.new.items
         ≡ members_with specification_kept «module».now id.now members.old.items }
 {
     let Some((start, end)) = range_of_child(members.as_slice(), module, id) else {
         return;
     };
-    end_all(rt, table, seat, &members[start..end]);
+    end_all(rt, access, &members[start..end]);
     remove_below(members, start, end);
 }
 
 /// The child of this id of the first supervisor of this module among these members goes, unless it is up. It answers whether
 /// nothing was done: the child is up, or there is none.
-pub fn delete<R: Wait>(
+pub fn delete<R: Wait, S: Seating>(
     rt: &R,
-    table: &ProcTable,
-    seat: &mut HandlerSeat,
+    access: &mut TableAccess<'_, S>,
     members: &mut Vec<Member>,
     module: &str,
     id: &str,
 ) -> bool
-    requires { seat.old.table ≡ table.now }
-    ensures table { seat.new.table ≡ seat.old.table }
     ensures ended { (look : View) × ChildLookedAt Up
-        (child_in «module».now id.now members.old.items) result seat.old.view look
+        (child_in «module».now id.now members.old.items) result access.old look
         × ChildEndedUnless result (child_in «module».now id.now members.old.items)
-        look seat.new.view }
+        look access.new }
     ensures members { members.new.items ≡ (if result then members.old.items
         else members_with nothing_kept «module».now id.now members.old.items) }
 {
     let Some((start, end)) = range_of_child(members.as_slice(), module, id) else {
         return true;
     };
-    if member_stays(rt, table, seat, &members[start], Stay::Up) {
+    if member_stays(rt, access, &members[start], Stay::Up) {
         return true;
     }
-    end_member(rt, table, seat, &members[start]);
+    end_member(rt, access, &members[start]);
     take_out(members, start, end);
     false
 }

@@ -4,46 +4,41 @@ ghost use Rattle.started_members.specs.Members.{pids_of, process_in, processes_a
 ghost use Rattle.started_members.specs.Ends.{EndedAt, EndedInOrder, MemberEnded, stands};
 
 use crate::Member;
-use proc_table::{Entry, HandlerSeat, Pid, ProcTable, Value};
+use proc_table::{Entry, Pid, Value};
+use table_access::{Seating, TableAccess};
 use std::sync::Wait;
 
 /// The processes of these members are given up, the last first, but for those that were given up before. It waits for their slots,
 /// and without end for one that the handler itself holds. It takes no memory.
-pub fn end_all<R: Wait>(rt: &R, table: &ProcTable, seat: &mut HandlerSeat, mut members: &[Member])
-    requires { seat.old.table ≡ table.now }
-    ensures table { seat.new.table ≡ seat.old.table }
+pub fn end_all<R: Wait, S: Seating>(rt: &R, access: &mut TableAccess<'_, S>, mut members: &[Member])
     ensures ended { EndedInOrder
-        (reverse (pids_of (processes_among members.now))) seat.old.view seat.new.view }
+        (reverse (pids_of (processes_among members.now))) access.old access.new }
 {
     while let Some((last, others)) = members.split_last() {
-        end_member(rt, table, seat, last);
+        end_member(rt, access, last);
         members = others;
     }
 }
 
 /// The process of a member is given up, where one stands for it, unless it was before.
-pub fn end_member<R: Wait>(rt: &R, table: &ProcTable, seat: &mut HandlerSeat, member: &Member)
-    requires { seat.old.table ≡ table.now }
-    ensures table { seat.new.table ≡ seat.old.table }
-    ensures ended { MemberEnded (process_in member.now) seat.old.view seat.new.view }
+pub fn end_member<R: Wait, S: Seating>(rt: &R, access: &mut TableAccess<'_, S>, member: &Member)
+    ensures ended { MemberEnded (process_in member.now) access.old access.new }
 {
     if let Some(process) = member.process() {
-        end(rt, table, seat, process.pid);
+        end(rt, access, process.pid);
     }
 }
 
 // The process is given up, unless it was before.
-fn end<R: Wait>(rt: &R, table: &ProcTable, seat: &mut HandlerSeat, pid: Pid)
-    requires { seat.old.table ≡ table.now }
-    ensures table { seat.new.table ≡ seat.old.table }
-    ensures ended { EndedAt pid seat.old.view seat.new.view }
+fn end<R: Wait, S: Seating>(rt: &R, access: &mut TableAccess<'_, S>, pid: Pid)
+    ensures ended { EndedAt pid access.old access.new }
 {
-    let mut held = table.hold(rt, seat, pid);
+    let mut held = access.hold(rt, pid);
     if stands(held.value(), pid) {
         held.give_up();
-        table.release(seat, held, &[Entry::GivenUp]);
+        access.release(held, &[Entry::GivenUp]);
     } else {
-        table.release(seat, held, &[]);
+        access.release(held, &[]);
     }
 }
 

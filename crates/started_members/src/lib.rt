@@ -36,7 +36,7 @@ pub use ends::{end_all, end_member};
 pub use finds::{
     add_using, module_among, note_users, process_with, supervises_in, supervisor_count,
 };
-pub use looks::{Stay, member_stays};
+pub use looks::{Kept, Stay, member_stays};
 pub use member::{Member, MemberState, StartedProcess};
 pub use mod_table::{Child, Super};
 pub use places::{put_in, range_of_child, take_out, with_below};

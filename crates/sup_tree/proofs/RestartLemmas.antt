@@ -17,7 +17,7 @@ use Rattle.started_members.specs.declared.looks.Stay.TheVariants.{UpOrTemporary}
 use Rattle.started_members.specs.declared.member.Member.{Member}
 use Rattle.started_members.specs.Places.{AreAt, IsRange, Place, in_place, replaced}
 use Rattle.sup_tree.specs.Children.{apps_with, child_place, has_one_supervisor}
-use Rattle.started_members.specs.Looks.{StateLookedAt}
+use Rattle.started_members.specs.Looks.{StateLookedAt, kept_at}
 use Rattle.sup_tree.specs.Restarts.{BeginsAgain, Prepares, RestartFaultIs, Restarts, RestartsChild, RestartsUnless, app_at, restart_cause, super_app}
 use Rattle.started_members.specs.Begins.{restart_fault, restart_members, members_at}
 use Rattle.started_members.specs.Ends.{MemberEnded}
@@ -45,14 +45,14 @@ not_begun tables app p change old v NoMemory fault = ((tt, refl), refl)
 
 -- where the child is there, and doesn't stay by a look at what stands for it, what is said of its place is said of the application
 pub begun_again : (tables : Tables) (app : App) (o : Option Place) (start end : ℕ) (m : Member) (v look : View) (r : Result Unit RestartError) (new : App) (w : View)
-    → AreAt o app.members (Some (start, end)) → m ≡ slice_index_or app.members start m → StateLookedAt UpOrTemporary m.state false v look
+    → AreAt o app.members (Some (start, end)) → m ≡ slice_index_or app.members start m → StateLookedAt (kept_at UpOrTemporary m.restart) m.state false v look
     → ((p : Place) → IsRange app.members p start end → BeginsAgain tables app.name p (app_at p app) app look r new w)
     → Restarts tables app.name o (λ (ms : List Member). record app { members = option_map_or (replaced (in_place ms)) o app.members }) app v (result_map_both (λ x. false) (λ e. e) r) new w
 begun_again tables app None start end m v look r new w at is looked begun = absurd at
 begun_again tables app (Some p) start end m v look r new w at is looked begun = record {
   stays = false;
   look = look;
-  looked = subst (λ (c : Member). StateLookedAt UpOrTemporary c.state false v look) (first_is p app.members start end m at is) looked;
+  looked = subst (λ (c : Member). StateLookedAt (kept_at UpOrTemporary c.restart) c.state false v look) (first_is p app.members start end m at is) looked;
   outcome = by r (begun p at);
 }
   where

@@ -4,9 +4,9 @@ ghost use Rattle.sup_tree.specs.Children.{DeletesChild, IsPlaceOfOnlySuper, IsPl
 ghost use Rattle.sup_tree.specs.Tree.{app_of};
 
 use crate::{NoSuper, StartedApp, Tree};
-use proc_table::{HandlerSeat, ProcTable};
 use started_members::{Member, delete, supervises_in, supervisor_count, terminate, with_below};
 use std::sync::Wait;
+use table_access::{Seating, TableAccess};
 
 impl Tree {
     /// Whether exactly one supervisor of this module is started.
@@ -31,23 +31,20 @@ impl Tree {
     /// and those of all below it, the last first, but for those that were given up before. The specification of the child stays,
     /// unless it is temporary. Nothing is done where the supervisor has no such child. It waits for the slots, and without end
     /// for one that the handler itself holds. It takes no memory.
-    pub fn terminate_child<R: Wait>(
+    pub fn terminate_child<R: Wait, S: Seating>(
         &mut self,
         rt: &R,
-        table: &ProcTable,
-        seat: &mut HandlerSeat,
+        access: &mut TableAccess<'_, S>,
         module: &str,
         id: &str,
     ) -> Result<(), NoSuper>
-        requires { seat.old.table ≡ table.now }
-        ensures table { seat.new.table ≡ seat.old.table }
         ensures terminated { TerminatesChild «module».now id.now
-            self.old seat.old.view result self.new seat.new.view }
+            self.old access.old result self.new access.new }
     {
         let Some(place) = place_of_only_super(self.apps.as_slice(), module) else {
             return Err(NoSuper);
         };
-        terminate(rt, table, seat, &mut self.apps[place].members, module, id);
+        terminate(rt, access, &mut self.apps[place].members, module, id);
         Ok(())
     }
 
@@ -55,23 +52,20 @@ impl Tree {
     /// supervisor:delete_child/2). A child is up where its process is, and a supervisor always. Where its process is down or
     /// stopped, it is given up. It answers whether nothing was done: the child is up, or there is none. It waits for the slot, and
     /// without end for one that the handler itself holds. It takes no memory.
-    pub fn delete_child<R: Wait>(
+    pub fn delete_child<R: Wait, S: Seating>(
         &mut self,
         rt: &R,
-        table: &ProcTable,
-        seat: &mut HandlerSeat,
+        access: &mut TableAccess<'_, S>,
         module: &str,
         id: &str,
     ) -> Result<bool, NoSuper>
-        requires { seat.old.table ≡ table.now }
-        ensures table { seat.new.table ≡ seat.old.table }
         ensures deleted { DeletesChild «module».now id.now
-            self.old seat.old.view result self.new seat.new.view }
+            self.old access.old result self.new access.new }
     {
         let Some(place) = place_of_only_super(self.apps.as_slice(), module) else {
             return Err(NoSuper);
         };
-        Ok(delete(rt, table, seat, &mut self.apps[place].members, module, id))
+        Ok(delete(rt, access, &mut self.apps[place].members, module, id))
     }
 }
 

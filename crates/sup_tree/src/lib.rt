@@ -26,5 +26,5 @@ mod tree;
 
 pub use app_members::Loaded;
 pub use error::{NoSuchApp, NoSuper, RestartError, StartError};
-pub use started_members::{Member, MemberState, StartedProcess, Stay};
+pub use started_members::{Kept, Member, MemberState, StartedProcess, Stay};
 pub use tree::{StartedApp, Tree};

@@ -3,23 +3,20 @@ ghost use Rattle.std.specs.Prelude.{◌≡◌};
 ghost use Rattle.sup_tree.specs.Stops.{StopsApp, IsPlaceOf};
 
 use crate::{NoSuchApp, StartedApp, Tree};
-use proc_table::{HandlerSeat, ProcTable};
 use started_members::end_all;
 use std::sync::Wait;
+use table_access::{Seating, TableAccess};
 
 impl Tree {
     /// Stops the application: its processes are given up, the last first, but for those that were given up before. It waits
     /// for their slots, and without end for one that the handler itself holds. It takes no memory.
-    pub fn stop_app<R: Wait>(
+    pub fn stop_app<R: Wait, S: Seating>(
         &mut self,
         rt: &R,
-        table: &ProcTable,
-        seat: &mut HandlerSeat,
+        access: &mut TableAccess<'_, S>,
         app: &str,
     ) -> Result<(), NoSuchApp>
-        requires { seat.old.table ≡ table.now }
-        ensures table { seat.new.table ≡ seat.old.table }
-        ensures stopped { StopsApp app.now self.old seat.old.view result self.new seat.new.view }
+        ensures stopped { StopsApp app.now self.old access.old result self.new access.new }
     {
         let Some(place) = place_of(self.apps.as_slice(), app) else {
             return Err(NoSuchApp);
@@ -28,7 +25,7 @@ impl Tree {
             name: _name,
             members,
         } = self.apps.remove(place);
-        end_all(rt, table, seat, members.as_slice());
+        end_all(rt, access, members.as_slice());
         Ok(())
     }
 }

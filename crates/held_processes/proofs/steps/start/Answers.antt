@@ -4,18 +4,15 @@ use Rattle.held_processes.proofs.SlotLemmas.{one_event, alone, alone_longer, hel
 use Rattle.held_processes.proofs.steps.start.Goals as goal
 
 pub let_go-requires : goal.let_go-requires
-let_go-requires g c = (
-  c.hold-held.ensures.table ∙ c.requires.1.0,
-  one_event c.args.pid.slot c.args.seat.now.view c.hold-held.result c.start-in-None.new.self c.hold-held.new.seat.view started c.hold-held.ensures.held (λ k. k) tt c.start-in-None.ensures,
-)
+let_go-requires g c κs within = (within, one_event c.args.pid.slot c.args.access.now c.hold-held.result c.start-in-None.new.self c.hold-held.new.self started c.hold-held.ensures.held (λ k. k) tt c.start-in-None.ensures)
 
 pub returns-in-Some-clause-done : goal.returns-in-Some-clause-done
 returns-in-Some-clause-done g c =
-    held_adds g.past c.args.pid.slot c.args.seat.now.view c.args.place.now _ c.start.new.self started _ c.requires.1.1 (c.in-Some.is ∙ ap Some (sym c.process.view_is)) (λ k. k) tt c.start.ensures
+    held_adds g.past c.args.pid.slot c.args.access.now c.args.place.now _ c.start.new.self started _ c.requires.1.1 (c.in-Some.is ∙ ap Some (sym c.process.view_is)) (λ k. k) tt c.start.ensures
 
 pub returns-in-None-clause-done : goal.returns-in-None-clause-done
 returns-in-None-clause-done g c =
-    rw c.in-None.is (alone g.past c.args.pid.slot c.args.seat.now.view c.args.place.now c.hold-held.result c.start-in-None.new.self c.hold-held.new.seat.view _ started _ c.requires.1.1 c.in-None.is
+    rw c.in-None.is (alone g.past c.args.pid.slot c.args.access.now c.args.place.now c.hold-held.result c.start-in-None.new.self c.hold-held.new.self _ started _ c.requires.1.1 c.in-None.is
     c.hold-held.ensures.held (λ k. k) tt c.start-in-None.ensures c.let_go.ensures.released)
 
 pub returns-in-None-clause-longer : goal.returns-in-None-clause-longer

@@ -14,8 +14,8 @@ use Rattle.node_start.proofs.FreshLemmas.{fresh_so}
 use Rattle.node_start.proofs.ReadyLemmas.{are_ready}
 use Rattle.node_start.proofs.start.start_release.Goals as goal
 
-pub start_apps-requires-clause-ready : goal.start_apps-requires-clause-ready
-start_apps-requires-clause-ready g c =
+pub start_apps_at-requires-clause-ready : goal.start_apps_at-requires-clause-ready
+start_apps_at-requires-clause-ready g c =
     let as' = map application_of c.args.apps.now in
     let ls = map shared_of c.args.libraries.now in
     let tables : tables_of (modules_in c.in_ok-of.field-0) ≡ tables_in ls = λ i. tables_of (λ name. c.in_ok-of.ensures.loaded name i) in
@@ -28,20 +28,20 @@ pub returns-clause-fresh : goal.returns-clause-fresh
 returns-clause-fresh g c =
     let as' = map application_of c.args.apps.now in
     let ls = map shared_of c.args.libraries.now in
-    let new = c.start_apps.new.self in
+    let new = c.start_apps_at.new.started in
     let tables : tables_of (modules_in c.in_ok-of.field-0) ≡ tables_in ls = λ i. tables_of (λ name. c.in_ok-of.ensures.loaded name i) in
-    let started = subst (λ (l : List App). StartedAll (tables_in ls) (started_parts (parts as' ls)) l c.args.seat.now.view new.tree c.start_apps.new.seat.view) c.new.ensures
-    (subst (λ (t : Tables). StartedAll t (started_parts (parts as' ls)) c.new.result c.args.seat.now.view new.tree c.start_apps.new.seat.view) tables c.in_ok-start_apps.ensures.started) in
-    let begun = fresh_so ls (started_parts (parts as' ls)) new.tree c.args.seat.now.view c.start_apps.new.seat.view c.requires.new started in
-    let modules = ap listed_in c.in_ok-start_apps.ensures.loaded ∙ c.in_ok-of.ensures.listed in
+    let started = subst (λ (l : List App). StartedAll (tables_in ls) (started_parts (parts as' ls)) l c.args.seat.now.view new.tree c.start_apps_at.result.now.view) c.new.ensures
+    (subst (λ (t : Tables). StartedAll t (started_parts (parts as' ls)) c.new.result c.args.seat.now.view new.tree c.start_apps_at.result.now.view) tables c.in_ok-done.ensures.started) in
+    let begun = fresh_so ls (started_parts (parts as' ls)) new.tree c.args.seat.now.view c.start_apps_at.result.now.view c.requires.new started in
+    let modules = ap listed_in c.start_apps_at.ensures.loaded ∙ c.in_ok-of.ensures.listed in
     λ i. record { values = begun.0 i; apps = begun.1 i; modules = modules i }
 
 pub returns-clause-begun : goal.returns-clause-begun
 returns-clause-begun g c =
     let as' = map application_of c.args.apps.now in
     let ls = map shared_of c.args.libraries.now in
-    let new = c.start_apps.new.self in
+    let new = c.start_apps_at.new.started in
     let tables : tables_of (modules_in c.in_ok-of.field-0) ≡ tables_in ls = λ i. tables_of (λ name. c.in_ok-of.ensures.loaded name i) in
-    let started = subst (λ (l : List App). StartedAll (tables_in ls) (started_parts (parts as' ls)) l c.args.seat.now.view new.tree c.start_apps.new.seat.view) c.new.ensures
-    (subst (λ (t : Tables). StartedAll t (started_parts (parts as' ls)) c.new.result c.args.seat.now.view new.tree c.start_apps.new.seat.view) tables c.in_ok-start_apps.ensures.started) in
-    (fresh_so ls (started_parts (parts as' ls)) new.tree c.args.seat.now.view c.start_apps.new.seat.view c.requires.new started).2
+    let started = subst (λ (l : List App). StartedAll (tables_in ls) (started_parts (parts as' ls)) l c.args.seat.now.view new.tree c.start_apps_at.result.now.view) c.new.ensures
+    (subst (λ (t : Tables). StartedAll t (started_parts (parts as' ls)) c.new.result c.args.seat.now.view new.tree c.start_apps_at.result.now.view) tables c.in_ok-done.ensures.started) in
+    (fresh_so ls (started_parts (parts as' ls)) new.tree c.args.seat.now.view c.start_apps_at.result.now.view c.requires.new started).2

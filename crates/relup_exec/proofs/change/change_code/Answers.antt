@@ -10,7 +10,7 @@ use Rattle.relup_exec.proofs.change.change_code.Goals as goal
 
 pub returns-in_err-change_once : goal.returns-in_err-change_once
 returns-in_err-change_once c = λ past v early done.
-    let s = site_of c.args.site.now in
+    let s = site_of c.args.sources.now in
     let mode = c.unwrap_or-mode.result in
     let all = c.args.conversion.now.changes.items in
     let front = map change_of (take c.loop-i.i all) in
@@ -24,7 +24,7 @@ returns-in_err-change_once c = λ past v early done.
 
 pub loop-i-preserved : goal.loop-i-preserved
 loop-i-preserved c = λ past v done.
-    let s = site_of c.args.site.now in
+    let s = site_of c.args.sources.now in
     let mode = c.unwrap_or-mode.result in
     let all = c.args.conversion.now.changes.items in
     let front = map change_of (take c.loop-i.i all) in
@@ -36,7 +36,7 @@ loop-i-preserved c = λ past v done.
 
 pub returns : goal.returns
 returns c = λ past v early done.
-    let s = site_of c.args.site.now in
+    let s = site_of c.args.sources.now in
     let mode = c.unwrap_or-mode.result in
     let all = c.args.conversion.now.changes.items in
     let so_far = c.loop-i.invariant past v done in

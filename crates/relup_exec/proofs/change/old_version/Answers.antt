@@ -16,8 +16,8 @@ refused_so (Err e) P is = is
 pub returns-in_err-from_str-in-Some-clause-asks : goal.returns-in_err-from_str-in-Some-clause-asks
 returns-in_err-from_str-in-Some-clause-asks c = refused_so c.from_residual.result _ (λ past v done.
     let name = c.args.name.now in
-    let vsn = c.in-Some.ensures ∙ ap (option_map (λ (m : Module). m.vsn)) (found_as_listed c.args.site.now.loaded.now name) in
-    subst (λ (d : Direction). is_some (old_version (site_of c.args.site.now) d name past.run) ≡ true) (sym c.in-Up.is) (sym (ap (λ (o : Option (List ℕ)). is_some (option_map up o)) vsn)))
+    let vsn = c.in-Some.ensures ∙ ap (option_map (λ (m : Module). m.vsn)) (found_as_listed c.args.sources.now.loaded.now name) in
+    subst (λ (d : Direction). is_some (old_version (site_of c.args.sources.now) d name past.run) ≡ true) (sym c.in-Up.is) (sym (ap (λ (o : Option (List ℕ)). is_some (option_map up o)) vsn)))
 
 pub returns-in_err-from_str-in-Some-newest_vsn-clause-asks : goal.returns-in_err-from_str-in-Some-newest_vsn-clause-asks
 returns-in_err-from_str-in-Some-newest_vsn-clause-asks c = refused_so c.from_residual-in_err-from_str-in-Some-newest_vsn.result _ (λ past v done.
@@ -25,17 +25,17 @@ returns-in_err-from_str-in-Some-newest_vsn-clause-asks c = refused_so c.from_res
     let known : option_or (version_in name (listed_in c.args.progress.now.fetched)) (version_in name (listed_in c.args.progress.now.next)) ≡ option_or (version_in name past.run.fetched) (version_in name past.run.modules) =
     λ j. option_or (version_in name (done.fetched j)) (version_in name (done.next j)) in
     let vsn = c.in-Some-newest_vsn.ensures ∙ known in
-    subst (λ (d : Direction). is_some (old_version (site_of c.args.site.now) d name past.run) ≡ true) (sym c.in-Down.is) (sym (ap (λ (o : Option (List ℕ)). is_some (option_map down o)) vsn)))
+    subst (λ (d : Direction). is_some (old_version (site_of c.args.sources.now) d name past.run) ≡ true) (sym c.in-Down.is) (sym (ap (λ (o : Option (List ℕ)). is_some (option_map down o)) vsn)))
 
 pub returns-in_ok-from_str-in-Some-clause-found : goal.returns-in_ok-from_str-in-Some-clause-found
 returns-in_ok-from_str-in-Some-clause-found c = λ past v done.
-    let vsn = ap Some c.in_ok-from_str-in-Some.ensures.ok ∙ (c.in-Some.ensures ∙ ap (option_map (λ (m : Module). m.vsn)) (found_as_listed c.args.site.now.loaded.now c.args.name.now)) in
-    subst (λ (d : Direction). Some (up (string_bytes c.in_ok-from_str-in-Some.field-0)) ≡ old_version (site_of c.args.site.now) d c.args.name.now past.run) (sym c.in-Up.is) (ap (option_map up) vsn)
+    let vsn = ap Some c.in_ok-from_str-in-Some.ensures.ok ∙ (c.in-Some.ensures ∙ ap (option_map (λ (m : Module). m.vsn)) (found_as_listed c.args.sources.now.loaded.now c.args.name.now)) in
+    subst (λ (d : Direction). Some (up (string_bytes c.in_ok-from_str-in-Some.field-0)) ≡ old_version (site_of c.args.sources.now) d c.args.name.now past.run) (sym c.in-Up.is) (ap (option_map up) vsn)
 
 pub returns-in-None-clause-found : goal.returns-in-None-clause-found
 returns-in-None-clause-found c = λ past v done.
-    let vsn = c.in-None.ensures ∙ ap (option_map (λ (m : Module). m.vsn)) (found_as_listed c.args.site.now.loaded.now c.args.name.now) in
-    subst (λ (d : Direction). None ≡ old_version (site_of c.args.site.now) d c.args.name.now past.run) (sym c.in-Up.is) (ap (option_map up) vsn)
+    let vsn = c.in-None.ensures ∙ ap (option_map (λ (m : Module). m.vsn)) (found_as_listed c.args.sources.now.loaded.now c.args.name.now) in
+    subst (λ (d : Direction). None ≡ old_version (site_of c.args.sources.now) d c.args.name.now past.run) (sym c.in-Up.is) (ap (option_map up) vsn)
 
 pub returns-in_ok-from_str-in-Some-newest_vsn-clause-found : goal.returns-in_ok-from_str-in-Some-newest_vsn-clause-found
 returns-in_ok-from_str-in-Some-newest_vsn-clause-found c = λ past v done.
@@ -43,11 +43,11 @@ returns-in_ok-from_str-in-Some-newest_vsn-clause-found c = λ past v done.
     let known : option_or (version_in name (listed_in c.args.progress.now.fetched)) (version_in name (listed_in c.args.progress.now.next)) ≡ option_or (version_in name past.run.fetched) (version_in name past.run.modules) =
     λ j. option_or (version_in name (done.fetched j)) (version_in name (done.next j)) in
     let vsn = ap Some c.in_ok-from_str-in-Some-newest_vsn.ensures.ok ∙ (c.in-Some-newest_vsn.ensures ∙ known) in
-    subst (λ (d : Direction). Some (down (string_bytes c.in_ok-from_str-in-Some-newest_vsn.field-0)) ≡ old_version (site_of c.args.site.now) d name past.run) (sym c.in-Down.is) (ap (option_map down) vsn)
+    subst (λ (d : Direction). Some (down (string_bytes c.in_ok-from_str-in-Some-newest_vsn.field-0)) ≡ old_version (site_of c.args.sources.now) d name past.run) (sym c.in-Down.is) (ap (option_map down) vsn)
 
 pub returns-in-None-newest_vsn-clause-found : goal.returns-in-None-newest_vsn-clause-found
 returns-in-None-newest_vsn-clause-found c = λ past v done.
     let name = c.args.name.now in
     let known : option_or (version_in name (listed_in c.args.progress.now.fetched)) (version_in name (listed_in c.args.progress.now.next)) ≡ option_or (version_in name past.run.fetched) (version_in name past.run.modules) =
     λ j. option_or (version_in name (done.fetched j)) (version_in name (done.next j)) in
-    subst (λ (d : Direction). None ≡ old_version (site_of c.args.site.now) d name past.run) (sym c.in-Down.is) (ap (option_map down) (c.in-None-newest_vsn.ensures ∙ known))
+    subst (λ (d : Direction). None ≡ old_version (site_of c.args.sources.now) d name past.run) (sym c.in-Down.is) (ap (option_map down) (c.in-None-newest_vsn.ensures ∙ known))

@@ -9,6 +9,6 @@ use Rattle.relup_exec.proofs.early.carry_out_early.Goals as goal
 
 pub returns-in-Apply-clause-carried : goal.returns-in-Apply-clause-carried
 returns-in-Apply-clause-carried g c =
-    raises_early (site_of c.args.site.now) g.past (instruction_of c.args.instr.now) (call_of c.in-Apply.call) c.raise.result (progress_of c.args.progress.now) c.args.progress.now.tree c.args.seat.now.view
+    raises_early (site_of c.args.sources.now) g.past (instruction_of c.args.instr.now) (call_of c.in-Apply.call) c.raise.result (progress_of c.args.progress.now) c.args.progress.now.tree c.args.access.now
     (ap instruction_of c.in-Apply.is) c.requires.1.1.0 c.requires.1.1.1
     (raised_cause (error_cause (call_of c.in-Apply.call).args) c.error_term.result _ c.error_term.ensures c.raise.ensures.copied c.raise.ensures.memory)

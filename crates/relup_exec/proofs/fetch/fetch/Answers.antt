@@ -7,8 +7,8 @@ use Rattle.relup_exec.proofs.fetch.fetch.Goals as goal
 
 pub returns-in-Ok : goal.returns-in-Ok
 returns-in-Ok c = λ past v early done.
-    fetched_well (site_of c.args.site.now) past early (fetch_of c.args.fetch.now) (progress_of c.args.progress.now) (listed_in c.fetch_from.new.fetched) c.args.progress.now.tree v done c.in-Ok.ensures
+    fetched_well (site_of c.args.sources.now) past early (fetch_of c.args.fetch.now) (progress_of c.args.progress.now) (listed_in c.fetch_from.new.fetched) c.args.progress.now.tree v done c.in-Ok.ensures
 
 pub returns-in-Err : goal.returns-in-Err
 returns-in-Err c = λ past v early done.
-    not_fetched (site_of c.args.site.now) past early (fetch_of c.args.fetch.now) c.failure_at_start.result c.in-Err.cause (progress_of c.args.progress.now) (listed_in c.fetch_from.new.fetched) c.args.progress.now.tree v done c.in-Err.ensures c.failure_at_start.ensures
+    not_fetched (site_of c.args.sources.now) past early (fetch_of c.args.fetch.now) c.failure_at_start.result c.in-Err.cause (progress_of c.args.progress.now) (listed_in c.fetch_from.new.fetched) c.args.progress.now.tree v done c.in-Err.ensures c.failure_at_start.ensures

@@ -3,7 +3,6 @@ use Rattle.std.specs.Option.{option_map}
 use Rattle.relup_instruction.specs.Instruction.{purging_of}
 use Rattle.loaded_modules.specs.Loaded.{Module, NamedModules, module_named, modules_in}
 use Rattle.loaded_modules.proofs.NamedLemmas.{found_as_listed}
-use Rattle.script_progress.specs.InMemory.{site_of}
 use Rattle.script_progress.specs.Steps.{progress_of}
 use Rattle.relup_exec.proofs.StepLemmas.{load_of_nothing}
 use Rattle.relup_exec.proofs.load.load.Goals as goal
@@ -25,10 +24,10 @@ load_fetched-requires g c =
     search rules
 
 pub returns-in-None-clause-carried : goal.returns-in-None-clause-carried
-returns-in-None-clause-carried g c =
+returns-in-None-clause-carried g c = λ s.
     let name = c.as_str.result.now in
     let gone : modules_in c.args.progress.now.fetched name ≡ None = none_there (modules_in c.args.progress.now.fetched name) c.in-None.ensures in
-    load_of_nothing (site_of c.args.site.now) g.past c.args.early (purging_of c.args.purging.now) c.failure_at_start.result (progress_of c.args.progress.now) c.args.progress.now.tree c.args.seat.now.view
+    load_of_nothing s g.past c.args.early (purging_of c.args.purging.now) c.failure_at_start.result (progress_of c.args.progress.now) c.args.progress.now.tree c.args.access.now
     (ap (λ (n : List ℕ). module_named n g.past.run.fetched) (sym c.as_str.ensures.value)
     ∙ (ap (module_named name) (sym c.requires.1.1.fetched) ∙ (sym (found_as_listed c.args.progress.now.fetched name) ∙ gone)))
     c.requires.1.1 c.failure_at_start.ensures

@@ -1,5 +1,4 @@
-use Rattle.held_processes.specs.Course.{opening}
 use Rattle.script_cases.proofs.apps.restart_app.Given as goal
 
-abbrev pub ghost-suspend : goal.ghost-suspend
-ghost-suspend g a = record { first = a.seat.now.view; courses = λ p. opening }
+abbrev pub ghosts-restart_app_at : goal.ghosts-restart_app_at
+ghosts-restart_app_at g a = record { name = a.lent.seat.ghost_name; table = a.lent.table.now }

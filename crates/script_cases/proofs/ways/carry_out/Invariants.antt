@@ -1,11 +1,4 @@
-use Rattle.held_processes.specs.Course.{opening}
 use Rattle.script_cases.proofs.ways.carry_out.Given as goal
 
-abbrev pub ghost-load : goal.ghost-load
-ghost-load g a = record { first = a.seat.now.view; courses = λ p. opening }
-
-abbrev pub ghost-stop : goal.ghost-stop
-ghost-stop g a = record { first = a.seat.now.view; courses = λ p. opening }
-
-abbrev pub ghost-suspend : goal.ghost-suspend
-ghost-suspend g a = record { first = a.seat.now.view; courses = λ p. opening }
+abbrev pub ghosts-carry_out_at : goal.ghosts-carry_out_at
+ghosts-carry_out_at g a = record { name = a.lent.seat.ghost_name; table = a.lent.table.now }

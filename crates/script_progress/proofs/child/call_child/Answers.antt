@@ -7,5 +7,5 @@ use Rattle.script_progress.proofs.child.call_child.Goals as goal
 
 pub returns-in-Nothing-clause-called : goal.returns-in-Nothing-clause-called
 returns-in-Nothing-clause-called g c =
-    subst (λ (k : ChildCall). CallsChild g.past (child_call_of k) (Ok false) (progress_of c.args.progress.now) c.args.progress.now.tree c.args.seat.now.view c.args.seat.now.view) (sym c.in-Nothing.is)
-    (nothing_called g.past (progress_of c.args.progress.now) c.args.progress.now.tree c.args.seat.now.view c.requires.1.1)
+    subst (λ (k : ChildCall). CallsChild g.past (child_call_of k) (Ok false) (progress_of c.args.progress.now) c.args.progress.now.tree c.args.access.now c.args.access.now) (sym c.in-Nothing.is)
+    (nothing_called g.past (progress_of c.args.progress.now) c.args.progress.now.tree c.args.access.now c.requires.1.1)

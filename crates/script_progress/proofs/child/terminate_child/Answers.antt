@@ -9,7 +9,7 @@ use Rattle.script_progress.proofs.child.terminate_child.Goals as goal
 pub returns-in-Ok-clause-called : goal.returns-in-Ok-clause-called
 returns-in-Ok-clause-called g c =
     let w = c.terminate_child.new in
-    terminated g.past c.args.child.now.supervisor.now c.args.child.now.id.now (progress_of c.args.progress.now) c.args.progress.now.tree w.tree w.self c.args.seat.now.view w.seat.view
+    terminated g.past c.args.child.now.supervisor.now c.args.child.now.id.now (progress_of c.args.progress.now) c.args.progress.now.tree w.tree w.self c.args.access.now w.access
     c.requires.1.1 c.terminate_child.ensures.longer c.in-Ok.ensures.terminated
 
 pub returns-in-Err-clause-called : goal.returns-in-Err-clause-called
@@ -17,5 +17,5 @@ returns-in-Err-clause-called g c =
     let name = c.args.child.now.supervisor.now in
     let id = c.args.child.now.id.now in
     let w = c.terminate_child.new in
-    subst (λ (e : Failure). IsNotMade g.past (terminates name id) e w.self c.args.seat.now.view w.seat.view) (sym c.failure_at_start.ensures)
-    (not_terminated g.past name id (progress_of c.args.progress.now) c.args.progress.now.tree w.self c.args.seat.now.view w.seat.view c.requires.1.1 c.terminate_child.ensures.longer c.in-Err.ensures.terminated.0 c.in-Err.ensures.terminated.2)
+    subst (λ (e : Failure). IsNotMade g.past (terminates name id) e w.self c.args.access.now w.access) (sym c.failure_at_start.ensures)
+    (not_terminated g.past name id (progress_of c.args.progress.now) c.args.progress.now.tree w.self c.args.access.now w.access c.requires.1.1 c.terminate_child.ensures.longer c.in-Err.ensures.terminated.0 c.in-Err.ensures.terminated.2)

@@ -10,7 +10,6 @@ invariant-loop-preparation g l =
     let left = into_iter_items l.preparation-iterator in
     (goal.iterator-loop-preparation g).can_next l.preparation-iterator
     × (goal.iterator-loop-preparation g).is_finite l.preparation-iterator
-    × (l.seat.table ≡ l.table)
-    × (length (to_begin left) ≤ free_count l.seat.view)
+    × (length (to_begin left) ≤ free_count l.access)
     × (vec_len l.members + length left ≤ vec_capacity l.members)
-    × Completes l.fn.prepared.items l.initial.seat.view l.members.items left l.seat.view
+    × Completes l.fn.prepared.items l.initial.access l.members.items left l.access

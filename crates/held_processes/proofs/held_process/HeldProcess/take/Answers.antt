@@ -13,14 +13,14 @@ is_held UntilResumed e = cc
 
 pub returns-in-Ok-clause-taken : goal.returns-in-Ok-clause-taken
 returns-in-Ok-clause-taken g c =
-    takes g.past c.args.pid.slot (hold_of c.args.hold) c.args.seat.now.view c.hold-held.result c.hold-held.new.seat.view c.in-Ok.saved (is_held c.args.hold) c.requires.1.1
+    takes g.past c.args.pid.slot (hold_of c.args.hold) c.args.access.now c.hold-held.result c.hold-held.new.self c.in-Ok.saved (is_held c.args.hold) c.requires.1.1
     c.hold-held.ensures.held (c.in-Ok.ensures ∙ c.value.ensures)
 
 pub returns-in-Err-clause-taken : goal.returns-in-Err-clause-taken
 returns-in-Err-clause-taken g c =
     let at = c.hold-held.ensures.held in
-    gives_back g.past c.args.pid.slot c.args.seat.now.view c.hold-held.result c.hold-held.new.seat.view c.release.new.seat.view c.requires.1.1 at
-    (subst (λ p. Released p [] c.hold-held.new.seat.view c.release.new.seat.view) at.held.slot c.release.ensures.released)
+    gives_back g.past c.args.pid.slot c.args.access.now c.hold-held.result c.hold-held.new.self c.release.new.self c.requires.1.1 at
+    (subst (λ p. Released p [] c.hold-held.new.self c.release.new.self) at.held.slot c.release.ensures.released)
 
 pub returns-in-Ok-clause-longer : goal.returns-in-Ok-clause-longer
 returns-in-Ok-clause-longer g c = taken_longer _ _ _ _ c.hold-held.ensures.held

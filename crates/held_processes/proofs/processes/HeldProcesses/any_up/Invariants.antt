@@ -12,9 +12,8 @@ ghost-is_up g a = past_of g.followed.first g.followed.courses a.pid.slot
 -- none of the slots so far has a process of the module that is up, and those that aren't held were taken
 abbrev pub invariant-loop-slot : goal.invariant-loop-slot
 invariant-loop-slot g l =
-    (l.seat.table ≡ l.table)
-    × (l.slot-end ≡ slots)
-    × AllFollow g.followed.first g.followed.courses l.self l.seat.view
-    × ((p : ℕ) → p < l.slot → is_up_user (values_seen l.seat.view) (modules_by_slot l.users.tree.now) l.users.module.now g.followed.courses p ≡ false)
-    × AreLonger l.initial.seat.view l.seat.view
-    × ((p : ℕ) → p < l.slot → is_free_user (modules_by_slot l.users.tree.now) l.users.module.now g.followed.courses p ≡ true → HasTaken p l.initial.seat.view l.seat.view)
+    (l.slot-end ≡ slots)
+    × AllFollow g.followed.first g.followed.courses l.self l.access
+    × ((p : ℕ) → p < l.slot → is_up_user (values_seen l.access) (modules_by_slot l.users.tree.now) l.users.module.now g.followed.courses p ≡ false)
+    × AreLonger l.initial.access l.access
+    × ((p : ℕ) → p < l.slot → is_free_user (modules_by_slot l.users.tree.now) l.users.module.now g.followed.courses p ≡ true → HasTaken p l.initial.access l.access)

@@ -11,8 +11,8 @@ ghost-let_go g a = past_of g.followed.first g.followed.courses a.self.held.slot
 
 abbrev pub invariant-loop-place : goal.invariant-loop-place
 invariant-loop-place g l =
-    (l.seat.table ≡ l.initial.seat.table) × IsEnding g.followed.first g.followed.courses (course_after finish) l.places.items l.seat.view
-    × AreLonger l.initial.seat.view l.seat.view
+    IsEnding g.followed.first g.followed.courses (course_after finish) l.places.items l.access
+    × AreLonger l.initial.access l.access
 
 abbrev pub decreases-loop-place : goal.decreases-loop-place
 decreases-loop-place g l = vec_len l.places

@@ -5,8 +5,7 @@ use Rattle.held_processes.proofs.processes.HeldProcesses.give_up_all.Goals as go
 
 pub loop-place-preserved : goal.loop-place-preserved
 loop-place-preserved g c = (
-  c.give_up_one.ensures.table ∙ c.loop-place.invariant.0,
   refl,
-  one_more_given_up g.followed.first c.give_up_one.new.self c.give_up_one.new.seat.view c.args.members.now c.loop-place.place g.followed.courses c.loop-place-test.true c.give_up_one.ensures.done,
-  longer_both c.args.seat.now.view c.loop-place.seat.view c.give_up_one.new.seat.view c.loop-place.invariant.3 c.give_up_one.ensures.longer,
+  one_more_given_up g.followed.first c.give_up_one.new.self c.give_up_one.new.access c.args.members.now c.loop-place.place g.followed.courses c.loop-place-test.true c.give_up_one.ensures.done,
+  longer_both c.args.access.now c.loop-place.access c.give_up_one.new.access c.loop-place.invariant.2 c.give_up_one.ensures.longer,
 )

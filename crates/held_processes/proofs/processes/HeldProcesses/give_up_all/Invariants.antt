@@ -9,7 +9,6 @@ ghost-give_up_one g a = record { first = g.followed.first; courses = held_ended 
 
 abbrev pub invariant-loop-place : goal.invariant-loop-place
 invariant-loop-place g l =
-    (l.seat.table ≡ l.table)
-    × (l.place-end ≡ length l.members)
-    × AllFollow g.followed.first (held_ended (pids_of (processes_among (take l.place l.members))) g.followed.courses) l.self l.seat.view
-    × AreLonger l.initial.seat.view l.seat.view
+    (l.place-end ≡ length l.members)
+    × AllFollow g.followed.first (held_ended (pids_of (processes_among (take l.place l.members))) g.followed.courses) l.self l.access
+    × AreLonger l.initial.access l.access

@@ -6,5 +6,5 @@ use Rattle.held_processes.proofs.processes.HeldProcesses.held_stays.Goals as goa
 
 pub returns : goal.returns
 returns c =
-    reports_stay c.args.stay c.args.pid c.args.self.now (Some c.keeps.result)
-    (ap (λ b. Some b) c.keeps.ensures ∙ ap (option_map (process_stays c.args.stay c.args.pid)) (sym (ap (option_map (λ x. x.now)) c.in_ok-value.was) ∙ c.held_value.ensures))
+    reports_stay c.args.kept c.args.pid c.args.self.now (Some c.keeps.result)
+    (ap (λ b. Some b) c.keeps.ensures ∙ ap (option_map (process_stays c.args.kept c.args.pid)) (sym (ap (option_map (λ x. x.now)) c.in_ok-value.was) ∙ c.held_value.ensures))

@@ -11,7 +11,6 @@ ghost-perform g a = past_of g.followed.first g.followed.courses a.pid.slot
 
 abbrev pub invariant-loop-slot : goal.invariant-loop-slot
 invariant-loop-slot g l =
-    (l.seat.table ≡ l.table)
-    × (l.slot-end ≡ slots)
-    × AllFollow g.followed.first (part_way l.slot (modules_by_slot l.users.tree.now) l.users.module.now (operation_of l.step) g.followed.courses) l.self-inside.places.items l.seat.view
-    × AreLonger l.initial.seat.view l.seat.view
+    (l.slot-end ≡ slots)
+    × AllFollow g.followed.first (part_way l.slot (modules_by_slot l.users.tree.now) l.users.module.now (operation_of l.step) g.followed.courses) l.self-inside.places.items l.access
+    × AreLonger l.initial.access l.access

@@ -19,25 +19,23 @@ loop-slot-preserved g c =
     let ds = behind_release which cs in
     let slot = c.loop-slot.slot in
     let hs = c.loop-slot.self-inside.places.items in
-    let v = c.loop-slot.seat.view in
-    let all = c.loop-slot.invariant.2 in
-    let inside = subst (λ n. slot < n) c.loop-slot.invariant.1 c.loop-slot-test.true in
+    let v = c.loop-slot.access in
+    let all = c.loop-slot.invariant.1 in
+    let inside = subst (λ n. slot < n) c.loop-slot.invariant.0 c.loop-slot-test.true in
     let here = at_slot first cs (up_to slot ds cs) hs v slot c.index.result.now all inside (up_to_here slot ds cs)
     (get_or_read_under hs slot slots c.index.result.now None c.index.ensures inside (sym all.long)) in
     elim c.if-includes.branch [
-      | then-includes w ↦ rw (w.self-inside-is, w.seat-is) (
-        w.let_go.ensures.table ∙ c.loop-slot.invariant.0,
-        c.loop-slot.invariant.1,
-        step_over first ds cs hs v w.let_go.new.seat.view slot w.let_go.new.place inside all
-            (subst (λ d. Steps (past_of first cs slot) slot d v w.let_go.new.place w.let_go.new.seat.view)
-            (is_let_go which cs first.lent slot (part_of first.parts slot) (part_of v.parts slot) c.index.result.now here.follows (sym c.includes.ensures ∙ w.if-includes.true)) w.let_go.ensures.done),
-        longer_both c.args.seat.now.view v w.let_go.new.seat.view c.loop-slot.invariant.3 w.let_go.ensures.longer,
-      )
-      | else-includes w ↦ rw (w.self-inside-is, w.seat-is) (
+      | then-includes w ↦ rw (w.self-inside-is, w.access-is) (
         c.loop-slot.invariant.0,
-        c.loop-slot.invariant.1,
+        step_over first ds cs hs v w.let_go.new.access slot w.let_go.new.place inside all
+            (subst (λ d. Steps (past_of first cs slot) slot d v w.let_go.new.place w.let_go.new.access)
+            (is_let_go which cs first.lent slot (part_of first.parts slot) (part_of v.parts slot) c.index.result.now here.follows (sym c.includes.ensures ∙ w.if-includes.true)) w.let_go.ensures.done),
+        longer_both c.args.access.now v w.let_go.new.access c.loop-slot.invariant.2 w.let_go.ensures.longer,
+      )
+      | else-includes w ↦ rw (w.self-inside-is, w.access-is) (
+        c.loop-slot.invariant.0,
         pass_over first ds cs hs v slot
             (is_kept which cs first.lent slot (part_of first.parts slot) (part_of v.parts slot) c.index.result.now here.follows (sym c.includes.ensures ∙ w.if-includes.false)) all,
-        c.loop-slot.invariant.3,
+        c.loop-slot.invariant.2,
       )
     ]

@@ -11,7 +11,6 @@ ghost-let_go g a = past_of g.followed.first g.followed.courses a.slot
 
 abbrev pub invariant-loop-slot : goal.invariant-loop-slot
 invariant-loop-slot g l =
-    (l.seat.table ≡ l.table)
-    × (l.slot-end ≡ slots)
-    × AllFollow g.followed.first (up_to l.slot (behind_release l.which g.followed.courses) g.followed.courses) l.self-inside.places.items l.seat.view
-    × AreLonger l.initial.seat.view l.seat.view
+    (l.slot-end ≡ slots)
+    × AllFollow g.followed.first (up_to l.slot (behind_release l.which g.followed.courses) g.followed.courses) l.self-inside.places.items l.access
+    × AreLonger l.initial.access l.access

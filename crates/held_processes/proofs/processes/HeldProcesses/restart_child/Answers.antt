@@ -13,8 +13,8 @@ use Rattle.held_processes.proofs.processes.HeldProcesses.restart_child.Goals as 
 pub returns-in-Stays-clause-restarted : goal.returns-in-Stays-clause-restarted
 returns-in-Stays-clause-restarted g c =
     let o = child_place c.args.child.now.supervisor.now c.args.child.now.id.now c.args.tree.now in
-    let w = c.end_held-end.new.seat.view in
-    let is = held_on g.followed.first UpOrTemporary g.followed.courses o c.args.self.now c.end_held-end.new.self c.args.seat.now.view w c.requires.1.1
+    let w = c.end_held-end.new.access in
+    let is = held_on g.followed.first UpOrTemporary g.followed.courses o c.args.self.now c.end_held-end.new.self c.args.access.now w c.requires.1.1
     (c.in-Stays.ensures.ended o c.child_members-members.ensures) c.in-Stays.ensures.longer in
     record { one = sym c.has_one_supervisor.ensures ∙ c.if-not-has_one_supervisor.false; stay = is.stay_is; tree = refl; follow = is.follow }
 
@@ -25,12 +25,11 @@ returns-in-Ok g c =
     let apps = c.args.tree.now in
     let end = c.end_held-end in
     record {
-      table = c.restart_child.ensures.table ∙ end.ensures.table;
-      restarted = restarts_in g.followed c.args.self.now end.new.self c.args.seat.now.view end.new.seat.view c.restart_child.new.seat.view apps c.restart_child.new.self name id
+      restarted = restarts_in g.followed c.args.self.now end.new.self c.args.access.now end.new.access c.restart_child.new.access apps c.restart_child.new.self name id
           (tables_of (modules_in c.args.loaded.now)) end.result (reported_not end.result c.in_default.not-Stays) (sym c.has_one_supervisor.ensures ∙ c.if-not-has_one_supervisor.false) c.requires.1.1
-          c.knows.ensures.known.legal end.ensures.longer (Ok c.in-Ok.stays) (end.ensures.ended (child_place name id apps) c.child_members-members.ensures) c.in-Ok.ensures.restarted;
-      longer = longer_both c.args.seat.now.view end.new.seat.view c.restart_child.new.seat.view end.ensures.longer
-          (restart_longer name id (tables_of (modules_in c.args.loaded.now)) apps end.new.seat.view (Ok c.in-Ok.stays) c.restart_child.new.self c.restart_child.new.seat.view c.in-Ok.ensures.restarted);
+          c.knows.ensures.known.known.legal end.ensures.longer (Ok c.in-Ok.stays) (end.ensures.ended (child_place name id apps) c.child_members-members.ensures) c.in-Ok.ensures.restarted;
+      longer = longer_both c.args.access.now end.new.access c.restart_child.new.access end.ensures.longer
+          (restart_longer name id (tables_of (modules_in c.args.loaded.now)) apps end.new.access (Ok c.in-Ok.stays) c.restart_child.new.self c.restart_child.new.access c.in-Ok.ensures.restarted);
     }
 
 pub returns-in-Err : goal.returns-in-Err
@@ -42,11 +41,10 @@ returns-in-Err g c =
     let w = c.restart_child.new in
     let tables = tables_of (modules_in c.args.loaded.now) in
     record {
-      table = c.restart_child.ensures.table ∙ end.ensures.table;
-      restarted = subst (λ (b : Bool). RestartsIn g.followed.first name id tables (scene_at g.followed apps) (Err (record { error = c.in-Err.error; given_up = b })) w.self end.new.self c.args.seat.now.view w.seat.view) (sym c.was_given_up.ensures)
-          (restarts_in g.followed c.args.self.now end.new.self c.args.seat.now.view end.new.seat.view w.seat.view apps w.self name id tables end.result (reported_not end.result c.in_default.not-Stays)
-          (sym c.has_one_supervisor.ensures ∙ c.if-not-has_one_supervisor.false) c.requires.1.1 c.knows.ensures.known.legal end.ensures.longer (Err c.in-Err.error) (end.ensures.ended (child_place name id apps) c.child_members-members.ensures)
+      restarted = subst (λ (b : Bool). RestartsIn g.followed.first name id tables (scene_at g.followed apps) (Err (record { error = c.in-Err.error; given_up = b })) w.self end.new.self c.args.access.now w.access) (sym c.was_given_up.ensures)
+          (restarts_in g.followed c.args.self.now end.new.self c.args.access.now end.new.access w.access apps w.self name id tables end.result (reported_not end.result c.in_default.not-Stays)
+          (sym c.has_one_supervisor.ensures ∙ c.if-not-has_one_supervisor.false) c.requires.1.1 c.knows.ensures.known.known.legal end.ensures.longer (Err c.in-Err.error) (end.ensures.ended (child_place name id apps) c.child_members-members.ensures)
           c.in-Err.ensures.restarted);
-      longer = longer_both c.args.seat.now.view end.new.seat.view w.seat.view end.ensures.longer
-          (restart_longer name id tables apps end.new.seat.view (Err c.in-Err.error) w.self w.seat.view c.in-Err.ensures.restarted);
+      longer = longer_both c.args.access.now end.new.access w.access end.ensures.longer
+          (restart_longer name id tables apps end.new.access (Err c.in-Err.error) w.self w.access c.in-Err.ensures.restarted);
     }

@@ -6,47 +6,44 @@ use Rattle.held_processes.proofs.ReleaseLemmas.{all_going, all_ended, ends_free,
 use Rattle.held_processes.proofs.processes.HeldProcesses.roll_back.Goals as goal
 
 pub loop-place-init : goal.loop-place-init
-loop-place-init c = (
-  refl,
-  λ first cs all. all_going first cs dropped c.self.inside.places.items c.args.seat.now.view (subst (λ (hs : HeldSlots). AllFollow first cs hs c.args.seat.now.view) (sym c.self.view_is) all),
+loop-place-init g c = (
+  λ first cs all. all_going first cs dropped c.self.inside.places.items c.args.access.now (subst (λ (hs : HeldSlots). AllFollow first cs hs c.args.access.now) (sym c.self.view_is) all),
   λ p. refl,
   refl,
 )
 
 pub loop-place-preserved : goal.loop-place-preserved
-loop-place-preserved c = (
-  c.loop-place.invariant.0,
-  λ first cs all. ends_free first cs dropped c.loop-place.places.items c.pop.new.self.items c.loop-place.seat.view dropped_keeps_free
-      (c.in-Some.ensures.items ∙ ap (λ (x : Option HeldForm). c.pop.new.self.items ++ x ∷ []) c.in_default-place.is) (c.loop-place.invariant.1 first cs all),
+loop-place-preserved g c = (
+  λ first cs all. ends_free first cs dropped c.loop-place.places.items c.pop.new.self.items c.loop-place.access dropped_keeps_free
+      (c.in-Some.ensures.items ∙ ap (λ (x : Option HeldForm). c.pop.new.self.items ++ x ∷ []) c.in_default-place.is) (c.loop-place.invariant.0 first cs all),
+  c.loop-place.invariant.1,
   c.loop-place.invariant.2,
-  c.loop-place.invariant.3,
 )
 
-pub roll_back-requires-clause-held : goal.roll_back-requires-clause-held
-roll_back-requires-clause-held c =
+pub roll_back-requires : goal.roll_back-requires
+roll_back-requires g c =
     let asked = c.requires.follow in
     let first = asked.0 in
     let cs = asked.1 in
-    let process = c.in-Some-place.process in (
+    let process = c.in-Some-place.process in record { held = (
       past_of first cs process.held.slot,
-      may_end first cs dropped c.loop-place.places.items c.pop.new.self.items process c.loop-place.seat.view
-          (c.in-Some.ensures.items ∙ ap (λ (x : Option HeldForm). c.pop.new.self.items ++ x ∷ []) c.in-Some-place.is) (c.loop-place.invariant.1 first cs asked.2),
-    )
+      may_end first cs dropped c.loop-place.places.items c.pop.new.self.items process c.loop-place.access
+          (c.in-Some.ensures.items ∙ ap (λ (x : Option HeldForm). c.pop.new.self.items ++ x ∷ []) c.in-Some-place.is) (c.loop-place.invariant.0 first cs asked.2),
+    ) }
 
 pub loop-place-preserved-in-Some-place : goal.loop-place-preserved-in-Some-place
-loop-place-preserved-in-Some-place c =
+loop-place-preserved-in-Some-place g c =
     let is = c.in-Some.ensures.items ∙ ap (λ (x : Option HeldForm). c.pop.new.self.items ++ x ∷ []) c.in-Some-place.is in
     let process = c.in-Some-place.process in
-    let v = c.loop-place.seat.view in (
-      c.roll_back.ensures.table ∙ c.loop-place.invariant.0,
-      λ first cs all. let e = c.loop-place.invariant.1 first cs all in
-          ends_held first cs dropped c.loop-place.places.items c.pop.new.self.items process v c.roll_back.new.seat.view is e
+    let v = c.loop-place.access in (
+      λ first cs all. let e = c.loop-place.invariant.0 first cs all in
+          ends_held first cs dropped c.loop-place.places.items c.pop.new.self.items process v c.roll_back.new.access is e
           (c.roll_back.ensures.gone (past_of first cs process.held.slot) (may_end first cs dropped c.loop-place.places.items c.pop.new.self.items process v is e)),
-      λ p. c.roll_back.ensures.seen p ∙ c.loop-place.invariant.2 p,
-      c.roll_back.ensures.found ∙ c.loop-place.invariant.3,
+      λ p. c.roll_back.ensures.seen p ∙ c.loop-place.invariant.1 p,
+      c.roll_back.ensures.found ∙ c.loop-place.invariant.2,
     )
 
 pub returns-clause-left : goal.returns-clause-left
-returns-clause-left c = λ first cs all.
-    left_dropped first cs c.loop-place.seat.view
-    (all_ended first cs dropped c.loop-place.places.items c.loop-place.seat.view (sym c.loop-place.places.ok.0 ∙ c.in_default.ensures.cases.0) (c.loop-place.invariant.1 first cs all))
+returns-clause-left g c = λ first cs all.
+    left_dropped first cs c.loop-place.access
+    (all_ended first cs dropped c.loop-place.places.items c.loop-place.access (sym c.loop-place.places.ok.0 ∙ c.in_default.ensures.cases.0) (c.loop-place.invariant.0 first cs all))

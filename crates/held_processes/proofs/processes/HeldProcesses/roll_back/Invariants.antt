@@ -8,11 +8,10 @@ use Rattle.held_processes.proofs.ReleaseLemmas.{IsEnding}
 use Rattle.held_processes.proofs.processes.HeldProcesses.roll_back.Given as goal
 
 abbrev pub invariant-loop-place : goal.invariant-loop-place
-invariant-loop-place l =
-    (l.seat.table ≡ l.initial.seat.table)
-    × ((first : View) (cs : Courses) → AllFollow first cs l.fn.self l.initial.seat.view → IsEnding first cs dropped l.places.items l.seat.view)
-    × ((p : ℕ) → seen l.seat.view p ≡ seen l.initial.seat.view p)
-    × (l.seat.view.found ≡ l.initial.seat.view.found)
+invariant-loop-place g l =
+    ((first : View) (cs : Courses) → AllFollow first cs l.fn.self l.initial.access → IsEnding first cs dropped l.places.items l.access)
+    × ((p : ℕ) → seen l.access p ≡ seen l.initial.access p)
+    × (l.access.found ≡ l.initial.access.found)
 
 abbrev pub decreases-loop-place : goal.decreases-loop-place
-decreases-loop-place l = vec_len l.places
+decreases-loop-place g l = vec_len l.places

@@ -3,4 +3,4 @@ use Rattle.node_start.proofs.StartLemmas.{AreStartedTo}
 use Rattle.node_start.proofs.start.Started.start_apps.Given as goal
 
 abbrev pub invariant-loop-place : goal.invariant-loop-place
-invariant-loop-place g l = (l.seat.table ≡ l.fn.table) × AreStartedTo l.fn.self l.fn.seat.view l.apps l.libraries l.place l.self l.seat.view
+invariant-loop-place g l = AreStartedTo l.fn.self l.fn.access l.apps l.libraries l.place l.self l.access

@@ -7,8 +7,8 @@ use Rattle.sup_tree.specs.Tree.{App}
 use Rattle.sup_tree.proofs.ChildLemmas.{changed_unless, child_there}
 use Rattle.sup_tree.proofs.tree.Tree.delete_child.Goals as goal
 
-pub returns-clause-deleted : goal.returns-clause-deleted
-returns-clause-deleted g c =
+pub returns : goal.returns
+returns g c = record { deleted =
     let name = c.args.«module».now in
     let id = c.args.id.now in
     let apps = c.self.inside.apps.items in
@@ -22,8 +22,8 @@ returns-clause-deleted g c =
     record {
       one = one;
       look = c.delete.ensures.ended.0;
-      looked = subst (λ o. ChildLookedAt Up o c.delete.result c.args.seat.now.view c.delete.ensures.ended.0) child c.delete.ensures.ended.1;
-      ended = subst (λ o. ChildEndedUnless c.delete.result o c.delete.ensures.ended.0 c.delete.new.seat.view) child c.delete.ensures.ended.2;
+      looked = subst (λ o. ChildLookedAt Up o c.delete.result c.args.access.now c.delete.ensures.ended.0) child c.delete.ensures.ended.1;
+      ended = subst (λ o. ChildEndedUnless c.delete.result o c.delete.ensures.ended.0 c.delete.new.access) child c.delete.ensures.ended.2;
       tree = changed_unless c.delete.result nothing_kept name id apps place a b at c.index_mut.ensures.value (λ j. record { name = a.name; members = c.delete.ensures.members j })
           ∙ ap (λ (l : List App). if c.delete.result then l else child_deleted name id l) c.self.view_is;
-    }
+    } }

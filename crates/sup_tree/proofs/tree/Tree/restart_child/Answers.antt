@@ -12,8 +12,8 @@ use Rattle.sup_tree.proofs.ChildLemmas.{app_changed, child_there}
 use Rattle.sup_tree.proofs.RestartLemmas.{lifted, with_one}
 use Rattle.sup_tree.proofs.tree.Tree.restart_child.Goals as goal
 
-pub returns-clause-restarted : goal.returns-clause-restarted
-returns-clause-restarted g c =
+pub returns : goal.returns
+returns g c = record { restarted =
     let name = c.args.«module».now in
     let id = c.args.id.now in
     let tables = tables_of (modules_in c.args.loaded.now) in
@@ -22,8 +22,8 @@ returns-clause-restarted g c =
     let place = c.in-Some.place in
     let a = c.index_mut.result.now in
     let b = c.restart.new.app in
-    let v = c.args.seat.now.view in
-    let w = c.restart.new.seat.view in
+    let v = c.args.access.now in
+    let w = c.restart.new.access in
     let new = map app_of (slice_set items place b) in
     let change : List Member → List App = λ ms. apps_with (in_place ms) name id apps in
     let only = subst (λ (l : List StartedApp). IsPlaceOfOnlySuper name l (Some place)) c.as_slice.ensures.value (rw c.in-Some.is at c.place_of_only_super.ensures) in
@@ -37,4 +37,4 @@ returns-clause-restarted g c =
     (λ ms changed. app_changed (in_place ms) name id items place a b at c.index_mut.ensures.value changed ∙ ap (apps_with (in_place ms) name id) c.self.view_is)
     c.restart.ensures.restarted in
     with_one name id tables apps v c.restart.result new w one
-    (subst₂ (λ (n : List ℕ) (o : Option Place). Restarts tables n o change apps v c.restart.result new w) app child is)
+    (subst₂ (λ (n : List ℕ) (o : Option Place). Restarts tables n o change apps v c.restart.result new w) app child is) }

@@ -21,13 +21,13 @@ begin_all-requires-clause-slots g c =
     let few = c.in_ok-new.ensures.2 in
     omega (arith, same, few, c.free_count.ensures)
 
-pub returns-clause-started : goal.returns-clause-started
-returns-clause-started g c =
+pub returns : goal.returns
+returns g c = record { started =
     let name = string_bytes c.args.app.now.name in
     let apps = c.args.self.now in
     let members = app_members (tables_of (modules_in c.args.loaded.now)) (specification_of c.args.app.now).top in
-    let v = c.args.seat.now.view in
-    let w = c.begin_all.new.seat.view in
+    let v = c.args.access.now in
+    let w = c.begin_all.new.access in
     let stand = c.begin_all.new.members.items in
     let prepared : c.in_ok-prepared.prepared.items ≡ map (preparation_of name) members =
     c.in_ok-prepared.ensures
@@ -40,4 +40,4 @@ returns-clause-started g c =
       began = begun.began;
       tree = app_pushed _ _ _ _ apps (record { name = name; members = members_at members (pids_of begun.processes) }) c.push_reserved.ensures.items c.in_ok-reserve.ensures.items c.self.view_is
           (λ j. record { name = (c.in_ok-name.ensures ∙ c.as_str-2.ensures.value) j; members = begun.members j });
-    }
+    } }

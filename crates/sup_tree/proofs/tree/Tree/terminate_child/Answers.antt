@@ -9,8 +9,8 @@ use Rattle.sup_tree.specs.Tree.{App}
 use Rattle.sup_tree.proofs.ChildLemmas.{app_changed, child_there}
 use Rattle.sup_tree.proofs.tree.Tree.terminate_child.Goals as goal
 
-pub returns-clause-terminated : goal.returns-clause-terminated
-returns-clause-terminated g c =
+pub returns : goal.returns
+returns g c = record { terminated =
     let name = c.args.«module».now in
     let id = c.args.id.now in
     let apps = c.self.inside.apps.items in
@@ -23,7 +23,7 @@ returns-clause-terminated g c =
     let child = child_there name id apps place a at c.index_mut.ensures.value ∙ ap (child_place name id) c.self.view_is in
     record {
       one = one;
-      ended = subst (λ o. EndedInOrder (reverse (pids_of (processes_among (option_map_or with_below o [])))) c.args.seat.now.view c.terminate.new.seat.view) child c.terminate.ensures.ended;
+      ended = subst (λ o. EndedInOrder (reverse (pids_of (processes_among (option_map_or with_below o [])))) c.args.access.now c.terminate.new.access) child c.terminate.ensures.ended;
       tree = app_changed specification_kept name id apps place a b at c.index_mut.ensures.value (λ j. record { name = a.name; members = c.terminate.ensures.members j })
           ∙ ap (child_terminated name id) c.self.view_is;
-    }
+    } }

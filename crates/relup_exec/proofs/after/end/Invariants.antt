@@ -1,4 +1,0 @@
-use Rattle.relup_exec.proofs.after.end.Given as goal
-
-abbrev pub ghost-finish : goal.ghost-finish
-ghost-finish g a = g.followed

@@ -1,4 +1,0 @@
-use Rattle.relup_exec.proofs.after.let_pass.Given as goal
-
-abbrev pub ghost-pass_point : goal.ghost-pass_point
-ghost-pass_point g a = g.followed

@@ -1,5 +1,0 @@
-use Rattle.relup_exec.specs.Stepwise.{start_at}
-use Rattle.relup_exec.proofs.before.run_before.Given as goal
-
-abbrev pub ghost-run_early : goal.ghost-run_early
-ghost-run_early g a = start_at a.seat.now.view a.progress.now.tree
