@@ -1,59 +1,28 @@
 -- An application, by what is found below its top, and a child that starts alone.
-use Rattle.std.proofs.Common.{◌≡◌, ℕ, suc, ◌+◌, ◌-◌, ◌<◌, ◌≤◌, true, false, List, [], ◌∷◌, length, nat_lt, Option, Some, None, if◌then◌else◌, refl, ap, sym, ◌∙◌, arith}
+use Rattle.std.proofs.Common.{◌≡◌, ℕ, suc, ◌+◌, ◌-◌, ◌≤◌, false, List, [], ◌∷◌, nat_lt, Option, Some, None, if◌then◌else◌, refl, ap, sym, ◌∙◌, arith}
 use Rattle.std.specs.Option.{option_or}
 use Rattle.std.proofs.lemmas.Bool.Decides.{nat_tests}
-use Rattle.app_members.specs.declared.error.MembersError.{MembersError}
-use Rattle.app_members.specs.declared.error.MembersError.TheVariants.{NoTable, Unsupported, NoMemory}
-use Rattle.app_members.specs.InMemory.{AreTooMany, FaultIs, IsTop}
+use Rattle.app_members.specs.InMemory.{IsTop}
 use Rattle.mod_table.specs.Table.{ChildSpec}
 use Rattle.mod_table.specs.declared.table.Table.{Table}
 use Rattle.mod_table.specs.declared.table.Table.TheVariants.{Worker, Super}
 use Rattle.mod_table.specs.Tables.{Tables, child_table}
-use Rattle.app_members.specs.Walk.{NewMember, StartFault, app_fault, app_members, child_as_member, child_fault, child_members, children_fault, children_members, crowd_fault, fault_from, fault_with, lone_fault, lone_members, members_below, members_with, super_children, top_children, worker_at_top}
+use Rattle.app_members.specs.Walk.{NewMember, app_fault, app_members, child_as_member, child_fault, child_members, children_fault, children_members, fault_from, fault_with, lone_fault, lone_members, members_below, members_with, super_children, top_children, worker_at_top}
 use Rattle.app_members.specs.Walk.StartFault.{unsupported}
 
 -- what is wrong, where the top has not the table of a worker
-pub below_top : (tables : Tables) (top : Option (List ℕ)) (cs : List ChildSpec) (ms : List NewMember) → worker_at_top tables top ≡ None → top_children tables top ≡ cs
-    → app_members tables top ≡ ms → app_fault tables top ≡ option_or (children_fault 8 tables cs) (crowd_fault ms)
-below_top tables top cs ms none children members = λ j. option_or (none j) (option_or (children_fault 8 tables (children j)) (crowd_fault (members j)))
-
--- the first of two that may be wrong
-first_wrong : (f g : Option StartFault) (x : StartFault) → f ≡ Some x → option_or f g ≡ Some x
-first_wrong f g x is = ap (λ o. option_or o g) is
-
-pub fault_first : (e : MembersError) (f g : Option StartFault) → FaultIs e f → FaultIs e (option_or f g)
-fault_first (NoTable m) f g is = first_wrong f g _ is
-fault_first Unsupported f g is = first_wrong f g _ is
-fault_first NoMemory f g is = tt
-
-few_members : (n : ℕ) → n ≤ 4096 → nat_lt 4096 n ≡ false
-few_members n few = grind (arith, nat_tests)
-
-many_members : (n : ℕ) → 4096 < n → nat_lt 4096 n ≡ true
-many_members n many = grind (arith, nat_tests)
-
--- there are few enough members
-pub no_crowd : (ms : List NewMember) → length ms ≤ 4096 → crowd_fault ms ≡ None
-no_crowd ms few = ap (λ b. if b then Some unsupported else None) (few_members (length ms) few)
+pub below_top : (tables : Tables) (top : Option (List ℕ)) (cs : List ChildSpec) → worker_at_top tables top ≡ None → top_children tables top ≡ cs
+    → app_fault tables top ≡ children_fault 8 tables cs
+below_top tables top cs none children = λ j. option_or (none j) (children_fault 8 tables (children j))
 
 -- nothing is wrong, where there is none
 pub no_children : (tables : Tables) → children_fault 8 tables [] ≡ None
 unfolding children_fault
 no_children tables = refl
 
--- neither below the top, nor with how many members there are
-pub none_wrong : (f : Option StartFault) (ms : List NewMember) → f ≡ None → length ms ≤ 4096 → option_or f (crowd_fault ms) ≡ None
-none_wrong f ms none few = λ j. option_or (none j) (no_crowd ms few j)
-
--- there are too many
-pub crowded : (e : MembersError) (ms : List NewMember) → AreTooMany ms e → FaultIs e (crowd_fault ms)
-crowded Unsupported ms many = ap (λ b. if b then Some unsupported else None) (many_members (length ms) many)
-crowded NoMemory ms many = tt
-crowded (NoTable m) ms many = absurd many
-
 -- nothing is wrong where there is no top
-pub without_top : (tables : Tables) (top : Option (List ℕ)) → worker_at_top tables top ≡ None → top_children tables top ≡ [] → app_members tables top ≡ [] → app_fault tables top ≡ None
-without_top tables top none children members = below_top tables top [] [] none children members ∙ none_wrong (children_fault 8 tables []) [] (no_children tables) (omega arith)
+pub without_top : (tables : Tables) (top : Option (List ℕ)) → worker_at_top tables top ≡ None → top_children tables top ≡ [] → app_fault tables top ≡ None
+without_top tables top none children = below_top tables top [] none children ∙ no_children tables
 
 -- the top of an application, with those below it
 pub top_members : (tables : Tables) (top : Option (List ℕ)) (m : NewMember) → IsTop tables top m → app_members tables top ≡ members_with 8 tables m
@@ -61,8 +30,7 @@ top_members tables top m is = is.members ∙ (λ j. m ∷ members_below (childre
 
 pub top_fault : (tables : Tables) (top : Option (List ℕ)) (m : NewMember) → IsTop tables top m → app_fault tables top ≡ fault_with 8 tables m
 top_fault tables top m is =
-    below_top tables top (super_children (Some m.table)) (members_with 8 tables m) is.sound is.children (top_members tables top m is)
-    ∙ ap (λ f. option_or f (crowd_fault (members_with 8 tables m))) (by_table tables m.child m.table)
+    below_top tables top (super_children (Some m.table)) is.sound is.children ∙ by_table tables m.child m.table
   where
     by_table : (tables : Tables) (c : ChildSpec) (t : Table) → children_fault 8 tables (super_children (Some t)) ≡ child_fault (children_fault 8 tables) c (Some t)
     by_table tables c (Worker w) = no_children tables
@@ -93,8 +61,8 @@ lone_child tables depth c left m few is there =
     (λ j. child_members (children_members (so j) tables (deep j)) depth c (member.0 j))
     ∙ ap (λ n. n ∷ members_below (children_members left tables (m.depth + 1)) m.table) (sym member.1) in
     record {
-      fault = ap (λ b. if b then Some unsupported else option_or (fault_from (8 - depth) tables c) (crowd_fault (lone_members tables depth c))) (few_levels depth few)
-          ∙ (λ j. option_or (child_fault (children_fault (so j) tables) c (member.0 j)) (crowd_fault (lone_members tables depth c)))
-          ∙ (λ j. option_or (child_fault (children_fault left tables) (own j) (Some m.table)) (crowd_fault (all j)));
+      fault = ap (λ b. if b then Some unsupported else fault_from (8 - depth) tables c) (few_levels depth few)
+          ∙ (λ j. child_fault (children_fault (so j) tables) c (member.0 j))
+          ∙ (λ j. child_fault (children_fault left tables) (own j) (Some m.table));
       members = all;
     }

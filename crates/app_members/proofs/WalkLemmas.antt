@@ -1,7 +1,7 @@
 -- What is found through a number of supervisors in each other, and through more or fewer.
-use Rattle.std.proofs.Common.{◌≡◌, ℕ, zero, suc, ◌+◌, ◌-◌, ◌≤◌, List, [], ◌∷◌, ◌++◌, Bool, true, false, cond, nat_le, Option, Some, None, Result, Ok, Err, IsErr, IsErrAnd, refl, ap, sym, subst, ◌∙◌, add-zero, add-one, arith, append_assoc, length-append}
+use Rattle.std.proofs.Common.{◌≡◌, ℕ, zero, suc, ◌+◌, ◌-◌, ◌≤◌, List, [], ◌∷◌, ◌++◌, length, Bool, true, false, cond, nat_le, Option, Some, None, if◌then◌else◌, Result, Ok, Err, IsErr, IsErrAnd, refl, ap, sym, subst, ◌∙◌, add-zero, add-one, arith, append_assoc}
 use Rattle.std.specs.List.{flat_map}
-use Rattle.std.specs.Option.{option_or, option_map_or}
+use Rattle.std.specs.Option.{option_or, option_and_then}
 use Rattle.std.proofs.lemmas.Bool.Decides.{nat_tests}
 use Rattle.mod_table.specs.declared.table.Table.{Table}
 use Rattle.mod_table.specs.declared.table.Table.TheVariants.{Worker, Super}
@@ -11,11 +11,12 @@ use Rattle.std.specs.BTreeMap.{BTreeMap}
 use Rattle.std.specs.Str.{bytes_eq}
 use Rattle.std.proofs.lemmas.Slice.Eq.{bytes_eq-Decides}
 use Rattle.mod_table.specs.Tables.{Tables, first_of, child_table}
-use Rattle.app_members.specs.Walk.{NewMember, StartFault, child_fault, children_fault, children_members, fault_from, members_from}
+use Rattle.app_members.specs.declared.walk.Below.{Below}
+use Rattle.app_members.specs.Walk.{NewMember, StartFault, child_fault, child_members, children_fault, children_members, fault_from, members_from}
 use Rattle.app_members.specs.Walk.StartFault.{unsupported}
 use Rattle.app_members.specs.declared.error.MembersError.{MembersError}
 use Rattle.app_members.specs.declared.error.MembersError.TheVariants.{NoTable, Unsupported, NoMemory}
-use Rattle.app_members.specs.InMemory.{noted_in, AreSound, AreTooMany, FaultIs}
+use Rattle.app_members.specs.InMemory.{counted, known_through, noted_in, AreCounted, IsBelow, FaultIs}
 
 -- none of two is there where none is found
 pub or_none : {X : Type 0} (o p : Option X) → option_or o p ≡ None → (o ≡ None) × (p ≡ None)
@@ -51,6 +52,44 @@ so_many_deeper tables n (suc k) cs e =
 pub sound_deeper : (tables : Tables) (n m : ℕ) (cs : List ChildSpec) → n ≤ m → children_fault n tables cs ≡ None → children_fault m tables cs ≡ None
 sound_deeper tables n m cs within e =
     subst (λ k. children_fault k tables cs ≡ None) (let s : n + (m - n) ≡ m = omega (arith, within) in s) (so_many_deeper tables n (m - n) cs e)
+
+-- those of children of which each has none wrong are the same
+same_too : {C X Y : Type 0} (fault : C → Option X) (f g : C → List Y) → ((c : C) → fault c ≡ None → f c ≡ g c) → (cs : List C) → first_of fault cs ≡ None → flat_map f cs ≡ flat_map g cs
+same_too fault f g same [] e = refl
+same_too fault f g same (c ∷ cs) e =
+    let parts = or_none (fault c) (first_of fault cs) e in
+    let here = same c parts.0 in
+    let later = same_too fault f g same cs parts.1 in
+    λ j. here j ++ later j
+
+members_of_child : (fault : List ChildSpec → Option StartFault) (below below' : List ChildSpec → List NewMember)
+    → ((cs : List ChildSpec) → fault cs ≡ None → below cs ≡ below' cs)
+    → (depth : ℕ) (c : ChildSpec) (t : Option Table) → child_fault fault c t ≡ None → child_members below depth c t ≡ child_members below' depth c t
+members_of_child fault below below' same depth c None e = refl
+members_of_child fault below below' same depth c (Some (Worker w)) e = refl
+members_of_child fault below below' same depth c (Some (Super s)) e = ap (λ ms. record { depth = depth; child = c; table = Super s } ∷ ms) (same s.children e)
+
+-- where nothing is wrong, a walk through one more finds the same members
+members_deeper : (tables : Tables) (n depth : ℕ) (cs : List ChildSpec) → children_fault n tables cs ≡ None → children_members (suc n) tables depth cs ≡ children_members n tables depth cs
+unfolding children_fault children_members
+members_deeper tables zero depth cs e = absurd cc
+members_deeper tables (suc n) depth cs e =
+    same_too (λ (c : ChildSpec). child_fault (children_fault n tables) c (child_table tables c))
+    (λ (c : ChildSpec). child_members (children_members (suc n) tables (suc depth)) depth c (child_table tables c))
+    (λ (c : ChildSpec). child_members (children_members n tables (suc depth)) depth c (child_table tables c))
+    (λ c. members_of_child (children_fault n tables) (children_members (suc n) tables (suc depth)) (children_members n tables (suc depth)) (members_deeper tables n (suc depth))
+    depth c (child_table tables c)) cs e
+
+members_so_deep : (tables : Tables) (n k depth : ℕ) (cs : List ChildSpec) → children_fault n tables cs ≡ None → children_members (n + k) tables depth cs ≡ children_members n tables depth cs
+members_so_deep tables n zero depth cs e = ap (λ m. children_members m tables depth cs) (add-zero n)
+members_so_deep tables n (suc k) depth cs e =
+    ap (λ m. children_members m tables depth cs) (let s : n + suc k ≡ suc (n + k) = omega arith in s)
+    ∙ (members_deeper tables (n + k) depth cs (so_many_deeper tables n k cs e) ∙ members_so_deep tables n k depth cs e)
+
+-- through as many, or more
+same_members : (tables : Tables) (n m depth : ℕ) (cs : List ChildSpec) → n ≤ m → children_fault n tables cs ≡ None → children_members m tables depth cs ≡ children_members n tables depth cs
+same_members tables n m depth cs within e =
+    ap (λ k. children_members k tables depth cs) (let s : m ≡ n + (m - n) = omega (arith, within) in s) ∙ members_so_deep tables n (m - n) depth cs e
 
 -- from one number to the next
 
@@ -100,33 +139,50 @@ fault_passed f left rest c r (NoTable m) split so_far is = fault_here f left res
 fault_passed f left rest c r Unsupported split so_far is = fault_here f left rest c (f c) r _ split refl is so_far
 fault_passed f left rest c r NoMemory split so_far is = tt
 
--- there are too many once there are too many of the first
-pub still_too_many : (all more : List NewMember) (e : MembersError) → AreTooMany all e → AreTooMany (all ++ more) e
-still_too_many all more Unsupported many = let sum = length-append all more in omega (arith, many, sum)
-still_too_many all more NoMemory many = tt
-still_too_many all more (NoTable m) many = absurd many
-
 -- a supervisor is noted
-pub sound_noted : (tables : Tables) (old new : BTreeMap (Bor (List ℕ)) ℕ) (name : List ℕ) (n : ℕ) (s : SuperTable)
-    → tables name ≡ Some (Super s) → children_fault n tables s.children ≡ None
-    → ((q : List ℕ) → noted_in new q ≡ cond (bytes_eq name q) (Some n) (noted_in old q)) → AreSound tables old → AreSound tables new
-sound_noted tables old new name n s there none is so_far q m t noted at = go (bytes_eq name q) refl (sym (is q) ∙ noted)
+pub count_noted : (tables : Tables) (old new : BTreeMap (Bor (List ℕ)) Below) (name : List ℕ) (b : Below) (s : SuperTable)
+    → tables name ≡ Some (Super s) → IsBelow tables s.children b
+    → ((q : List ℕ) → noted_in new q ≡ cond (bytes_eq name q) (Some b) (noted_in old q)) → AreCounted tables old → AreCounted tables new
+count_noted tables old new name b s there below is so_far q d t noted at = go (bytes_eq name q) refl (sym (is q) ∙ noted)
   where
-    go : (b : Bool) → bytes_eq name q ≡ b → cond b (Some n) (noted_in old q) ≡ Some m → children_fault m tables t.children ≡ None
+    go : (e : Bool) → bytes_eq name q ≡ e → cond e (Some b) (noted_in old q) ≡ Some d → IsBelow tables t.children d
     go true same e =
         let q_is : name ≡ q = (bytes_eq-Decides name q).0 same in
         let t_is : s ≡ t = let both = sym there ∙ (ap tables q_is ∙ at) in cc in
-        let m_is : n ≡ m = cc in
-        subst (λ k. children_fault k tables t.children ≡ None) m_is (subst (λ (u : SuperTable). children_fault n tables u.children ≡ None) t_is none)
-    go false same e = so_far q m t e at
+        let d_is : b ≡ d = cc in
+        subst (λ (d : Below). IsBelow tables t.children d) d_is (subst (λ (u : SuperTable). IsBelow tables u.children b) t_is below)
+    go false same e = so_far q d t e at
 
--- below a supervisor that is noted nothing is wrong
-pub known_sound : (tables : Tables) (noted : BTreeMap (Bor (List ℕ)) ℕ) (name : List ℕ) (n : ℕ) (s : SuperTable) → AreSound tables noted → tables name ≡ Some (Super s)
-    → option_map_or (λ m. nat_le m n) (noted_in noted name) false ≡ true → children_fault n tables s.children ≡ None
-known_sound tables noted name n s sound there known = go (noted_in noted name) refl known
+-- nothing is wrong below a supervisor of which that is known, and so many members stand there
+pub record IsKnown (tables : Tables) (n : ℕ) (cs : List ChildSpec) (count : ℕ) : Type 0 where
+  pub sound : children_fault n tables cs ≡ None
+  pub members : (depth : ℕ) → count ≡ counted (length (children_members n tables depth cs))
+
+pub count_known : (tables : Tables) (noted : BTreeMap (Bor (List ℕ)) Below) (name : List ℕ) (n count : ℕ) (s : SuperTable) → AreCounted tables noted → tables name ≡ Some (Super s)
+    → option_and_then (known_through n) (noted_in noted name) ≡ Some count → IsKnown tables n s.children count
+count_known tables noted name n count s are there known = go (noted_in noted name) refl known
   where
-    go : (o : Option ℕ) → noted_in noted name ≡ o → option_map_or (λ m. nat_le m n) o false ≡ true → children_fault n tables s.children ≡ None
+    through : (b : Below) (e : Bool) → nat_le b.through n ≡ e → IsBelow tables s.children b → (if e then Some b.members else None) ≡ Some count → IsKnown tables n s.children count
+    through b false le below e = absurd cc
+    through b true le below e =
+        let within : b.through ≤ n = grind (arith, nat_tests) in
+        let count_is : b.members ≡ count = cc in record {
+          sound = sound_deeper tables b.through n s.children within below.sound;
+          members = λ depth. sym count_is ∙ (below.members depth ∙ ap (λ ms. counted (length ms)) (sym (same_members tables b.through n depth s.children within below.sound)));
+        }
+
+    go : (o : Option Below) → noted_in noted name ≡ o → option_and_then (known_through n) o ≡ Some count → IsKnown tables n s.children count
     go None is e = absurd cc
-    go (Some m) is e =
-        let within : m ≤ n = grind (arith, nat_tests) in
-        sound_deeper tables m n s.children within (sound name m s is there)
+    go (Some b) is e = through b (nat_le b.through n) refl (are name b s is there) e
+
+-- a member and so many below it
+pub one_counted : (n count : ℕ) → count ≡ counted n → counted (count + 1) ≡ counted (suc n)
+one_counted n count is = omega arith
+
+-- children one after another, where so many were counted
+pub more_counted : (so_far count more here left all : ℕ) → counted (so_far + (here + left)) ≡ counted all → more ≡ counted here → count ≡ counted (so_far + more) → counted (count + left) ≡ counted all
+more_counted so_far count more here left all before one is = omega arith
+
+-- what is counted fits
+pub fits_so : (count n : ℕ) → count ≡ counted n → count ≡ counted count
+fits_so count n is = omega arith

@@ -1,5 +1,5 @@
 -- What lies in memory on the way through an application, without where it lies.
-use Rattle.std.specs.Prelude.{◌≡◌, ℕ, ◌<◌, ◌≤◌, List, [], ◌∷◌, ◌++◌, length, map, Option, Some, None, Result, Ok, Err, Vec}
+use Rattle.std.specs.Prelude.{◌≡◌, ℕ, ◌^◌, ◌-◌, min, List, [], ◌∷◌, length, map, nat_le, Option, Some, None, if◌then◌else◌, Result, Ok, Err, Vec}
 use Rattle.std.specs.Borrow.{Bor}
 use Rattle.std.specs.BTreeMap.{BTreeMap, get_by}
 use Rattle.std.specs.Cmp.Lexicographic.{slice_cmp}
@@ -8,6 +8,7 @@ use Rattle.std.specs.declared.alloc.Global.{Global}
 use Rattle.mod_table.specs.declared.table.Table.TheVariants.{Super}
 use Rattle.mod_table.specs.Table.{ChildSpec, SuperTable}
 use Rattle.mod_table.specs.Tables.{Tables}
+use Rattle.app_members.specs.declared.walk.Below.{Below}
 use Rattle.app_members.specs.declared.walk.NewChild.{NewChild}
 use Rattle.app_members.specs.declared.walk.NewMember.{NewMember}
 use Rattle.app_members.specs.declared.error.MembersError.{MembersError}
@@ -29,14 +30,28 @@ new_members_of ms = map new_member_of ms
 abbrev pub new_child_of : NewChild → ChildSpec
 new_child_of c = record { id = c.id.now; start = c.«module».now; restart = c.restart; kind = c.kind }
 
+-- a number, or the greatest that is counted
+abbrev pub counted : ℕ → ℕ
+counted n = min n (2 ^ 64 - 1)
+
 -- what is noted of a module
-abbrev pub noted_in : BTreeMap (Bor (List ℕ)) ℕ → List ℕ → Option ℕ
+abbrev pub noted_in : BTreeMap (Bor (List ℕ)) Below → List ℕ → Option Below
 noted_in noted name = get_by (λ k. slice_cmp nat_cmp name k.now) noted
 
--- below each supervisor that is noted nothing is wrong, through as many in each other
-abbrev pub AreSound : Tables → BTreeMap (Bor (List ℕ)) ℕ → Type 0
-AreSound tables noted =
-    (name : List ℕ) (n : ℕ) (s : SuperTable) → noted_in noted name ≡ Some n → tables name ≡ Some (Super s) → children_fault n tables s.children ≡ None
+-- how many members stand below a supervisor, if it is known that nothing is wrong there through so many in each other
+abbrev pub known_through : ℕ → Below → Option ℕ
+known_through n b = if nat_le b.through n then Some b.members else None
+
+-- Nothing is wrong among these children of a supervisor, nor below them through so many supervisors in each other, and so many
+-- members stand there.
+pub record IsBelow (tables : Tables) (cs : List ChildSpec) (b : Below) : Type 0 where
+  pub sound : children_fault b.through tables cs ≡ None
+  pub members : (depth : ℕ) → b.members ≡ counted (length (children_members b.through tables depth cs))
+
+-- What is noted of a supervisor holds of its children.
+abbrev pub AreCounted : Tables → BTreeMap (Bor (List ℕ)) Below → Type 0
+AreCounted tables noted =
+    (name : List ℕ) (b : Below) (s : SuperTable) → noted_in noted name ≡ Some b → tables name ≡ Some (Super s) → IsBelow tables s.children b
 
 -- an error is this fault, or that no memory was left
 abbrev pub FaultIs : MembersError → Option StartFault → Type 0
@@ -44,20 +59,10 @@ FaultIs (NoTable m) f = f ≡ Some (no_table m.now)
 FaultIs Unsupported f = f ≡ Some unsupported
 FaultIs NoMemory f = Unit {0}
 
-abbrev pub Reports : {X : Type 0} → Result X MembersError → Option StartFault → Type 0
-Reports (Ok x) f = f ≡ None
-Reports (Err e) f = FaultIs e f
-
--- Why members can't be kept: there are more than 4,096 of them, or no memory was left.
-abbrev pub AreTooMany : List walk.NewMember → MembersError → Type 0
-AreTooMany all Unsupported = 4096 < length all
-AreTooMany all NoMemory = Unit {0}
-AreTooMany all e = ⊥
-
--- The members were added at the end of the list, unless there are too many of them or no memory was left.
-abbrev pub Adds : {X : Type 0} → List NewMember → List walk.NewMember → Result X MembersError → List NewMember → Type 0
-Adds old ms (Ok x) new = (new_members_of new ≡ new_members_of old ++ ms) × (length new ≤ 4096)
-Adds old ms (Err e) new = AreTooMany (new_members_of old ++ ms) e
+-- So many members are counted, in however many supervisors they stand, if nothing is wrong; else an error reports what is.
+abbrev pub Counts : Option StartFault → (ℕ → List walk.NewMember) → Result ℕ MembersError → Type 0
+Counts fault members (Ok count) = (fault ≡ None) × ((depth : ℕ) → count ≡ counted (length (members depth)))
+Counts fault members (Err e) = FaultIs e fault
 
 -- the supervisor at the top of an application
 pub record IsTop (tables : Tables) (top : Option (List ℕ)) (m : walk.NewMember) : Type 0 where

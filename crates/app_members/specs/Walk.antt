@@ -1,6 +1,6 @@
 -- What an application starts: its top, and below it the children of each supervisor in order, those of a supervisor before its
 -- next sibling (OTP: supervisor, Principles). A number says how many supervisors in each other the walk goes through at most.
-use Rattle.std.specs.Prelude.{◌+◌, ℕ, zero, suc, ◌-◌, List, [], ◌∷◌, length, nat_lt, Option, Some, None, if◌then◌else◌}
+use Rattle.std.specs.Prelude.{◌+◌, ℕ, zero, suc, ◌-◌, List, [], ◌∷◌, nat_lt, Option, Some, None, if◌then◌else◌}
 use Rattle.std.specs.List.{flat_map}
 use Rattle.std.specs.Option.{option_or, option_and_then, option_map, option_map_or}
 use Rattle.mod_table.specs.declared.child.ChildKind.TheVariants as kind
@@ -10,8 +10,7 @@ use Rattle.mod_table.specs.declared.table.Table.TheVariants.{Worker, Super}
 use Rattle.mod_table.specs.Table.{WorkerTable, ChildSpec}
 use Rattle.mod_table.specs.Tables.{Tables, first_of, child_table}
 
--- why nothing starts: a module has no table of the kind that is asked of it; supervisors stand too deep in each other, or there
--- are too many members
+-- why nothing starts: a module has no table of the kind that is asked of it, or supervisors stand too deep in each other
 pub data StartFault : Type 0 where
   no_table : List ℕ → StartFault
   unsupported : StartFault
@@ -100,14 +99,9 @@ members_at_top tables m t = []
 abbrev pub app_members : Tables → Option (List ℕ) → List NewMember
 app_members tables top = option_map_or (λ m. members_at_top tables m (tables m)) top []
 
--- no application has more members than this
-abbrev pub crowd_fault : List NewMember → Option StartFault
-crowd_fault ms = if nat_lt 4096 (length ms) then Some unsupported else None
-
 -- what is wrong with it
 abbrev pub app_fault : Tables → Option (List ℕ) → Option StartFault
-app_fault tables top =
-    option_or (worker_at_top tables top) (option_or (children_fault 8 tables (top_children tables top)) (crowd_fault (app_members tables top)))
+app_fault tables top = option_or (worker_at_top tables top) (children_fault 8 tables (top_children tables top))
 
 -- a member and those below it, through so many supervisors in each other
 abbrev pub members_with : ℕ → Tables → NewMember → List NewMember
@@ -115,7 +109,7 @@ members_with n tables m = m ∷ members_below (children_members n tables (m.dept
 
 -- what is wrong with these
 abbrev pub fault_with : ℕ → Tables → NewMember → Option StartFault
-fault_with n tables m = option_or (child_fault (children_fault n tables) m.child (Some m.table)) (crowd_fault (members_with n tables m))
+fault_with n tables m = child_fault (children_fault n tables) m.child (Some m.table)
 
 -- the processes that it starts
 abbrev pub app_starts : Tables → Option (List ℕ) → List Start
@@ -131,6 +125,4 @@ lone_members tables depth c = members_from (8 - depth) tables depth c
 
 -- what is wrong with it
 abbrev pub lone_fault : Tables → ℕ → ChildSpec → Option StartFault
-lone_fault tables depth c =
-    if nat_lt 8 depth then Some unsupported
-    else option_or (fault_from (8 - depth) tables c) (crowd_fault (lone_members tables depth c))
+lone_fault tables depth c = if nat_lt 8 depth then Some unsupported else fault_from (8 - depth) tables c

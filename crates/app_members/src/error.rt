@@ -6,16 +6,16 @@ use std::alloc::AllocError;
 use thiserror::Error;
 
 /// Why an application has no members with which it can start. Of several reasons the first on the way through the children is
-/// reported; that there are too many members comes after all others.
+/// reported.
 #[derive(Clone, Copy, Debug, Error)]
 pub enum MembersError<'a> {
     /// This module, of a child, has no table or one of the other kind; or it is a top and has the table of a worker.
     #[error("NoTable")]
     NoTable(&'a str),
-    /// Supervisors stand in each other deeper than 8, or there are more than 4,096 processes and supervisors.
+    /// Supervisors stand in each other deeper than 8.
     #[error("Unsupported")]
     Unsupported,
-    /// No memory was left. It may come in place of any other.
+    /// There is no memory for all members; more than a list can have are refused so, too. It may come in place of any other.
     #[error("NoMemory")]
     NoMemory,
 }

@@ -1,12 +1,12 @@
 //! The way from an application's top through the children of its supervisors.
-ghost use Rattle.std.specs.Prelude.{◌≡◌, ℕ, ◌+◌, ◌≤◌, List, [], ◌∷◌, ◌++◌, OnOk, Some, cond, false, length, map, nat_le};
+ghost use Rattle.std.specs.Prelude.{◌≡◌, ℕ, ◌+◌, ◌≤◌, List, [], ◌∷◌, ◌++◌, IfOk, OnOk, Some, cond, length, map, vec_capacity};
 ghost use Rattle.std.specs.Str.{bytes_eq};
-ghost use Rattle.std.specs.Option.{option_and_then, option_map, option_map_or};
+ghost use Rattle.std.specs.Option.{option_and_then, option_map};
 ghost use Rattle.rel_files.specs.AppInMemory.{specification_of};
 ghost use Rattle.mod_table.specs.InMemory.{child_of};
 ghost use Rattle.mod_table.specs.Table.{ChildSpec};
 ghost use Rattle.mod_table.specs.Tables.{child_table, of_kind};
-ghost use Rattle.app_members.specs.InMemory.{AreSound, Reports, Adds, noted_in, new_child_of, new_member_of, new_members_of, AreChildMembers, AreMembers, AreUnlessFault, TopIs};
+ghost use Rattle.app_members.specs.InMemory.{AreCounted, Counts, counted, known_through, noted_in, new_child_of, new_member_of, new_members_of, AreChildMembers, AreMembers, AreUnlessFault, TopIs};
 ghost use Rattle.loaded_modules.specs.Loaded.{modules_in, tables_of};
 ghost use Rattle.app_members.specs.Walk.{child_as_member, child_fault, children_fault, children_members, fault_from, fault_with, members_below, members_from, members_with, starts_among};
 
@@ -19,9 +19,6 @@ use std::collections::BTreeMap;
 
 // How many supervisors there are in each other at most.
 const MOST_SUPERVISORS: usize = 8;
-
-// How many members an application has at most.
-const MOST_MEMBERS: usize = 4_096;
 
 /// A member that starts, a process or a supervisor.
 #[derive(Clone, Copy)]
@@ -55,13 +52,23 @@ pub struct NewChild<'a> {
     pub kind: ChildKind,
 }
 
-// Below which supervisors nothing is wrong, by their modules: through how many in each other. So one that many others share isn't
-// walked through again for each of them.
-type Noted<'a> = BTreeMap<&'a str, usize>;
+// What is known below a supervisor in which nothing is wrong.
+#[derive(Clone, Copy)]
+struct Below {
+    // Through how many supervisors in each other nothing is wrong.
+    through: usize,
+    // How many members stand there; `usize::MAX` for any number that is greater.
+    members: usize,
+}
+
+// Below which supervisors nothing is wrong, by their modules. So one that many others share isn't walked through again for each of
+// them, and its members are counted once.
+type Noted<'a> = BTreeMap<&'a str, Below>;
 
 /// The members with which an application starts: its top, and those below it. An application without a top, or whose top has no
 /// table, has none. Where a module on the way has no table of the kind that is asked of it, NoTable names the first one;
-/// Unsupported comes where supervisors stand too deep in each other, or there are too many members.
+/// Unsupported comes where supervisors stand too deep in each other. The members are counted before memory is asked for all of
+/// them at once: supervisors that share others may have more than any memory holds.
 pub fn members_of_app<'a>(
     alloc: Global,
     loaded: &'a Loaded,
@@ -95,7 +102,7 @@ pub fn members_of_child<'a>(
     members_with(alloc, loaded, member, left)
 }
 
-// A member and those below it, through so many supervisors in each other, if nothing is wrong there and they are few enough.
+// A member and those below it, through so many supervisors in each other, if nothing is wrong there.
 fn members_with<'a>(
     alloc: Global,
     loaded: &'a Loaded,
@@ -108,10 +115,22 @@ fn members_with<'a>(
         (members_with left (tables_of (modules_in loaded.now)) (new_member_of member.entry))
         result }
 {
-    check_table(alloc, loaded, member.table, left)?;
-    let mut members = Vec::new(alloc);
-    add_member(loaded, member, left, &mut members)?;
+    let below = count_below(alloc, loaded, member.table, left)?;
+    let mut members = room_for(alloc, below.saturating_add(1))?;
+    add_member(loaded, member, left, &mut members);
     Ok(members)
+}
+
+// Room for so many members. There is none for more than are counted.
+fn room_for<'a>(alloc: Global, count: usize) -> Result<Vec<NewMember<'a>>, AllocError>
+    ensures none { IfOk result (λ members. members.items ≡ []) }
+    ensures room { IfOk result (λ members. (n : ℕ) → count ≡ counted n
+        → n ≤ vec_capacity members) }
+{
+    if count == usize::MAX {
+        return Err(AllocError);
+    }
+    Vec::with_capacity(alloc, count)
 }
 
 // The child as a member, if its module has a table of its kind.
@@ -168,83 +187,88 @@ pub fn process_count(members: &[NewMember<'_>]) -> usize
     count
 }
 
-// Whether nothing is wrong among the children of a supervisor, nor below them, through so many supervisors in each other.
-fn check_below<'a>(
-    alloc: Global,
-    loaded: &'a Loaded,
-    children: &'a [Child],
-    depth: usize,
-) -> Result<(), MembersError<'a>>
-    ensures { Reports result (children_fault depth
-        (tables_of (modules_in loaded.now)) (map child_of children.now)) }
-{
-    let mut sound = BTreeMap::new(alloc);
-    check_children(loaded, children, depth, &mut sound)
-}
-
-// Whether nothing is wrong below a child with this table, through so many supervisors in each other.
-fn check_table<'a>(
+// How many members stand below one with this table, through so many supervisors in each other, if nothing is wrong there.
+fn count_below<'a>(
     alloc: Global,
     loaded: &'a Loaded,
     table: &'a Table,
-    depth: usize,
-) -> Result<(), MembersError<'a>>
-    ensures { (c : ChildSpec) → Reports result (child_fault
-        (children_fault depth (tables_of (modules_in loaded.now))) c (Some table.now)) }
+    left: usize,
+) -> Result<usize, MembersError<'a>>
+    ensures { (c : ChildSpec) → Counts
+        (child_fault (children_fault left (tables_of (modules_in loaded.now))) c (Some table.now))
+        (λ depth. members_below
+        (children_members left (tables_of (modules_in loaded.now)) depth) table.now) result }
 {
     match table {
-        Table::Worker(_) => Ok(()),
-        Table::Super(supervisor) => check_below(alloc, loaded, supervisor.children(), depth),
+        Table::Worker(_) => Ok(0),
+        Table::Super(supervisor) => {
+            let mut noted = BTreeMap::new(alloc);
+            count_children(loaded, supervisor.children(), left, &mut noted)
+        }
     }
 }
 
-// Whether nothing is wrong among the children of a supervisor, nor below them, through so many supervisors in each other.
-#[cycle(checks)]
-fn check_children<'a>(
+// How many there are of the children of a supervisor and of those below them, through so many supervisors in each other.
+#[cycle(counts)]
+fn count_children<'a>(
     loaded: &'a Loaded,
     children: &'a [Child],
-    depth: usize,
-    sound: &mut Noted<'a>,
-) -> Result<(), MembersError<'a>>
-    requires { AreSound (tables_of (modules_in loaded.now)) sound.old }
-    ensures sound { OnOk result (AreSound (tables_of (modules_in loaded.now)) sound.new) }
-    ensures fault { Reports result
-        (children_fault depth (tables_of (modules_in loaded.now)) (map child_of children.now)) }
+    left: usize,
+    noted: &mut Noted<'a>,
+) -> Result<usize, MembersError<'a>>
+    requires { AreCounted (tables_of (modules_in loaded.now)) noted.old }
+    ensures noted { OnOk result (AreCounted (tables_of (modules_in loaded.now)) noted.new) }
+    ensures counts { Counts
+        (children_fault left (tables_of (modules_in loaded.now)) (map child_of children.now))
+        (λ depth. children_members left (tables_of (modules_in loaded.now)) depth
+        (map child_of children.now)) result }
 {
-    let Some(below) = depth.checked_sub(1) else {
+    let Some(below) = left.checked_sub(1) else {
         return Err(MembersError::Unsupported);
     };
+    let mut count = 0usize;
     for child in children {
-        check_child(loaded, child, below, sound)?;
+        let more = count_child(loaded, child, below, noted)?;
+        count = count.saturating_add(more);
     }
-    Ok(())
+    Ok(count)
 }
 
-#[cycle(checks)]
-fn check_child<'a>(
+// How many there are of a child and those below it, through so many supervisors in each other.
+#[cycle(counts)]
+fn count_child<'a>(
     loaded: &'a Loaded,
     child: &'a Child,
-    depth: usize,
-    sound: &mut Noted<'a>,
-) -> Result<(), MembersError<'a>>
-    requires { AreSound (tables_of (modules_in loaded.now)) sound.old }
-    ensures sound { OnOk result (AreSound (tables_of (modules_in loaded.now)) sound.new) }
-    ensures fault { Reports result
-        (fault_from depth (tables_of (modules_in loaded.now)) (child_of child.now)) }
+    left: usize,
+    noted: &mut Noted<'a>,
+) -> Result<usize, MembersError<'a>>
+    requires { AreCounted (tables_of (modules_in loaded.now)) noted.old }
+    ensures noted { OnOk result (AreCounted (tables_of (modules_in loaded.now)) noted.new) }
+    ensures counts { Counts
+        (fault_from left (tables_of (modules_in loaded.now)) (child_of child.now))
+        (λ depth. members_from left (tables_of (modules_in loaded.now)) depth
+        (child_of child.now)) result }
 {
     let name = child.module.as_str();
     let Some(table) = child_table(loaded, child) else {
         return Err(MembersError::NoTable(name));
     };
     let Table::Super(supervisor) = table else {
-        return Ok(());
+        return Ok(1);
     };
-    if was_sound(sound, name, depth) {
-        return Ok(());
+    if let Some(known) = known_through(noted, name, left) {
+        return Ok(known.saturating_add(1));
     }
-    check_children(loaded, supervisor.children(), depth, sound)?;
-    note(sound, name, depth)?;
-    Ok(())
+    let members = count_children(loaded, supervisor.children(), left, noted)?;
+    note(
+        noted,
+        name,
+        Below {
+            through: left,
+            members,
+        },
+    )?;
+    Ok(members.saturating_add(1))
 }
 
 // Adds a member and those below it, through so many supervisors in each other.
@@ -254,23 +278,26 @@ fn add_member<'a>(
     member: NewMember<'a>,
     left: usize,
     members: &mut Vec<NewMember<'a>>,
-) -> Result<(), MembersError<'a>>
+)
     requires depth { member.depth + left ≤ 8 }
-    requires few { length members.old.items ≤ 4096 }
-    ensures { Adds members.old.items (new_member_of member.entry
+    requires room { length members.old.items + length (new_member_of member
         ∷ members_below (children_members left (tables_of (modules_in loaded.now))
-        (member.entry.depth + 1)) member.entry.table.now) result members.new.items }
+        (member.depth + 1)) member.table.now) ≤ vec_capacity members.old }
+    ensures added { new_members_of members.new.items
+        ≡ new_members_of members.old.items ++ new_member_of member.entry
+        ∷ members_below (children_members left (tables_of (modules_in loaded.now))
+        (member.entry.depth + 1)) member.entry.table.now }
+    ensures room { vec_capacity members.new ≡ vec_capacity members.old }
 {
-    add_one(members, member)?;
-    match member.table {
-        Table::Worker(_) => Ok(()),
-        Table::Super(supervisor) => add_children(
+    members.push_reserved(member);
+    if let Table::Super(supervisor) = member.table {
+        add_children(
             loaded,
             supervisor.children(),
             left,
             member.depth + 1,
             members,
-        ),
+        );
     }
 }
 
@@ -282,20 +309,22 @@ fn add_children<'a>(
     left: usize,
     depth: usize,
     members: &mut Vec<NewMember<'a>>,
-) -> Result<(), MembersError<'a>>
+)
     requires depth { depth + left ≤ 9 }
-    requires few { length members.old.items ≤ 4096 }
-    ensures { Adds members.old.items
-        (children_members left (tables_of (modules_in loaded.now)) depth
-        (map child_of children.now)) result members.new.items }
+    requires room { length members.old.items
+        + length (children_members left (tables_of (modules_in loaded.now)) depth
+        (map child_of children.now)) ≤ vec_capacity members.old }
+    ensures added { new_members_of members.new.items ≡ new_members_of members.old.items
+        ++ children_members left (tables_of (modules_in loaded.now)) depth
+        (map child_of children.now) }
+    ensures room { vec_capacity members.new ≡ vec_capacity members.old }
 {
     let Some(below) = left.checked_sub(1) else {
-        return Ok(());
+        return;
     };
     for child in children {
-        add_child(loaded, child, below, depth, members)?;
+        add_child(loaded, child, below, depth, members);
     }
-    Ok(())
 }
 
 #[cycle(gathers)]
@@ -305,15 +334,17 @@ fn add_child<'a>(
     left: usize,
     depth: usize,
     members: &mut Vec<NewMember<'a>>,
-) -> Result<(), MembersError<'a>>
+)
     requires depth { depth + left ≤ 8 }
-    requires few { length members.old.items ≤ 4096 }
-    ensures { Adds members.old.items
-        (members_from left (tables_of (modules_in loaded.now)) depth (child_of child.now))
-        result members.new.items }
+    requires room { length members.old.items
+        + length (members_from left (tables_of (modules_in loaded.now)) depth
+        (child_of child.now)) ≤ vec_capacity members.old }
+    ensures added { new_members_of members.new.items ≡ new_members_of members.old.items
+        ++ members_from left (tables_of (modules_in loaded.now)) depth (child_of child.now) }
+    ensures room { vec_capacity members.new ≡ vec_capacity members.old }
 {
     let Some(table) = child_table(loaded, child) else {
-        return Ok(());
+        return;
     };
     let member = NewMember {
         depth,
@@ -323,7 +354,7 @@ fn add_child<'a>(
         kind: child.kind,
         table,
     };
-    add_member(loaded, member, left, members)
+    add_member(loaded, member, left, members);
 }
 
 // The table of a child's module, if it is of the child's kind.
@@ -347,45 +378,23 @@ fn table_of_kind<'a>(loaded: &'a Loaded, module: &str, kind: ChildKind) -> Optio
     }
 }
 
-// Whether nothing was wrong below this supervisor through no more in each other.
-fn was_sound<'a>(sound: &Noted<'a>, name: &'a str, depth: usize) -> bool
-    ensures { result ≡ option_map_or (λ n. nat_le n depth) (noted_in sound.now name.now) false }
+// How many members stand below this supervisor, if it is known that nothing is wrong there through so many in each other.
+fn known_through<'a>(noted: &Noted<'a>, name: &'a str, left: usize) -> Option<usize>
+    ensures { result ≡ option_and_then (known_through left) (noted_in noted.now name.now) }
 {
-    match sound.get(&name) {
-        Some(known) => *known <= depth,
-        None => false,
+    let known = noted.get(&name)?;
+    if known.through <= left {
+        Some(known.members)
+    } else {
+        None
     }
 }
 
-// From now on this number is noted of the supervisor.
-fn note<'a>(noted: &mut Noted<'a>, name: &'a str, depth: usize) -> Result<(), AllocError>
+// From now on this is noted of the supervisor.
+fn note<'a>(noted: &mut Noted<'a>, name: &'a str, below: Below) -> Result<(), AllocError>
     ensures { OnOk result ((q : List ℕ) → noted_in noted.new q
-        ≡ cond (bytes_eq name.now q) (Some depth) (noted_in noted.old q)) }
+        ≡ cond (bytes_eq name.now q) (Some below) (noted_in noted.old q)) }
 {
-    noted.insert(name, depth)?;
-    Ok(())
-}
-
-// Adds one member, unless there are as many as there may be.
-fn add_one<'a>(
-    members: &mut Vec<NewMember<'a>>,
-    member: NewMember<'a>,
-) -> Result<(), MembersError<'a>>
-    requires { length members.old.items ≤ 4096 }
-    ensures { Adds members.old.items (new_member_of member.entry ∷ []) result members.new.items }
-{
-    if members.len() == MOST_MEMBERS {
-        return Err(MembersError::Unsupported);
-    }
-    push(members, member)?;
-    Ok(())
-}
-
-fn push<'a>(members: &mut Vec<NewMember<'a>>, member: NewMember<'a>) -> Result<(), AllocError>
-    ensures { OnOk result
-        (new_members_of members.new.items ≡ new_members_of members.old.items
-        ++ new_member_of member.entry ∷ []) }
-{
-    members.push(member)?;
+    noted.insert(name, below)?;
     Ok(())
 }

@@ -3,7 +3,7 @@ use denote.Ref.{NamedLft}
 use denote.Param.Send.{IsSend, sendable}
 use denote.Param.SendFields.{declared_send}
 use Rattle.std.proofs.Crossing.{crosses}
-use Rattle.mod_table.proofs.ThreadLemmas.{worker_send}
+use Rattle.worker_table.proofs.ThreadLemmas.{worker_send}
 use Rattle.proc_table.proofs.ThreadLemmas.{table_sync, pass_send}
 use Rattle.proc_table.proofs.pid.Pid.TheSendSync as pid
 use Rattle.benchmarks.specs.contracts.works.Calls as Calls

@@ -6,7 +6,7 @@ ghost use Rattle.node_upgrade.specs.Failure.{failure_of};
 ghost use Rattle.node_upgrade.specs.Failure.Why.{fails};
 ghost use Rattle.rel_files.specs.Terms.{atoms_term};
 ghost use Rattle.relup_file.specs.Search.{found_of};
-ghost use Rattle.node_upgrade.specs.Fault.Cause.{no_memory};
+ghost use Rattle.script_progress.specs.Fault.Cause.{no_memory};
 ghost use Rattle.node_answer.specs.Lines.{checked_line, installed_text};
 ghost use Rattle.node_answer.specs.Refusals.{refusal_line};
 ghost use Rattle.node_answer.specs.Refusals.NodeRefusal.{must_reboot, script_refused};

@@ -11,10 +11,10 @@ use Rattle.rel_list.specs.Event.{recorded, recorded_status}
 use Rattle.rel_list.specs.Releases.{Entry, Releases, has_one_shot, running, permanent}
 use Rattle.rel_list.proofs.OneShotLaws.{none_recorded}
 use Rattle.rel_records.proofs.EventRecords.{recorded-twice}
-use Rattle.rel_handler.specs.State.{list_in, is_dead, IsSound}
+use Rattle.node_store.specs.State.{list_in, is_dead, IsSound}
 use Rattle.rel_handler.specs.NodeStore.{NodeStore}
 use Rattle.rel_handler.proofs.BootMoments.{image_alike}
-use Rattle.rel_handler.proofs.Commits.{image_now}
+use Rattle.node_store.proofs.Commits.{image_now}
 use Rattle.node_start.specs.Running.{IsRunOut, IsSettledStatus, RunsOnce}
 
 abbrev as_recorded : Entry → Entry

@@ -1,5 +1,5 @@
 -- A release that passed the tests can be started.
-use Rattle.std.proofs.Common.{◌≡◌, ℕ, zero, suc, ◌+◌, ◌≤◌, Bool, true, false, cond, List, [], ◌∷◌, length, map, Option, Some, None, Contains, is_some, nat_le, if◌then◌else◌, refl, ap, sym, subst, ◌∙◌, ◌⊎◌, inl, inr, arith}
+use Rattle.std.proofs.Common.{◌≡◌, ℕ, zero, suc, ◌+◌, ◌≤◌, Bool, true, false, cond, List, [], ◌∷◌, length, map, Option, Some, None, Contains, is_some, if◌then◌else◌, refl, ap, sym, subst, ◌∙◌, ◌⊎◌, inl, inr, arith}
 use Rattle.std.specs.List.{AllByRecursion, filter, list_all, sum_by}
 use Rattle.std.specs.Option.{option_map, option_or, option_and_then, option_map_or}
 use Rattle.std.specs.Str.{bytes_eq}
@@ -21,11 +21,11 @@ use Rattle.rel_check.specs.Fault.Fault.{module_twice, id_twice, no_table, too_ma
 use Rattle.rel_check.specs.Modules.{Part, parts, modules_in}
 use Rattle.mod_table.specs.Tables.{Tables, first_of, of_kind}
 use Rattle.rel_check.specs.Names.{first_module_again, first_id_again}
-use Rattle.rel_check.specs.Walk.{is_started, top_of, missing_from, part_missing, part_processes, part_members, part_is_within, first_missing, processes_in, members_in, are_within, processes_from, members_from, is_within}
+use Rattle.rel_check.specs.Walk.{is_started, top_of, missing_from, part_missing, part_processes, part_is_within, first_missing, processes_in, are_within, processes_from, is_within}
 use Rattle.rel_check.specs.Walk as walk
 use Rattle.rel_check.proofs.Members.{first_member, later_member, member_cases}
-use Rattle.app_members.specs.Walk.{StartFault, app_fault, app_starts, children_fault, crowd_fault, members_at_top, starts_among, super_children, top_fault}
-use Rattle.app_members.proofs.AppLemmas.{no_children, none_wrong}
+use Rattle.app_members.specs.Walk.{StartFault, app_fault, app_starts, children_fault, members_at_top, starts_among, super_children, top_fault}
+use Rattle.app_members.proofs.AppLemmas.{no_children}
 use Rattle.app_members.proofs.WalkLemmas.{or_none}
 use Rattle.started_members.proofs.BeginLemmas.{first_slots}
 use Rattle.node_start.proofs.CheckLemmas.{checked_starts}
@@ -48,7 +48,6 @@ record Passed (ps : List Part) : Type 0 where
   none_missing : first_missing ps ≡ None
   within : are_within ps ≡ true
   few : processes_in ps ≤ 256
-  few_members : members_in ps ≤ 4096
 
 passed : (ps : List Part) → first_fault ps ≡ None → Passed ps
 passed ps none =
@@ -57,17 +56,15 @@ passed ps none =
     let missing = or_none (option_map no_table (first_missing ps)) _ ids.1 in
     let limits = both (list_all few_modules_in ps) _ (kept_so (keeps_limits ps) missing.1) in
     let rows = both (list_all has_few_rows (modules_in ps)) _ limits.1 in
-    let depth = both (are_within ps) _ rows.1 in
-    let numbers = both (nat_le (processes_in ps) 256) (nat_le (members_in ps) 4096) depth.1 in record {
+    let depth = both (are_within ps) _ rows.1 in record {
       apart = nothing_mapped module_twice (first_module_again ps) modules.0;
       none_missing = nothing_mapped no_table (first_missing ps) missing.0;
       within = depth.0;
-      few = leb-true (processes_in ps) 256 numbers.0;
-      few_members = leb-true (members_in ps) 4096 numbers.1;
+      few = leb-true (processes_in ps) 256 depth.1;
     }
 
 abbrev fault_at : Tables → List ℕ → Option Table → Option StartFault
-fault_at tables m t = option_or (top_fault m t) (option_or (children_fault 8 tables (super_children t)) (crowd_fault (members_at_top tables m t)))
+fault_at tables m t = option_or (top_fault m t) (children_fault 8 tables (super_children t))
 
 abbrev top_supervisor : Option Table → Option Table
 top_supervisor t = option_and_then (of_kind kind.Supervisor) t
@@ -78,41 +75,35 @@ counted_from from t = option_map_or from (top_supervisor t) 0
 
 -- an application whose top has this table, where it was tested from there
 table_passed : (tables : Tables) (m : List ℕ) (t : Option Table) → missing_from tables m t ≡ None → option_map_or (is_within 8 tables) (top_supervisor t) true ≡ true
-    → counted_from (members_from 8 tables) t ≤ 4096
     → (fault_at tables m t ≡ None) × (length (starts_among (members_at_top tables m t)) ≡ counted_from (processes_from 8 tables) t)
-table_passed tables m None missing within few = (none_wrong _ [] (no_children tables) (omega arith), refl)
-table_passed tables m (Some (Worker w)) missing within few = absurd cc
-table_passed tables m (Some (Super s)) missing within few =
-    let found = checked_starts 8 tables s 1 missing within in
-    let members = found.2 in
-    (none_wrong _ (members_at_top tables m (Some (Super s))) found.0 (omega (arith, members, few)), found.1)
+table_passed tables m None missing within = (no_children tables, refl)
+table_passed tables m (Some (Worker w)) missing within = absurd cc
+table_passed tables m (Some (Super s)) missing within = checked_starts 8 tables s 1 missing within
 
 top_passed : (tables : Tables) (top : Option (List ℕ)) → option_and_then (λ m. missing_from tables m (tables m)) top ≡ None
-    → option_map_or (is_within 8 tables) (top_supervisor (option_and_then tables top)) true ≡ true → counted_from (members_from 8 tables) (option_and_then tables top) ≤ 4096
+    → option_map_or (is_within 8 tables) (top_supervisor (option_and_then tables top)) true ≡ true
     → (app_fault tables top ≡ None) × (length (app_starts tables top) ≡ counted_from (processes_from 8 tables) (option_and_then tables top))
-top_passed tables None missing within few = (none_wrong _ [] (no_children tables) (omega arith), refl)
-top_passed tables (Some m) missing within few = table_passed tables m (tables m) missing within few
+top_passed tables None missing within = (no_children tables, refl)
+top_passed tables (Some m) missing within = table_passed tables m (tables m) missing within
 
 -- an application that a boot starts
-part_passed : (tables : Tables) (p : Part) → is_started p.app.start ≡ true → part_missing tables p ≡ None → part_is_within tables p ≡ true → part_members tables p ≤ 4096
+part_passed : (tables : Tables) (p : Part) → is_started p.app.start ≡ true → part_missing tables p ≡ None → part_is_within tables p ≡ true
     → HasNoFault tables p × (length (part_starts tables p) ≡ part_processes tables p)
-part_passed tables p starts missing within few =
+part_passed tables p starts missing within =
     let top : top_of p ≡ p.library.app.top = ap (λ b. if b then p.library.app.top else None) starts in
     let found = top_passed tables p.library.app.top
     (subst (λ o. option_and_then (λ m. missing_from tables m (tables m)) o ≡ None) top missing)
-    (subst (λ o. option_map_or (is_within 8 tables) (top_supervisor (option_and_then tables o)) true ≡ true) top within)
-    (subst (λ o. counted_from (members_from 8 tables) (option_and_then tables o) ≤ 4096) top few) in
+    (subst (λ o. option_map_or (is_within 8 tables) (top_supervisor (option_and_then tables o)) true ≡ true) top within) in
     (found.0, found.1 ∙ ap (λ o. counted_from (processes_from 8 tables) (option_and_then tables o)) (sym top))
 
 -- all that a boot starts
-parts_passed : (tables : Tables) (ps : List Part) → first_of (part_missing tables) ps ≡ None → list_all (part_is_within tables) ps ≡ true → sum_by (part_members tables) ps ≤ 4096
+parts_passed : (tables : Tables) (ps : List Part) → first_of (part_missing tables) ps ≡ None → list_all (part_is_within tables) ps ≡ true
     → AllByRecursion (HasNoFault tables) (started_parts ps) × (starts_in_all tables (started_parts ps) ≤ sum_by (part_processes tables) ps)
-parts_passed tables [] missing within few = (tt, omega arith)
-parts_passed tables (p ∷ ps) missing within few =
+parts_passed tables [] missing within = (tt, omega arith)
+parts_passed tables (p ∷ ps) missing within =
     let here = or_none (part_missing tables p) (first_of (part_missing tables) ps) missing in
     let deep = both (part_is_within tables p) (list_all (part_is_within tables) ps) within in
-    let members = sum_by-cons (part_members tables) p ps in
-    go (is_started p.app.start) (λ starts. part_passed tables p starts here.0 deep.0 (omega (arith, members, few))) (parts_passed tables ps here.1 deep.1 (omega (arith, members, few)))
+    go (is_started p.app.start) (λ starts. part_passed tables p starts here.0 deep.0) (parts_passed tables ps here.1 deep.1)
     (sum_by-cons (part_processes tables) p ps)
   where
     go : (b : Bool) → (b ≡ true → HasNoFault tables p × (length (part_starts tables p) ≡ part_processes tables p))
@@ -173,7 +164,7 @@ pub are_ready : (as' : List Application) (ls : List Library) → AreLibrariesOf 
 are_ready as' ls are tested distinct =
     let ps = parts as' ls in
     let all = passed ps tested in
-    let found = parts_passed (walk.tables_of ps) ps all.none_missing all.within all.few_members in
+    let found = parts_passed (walk.tables_of ps) ps all.none_missing all.within in
     let same = sym (same_tables as' ls are all.apart) in
     let tested_so = subst (λ t. AllByRecursion (HasNoFault t) (started_parts ps) × (starts_in_all t (started_parts ps) ≤ processes_in ps)) same (found.0, found.1) in
     let few = all.few in

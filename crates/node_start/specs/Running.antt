@@ -5,8 +5,8 @@ use Rattle.rel_list.specs.declared.status.Status.{Status}
 use Rattle.rel_list.specs.declared.status.Status.TheVariants.{Unpacked, Permanent}
 use Rattle.rel_list.specs.Event.{recorded}
 use Rattle.rel_list.specs.Releases.{Entry, Releases, has_one_shot, running}
-use Rattle.rel_handler.specs.Image.{IsImageOf}
-use Rattle.rel_handler.specs.State.{disk_in, list_in}
+use Rattle.node_store.specs.Image.{IsImageOf}
+use Rattle.node_store.specs.State.{disk_in, list_in}
 use Rattle.rel_handler.specs.NodeStore.{NodeStore}
 use Rattle.proc_table.specs.declared.view.View.{View}
 use Rattle.loaded_modules.specs.Loaded.{listed_in}

@@ -6,9 +6,11 @@ use Rattle.rel_check.specs.Modules.{Part}
 use Rattle.mod_table.specs.Tables.{Tables}
 use Rattle.proc_table.specs.declared.view.View.{View}
 use Rattle.proc_table.specs.Free.{free_count}
-use Rattle.sup_tree.specs.Starts.{AppStarted}
+use Rattle.started_members.specs.Preparations.{to_begin}
+use Rattle.sup_tree.specs.declared.begins.NewApp.{NewApp}
+use Rattle.sup_tree.specs.Starts.{AppBegan, AppStarted, IsReady}
 use Rattle.sup_tree.specs.Tree.{App, app_named}
-use Rattle.app_members.specs.Walk.{app_fault}
+use Rattle.app_members.specs.Walk.{app_fault, app_members}
 use Rattle.held_processes.specs.Following.{HoldsNothing}
 use Rattle.node_processes.specs.Fresh.{part_starts}
 
@@ -32,6 +34,22 @@ pub record AreReady (tables : Tables) (ps : List Part) (apps : List App) (v : Vi
   pub distinct : AreDistinct (map part_name ps)
   pub sound : AllByRecursion (HasNoFault tables) ps
   pub room : starts_in_all tables ps ≤ free_count v
+
+-- All memory is there that each of these applications needs to start.
+abbrev pub HaveMemory : Tables → List Part → List NewApp → Type 0
+HaveMemory tables [] [] = Unit {0}
+HaveMemory tables (p ∷ ps) (n ∷ ns) = IsReady (part_name p) (app_members tables p.library.app.top) n × HaveMemory tables ps ns
+HaveMemory tables ps ns = ⊥
+
+-- how many processes are to begin
+abbrev pub number_to_begin : List NewApp → ℕ
+number_to_begin ns = sum_by (λ (n : NewApp). length (to_begin n.prepared.items)) ns
+
+-- They began, one application after another.
+abbrev pub AppsBegan : List NewApp → View → List App → View → Type 0
+AppsBegan [] v [] w = w ≡ v
+AppsBegan (n ∷ ns) v (a ∷ as') w = (u : View) × AppBegan n v a u × AppsBegan ns u as' w
+AppsBegan ns v as' w = ⊥
 
 -- The applications were started one after another.
 abbrev pub StartedAll : Tables → List Part → List App → View → List App → View → Type 0

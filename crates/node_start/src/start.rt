@@ -1,6 +1,6 @@
 //! What a boot starts.
-ghost use Rattle.std.specs.Prelude.{◌≡◌, ◌≤◌, false, None, IfOk, OnOk, length, map};
-ghost use Rattle.std.specs.List.{find};
+ghost use Rattle.std.specs.Prelude.{◌≡◌, ◌≤◌, [], false, None, IfErr, IfOk, OnOk, length, map, vec_capacity};
+ghost use Rattle.std.specs.List.{AllByRecursion, find};
 ghost use Rattle.std.specs.Option.{option_copied, option_or};
 ghost use Rattle.rel_files.specs.AppInMemory.{specification_of};
 ghost use Rattle.library.specs.InMemory.{shared_of};
@@ -8,7 +8,7 @@ ghost use Rattle.library.specs.Library.{AreLibrariesOf};
 ghost use Rattle.node_processes.specs.Fresh.{fresh_processes, fresh_release, started_parts};
 ghost use Rattle.node_start.specs.Begun.{HaveJustBegun, fresh_beginnings, release_beginnings};
 ghost use Rattle.node_start.specs.Running.{RunsOnce, started_in};
-ghost use Rattle.node_start.specs.Starting.{AreReady, IsAlone, StartedAll};
+ghost use Rattle.node_start.specs.Starting.{AppsBegan, HasNoFault, HaveMemory, IsAlone, number_to_begin};
 ghost use Rattle.proc_table.specs.Agrees.{slots};
 ghost use Rattle.proc_table.specs.Free.{free_count};
 ghost use Rattle.proc_table.specs.Views.{handler_view};
@@ -17,12 +17,12 @@ ghost use Rattle.rel_files.specs.Release.{Application, application_of};
 ghost use Rattle.rel_check.specs.Fault.{release_fault};
 ghost use Rattle.rel_check.specs.Modules.{parts};
 ghost use Rattle.rel_check.specs.Walk.{is_started};
-ghost use Rattle.rel_handler.specs.State.{list_in, is_dead, IsSound};
+ghost use Rattle.node_store.specs.State.{list_in, is_dead, IsSound};
 ghost use Rattle.rel_list.specs.Status.{is_current, is_permanent};
 ghost use Rattle.loaded_modules.specs.Loaded.{modules_in, tables_of};
-ghost use Rattle.sup_tree.specs.Starts.{AppStarted};
-ghost use Rattle.sup_tree.specs.Tree.{app_named};
-ghost use Rattle.app_members.specs.Walk.{app_fault, app_starts};
+ghost use Rattle.sup_tree.specs.Starts.{HasRoom, IsReady};
+ghost use Rattle.sup_tree.specs.Tree.{app_of};
+ghost use Rattle.app_members.specs.Walk.{app_fault, app_members};
 
 use library::Library;
 use loaded_modules::Loaded;
@@ -35,7 +35,7 @@ use std::alloc::{AllocError, Global};
 use std::marker::Brand;
 use std::rc::Rc;
 use std::sync::Wait;
-use sup_tree::{StartError, Tree};
+use sup_tree::{MembersError, NewApp, StartedApp, Tree, prepare_app};
 use table_access::{Lent, Seating, TableAccess};
 
 /// What was started: the applications, and the modules that are loaded.
@@ -48,8 +48,8 @@ pub struct Started {
 }
 
 /// Starts the release that runs after a boot, in a new table of processes (OTP: init(3), a boot script): its applications in
-/// order, each with its processes, and the modules of all its libraries are loaded. It is refused for memory alone; then some
-/// of its processes may have begun, and the table is of no use.
+/// order, each with its processes, and the modules of all its libraries are loaded. It is refused for memory alone: all memory of
+/// all applications is taken before the first process begins.
 pub fn start_running<D: Disk, R: Wait>(
     rt: &R,
     alloc: Global,
@@ -75,6 +75,9 @@ pub fn start_running<D: Disk, R: Wait>(
 
     // Each of its processes has begun in the table once, and nothing else has happened there.
     ensures begun { OnOk result (HaveJustBegun (fresh_beginnings (list_in handler.now)) seat.new.view) }
+
+    // Where memory is refused, no process has begun, and nothing was added to any history.
+    ensures refused { IfErr result (λ _. seat.new.view ≡ seat.old.view) }
 {
     let Ok(list) = handler.which_releases() else {
         unreachable!();
@@ -116,104 +119,116 @@ fn start_release<R: Wait>(
     ensures begun { OnOk result (HaveJustBegun
         (release_beginnings (map application_of apps.now) (map shared_of libraries.now))
         seat.new.view) }
+    ensures refused { IfErr result (λ _. seat.new.view ≡ seat.old.view) }
 {
-    let mut started = Started {
-        tree: Tree::new(alloc),
-        loaded: Loaded::of(alloc, libraries)?,
-    };
-    let mut done = Err(AllocError);
-    let lent = Lent { table, seat };
-    let _ = start_apps_at::<R, Brand>(rt, alloc, lent, &mut started, apps, libraries, &mut done);
-    done?;
-    Ok(started)
+    let loaded = Loaded::of(alloc, libraries)?;
+    let prepared = prepare_apps(alloc, &loaded, apps, libraries)?;
+    let mut started = Vec::with_capacity(alloc, prepared.len())?;
+    begin_apps(rt, table, seat, prepared, &mut started);
+    Ok(Started {
+        tree: Tree::of(started),
+        loaded,
+    })
 }
 
-// Starts those of the applications that a boot starts, at the table that is lent.
-fn start_apps_at<'t, R: Wait, S: Seating>(
-    rt: &R,
+// All memory that those of the applications need which a boot starts, in order.
+fn prepare_apps(
     alloc: Global,
-    lent: Lent<'t>,
-    started: &mut Started,
+    loaded: &Loaded,
     apps: &[RelApp],
     libraries: &[Rc<Library>],
-    done: &mut Result<(), AllocError>,
+) -> Result<Vec<NewApp>, AllocError>
+    requires { AllByRecursion (HasNoFault (tables_of (modules_in loaded.now)))
+        (started_parts (parts (map application_of apps.now) (map shared_of libraries.now))) }
+    ensures { IfOk result (λ ready. HaveMemory (tables_of (modules_in loaded.now))
+        (started_parts (parts (map application_of apps.now) (map shared_of libraries.now)))
+        ready.items) }
+{
+    let mut prepared = Vec::new(alloc);
+    for place in 0..apps.len().min(libraries.len()) {
+        let library = libraries[place].as_ref();
+        if starts(apps[place].start) {
+            let ready = prepare(alloc, loaded, &library.app)?;
+            prepared.push(ready)?;
+        }
+    }
+    Ok(prepared)
+}
+
+// All memory that an application needs that can start.
+fn prepare(alloc: Global, loaded: &Loaded, app: &App) -> Result<NewApp, AllocError>
+    requires { app_fault (tables_of (modules_in loaded.now))
+        (specification_of app.now).top ≡ None }
+    ensures { IfOk result (IsReady (specification_of app.now).name
+        (app_members (tables_of (modules_in loaded.now)) (specification_of app.now).top)) }
+{
+    match prepare_app(alloc, loaded, app) {
+        Ok(new) => Ok(new),
+        Err(MembersError::NoMemory) => Err(AllocError),
+        Err(_) => unreachable!(),
+    }
+}
+
+// The applications start by this seat at its table, one after another. There are slots for all their processes, and so much room.
+fn begin_apps<R: Wait>(
+    rt: &R,
+    table: &ProcTable,
+    seat: &mut HandlerSeat,
+    prepared: Vec<NewApp>,
+    started: &mut Vec<StartedApp>,
+)
+    requires table { seat.old.table ≡ table.now }
+    requires slots { number_to_begin prepared.items ≤ free_count seat.old.view }
+    requires ready { AllByRecursion HasRoom prepared.items }
+    requires none { started.old.items ≡ [] }
+    requires room { length prepared.items ≤ vec_capacity started.old }
+    ensures table { seat.new.table ≡ seat.old.table }
+    ensures began { AppsBegan prepared.items seat.old.view
+        (map app_of started.new.items) seat.new.view }
+{
+    let lent = Lent { table, seat };
+    let _ = begin_apps_at::<R, Brand>(rt, lent, prepared, started);
+}
+
+// The applications start by an access to the table that is lent, and the seat is given back.
+fn begin_apps_at<'t, R: Wait, S: Seating>(
+    rt: &R,
+    lent: Lent<'t>,
+    prepared: Vec<NewApp>,
+    started: &mut Vec<StartedApp>,
 ) -> &'t mut HandlerSeat
     requires name { lent.seat.ghost_name ≡ S.name }
     requires table { (lent.seat.now.table ≡ S.table) × (lent.table.now ≡ S.table) }
-    requires alone { IsAlone lent.seat.now.view }
-    requires ready { AreReady (tables_of (modules_in started.old.loaded))
-        (started_parts (parts (map application_of apps.now) (map shared_of libraries.now)))
-        started.old.tree lent.seat.now.view }
+    requires slots { number_to_begin prepared.items ≤ free_count lent.seat.now.view }
+    requires ready { AllByRecursion HasRoom prepared.items }
+    requires none { started.old.items ≡ [] }
+    requires room { length prepared.items ≤ vec_capacity started.old }
     ensures name { result.ghost_name ≡ S.name }
     ensures table { result.now.table ≡ S.table }
-    ensures alone { IsAlone result.now.view }
-    ensures loaded { started.new.loaded ≡ started.old.loaded }
-    ensures started { OnOk done.new (StartedAll (tables_of (modules_in started.old.loaded))
-        (started_parts (parts (map application_of apps.now) (map shared_of libraries.now)))
-        started.old.tree lent.entry.seat.now.view started.new.tree result.now.view) }
+    ensures began { AppsBegan prepared.items lent.entry.seat.now.view
+        (map app_of started.new.items) result.now.view }
 {
     let mut access: TableAccess<'t, S> = TableAccess::new(lent);
-    *done = started.start_apps(rt, alloc, &mut access, apps, libraries);
+    begin_each(rt, &mut access, prepared, started);
     access.into_seat()
 }
 
-impl Started {
-    // Starts those of the applications that a boot starts, in order.
-    fn start_apps<R: Wait, S: Seating>(
-        &mut self,
-        rt: &R,
-        alloc: Global,
-        access: &mut TableAccess<'_, S>,
-        apps: &[RelApp],
-        libraries: &[Rc<Library>],
-    ) -> Result<(), AllocError>
-        requires alone { IsAlone access.old }
-        requires ready { AreReady (tables_of (modules_in self.old.loaded))
-            (started_parts (parts (map application_of apps.now) (map shared_of libraries.now)))
-            self.old.tree access.old }
-        ensures alone { IsAlone access.new }
-        ensures loaded { self.new.loaded ≡ self.old.loaded }
-        ensures started { OnOk result (StartedAll (tables_of (modules_in self.old.loaded))
-            (started_parts (parts (map application_of apps.now) (map shared_of libraries.now)))
-            self.old.tree access.old self.new.tree access.new) }
-    {
-        for place in 0..apps.len().min(libraries.len()) {
-            let library = libraries[place].as_ref();
-            if starts(apps[place].start) {
-                self.start_app(rt, alloc, access, &library.app)?;
-            }
-        }
-        Ok(())
-    }
-
-    // Starts an application that can start.
-    fn start_app<R: Wait, S: Seating>(
-        &mut self,
-        rt: &R,
-        alloc: Global,
-        access: &mut TableAccess<'_, S>,
-        app: &App,
-    ) -> Result<(), AllocError>
-        requires alone { IsAlone access.old }
-        requires new { app_named (specification_of app.now).name self.old.tree ≡ None }
-        requires fault { app_fault (tables_of (modules_in self.old.loaded))
-            (specification_of app.now).top ≡ None }
-        requires room { length (app_starts (tables_of (modules_in self.old.loaded))
-            (specification_of app.now).top) ≤ free_count access.old }
-        ensures alone { IsAlone access.new }
-        ensures loaded { self.new.loaded ≡ self.old.loaded }
-        ensures started { OnOk result (AppStarted (specification_of app.now).name
-            (specification_of app.now).top (tables_of (modules_in self.old.loaded))
-            self.old.tree access.old self.new.tree access.new) }
-    {
-        match self
-            .tree
-            .start_app(rt, alloc, access, app, &self.loaded)
-        {
-            Ok(()) => Ok(()),
-            Err(StartError::NoMemory) => Err(AllocError),
-            Err(_) => unreachable!(),
-        }
+// The applications start, one after another.
+fn begin_each<R: Wait, S: Seating>(
+    rt: &R,
+    access: &mut TableAccess<'_, S>,
+    prepared: Vec<NewApp>,
+    started: &mut Vec<StartedApp>,
+)
+    requires slots { number_to_begin prepared.items ≤ free_count access.old }
+    requires ready { AllByRecursion HasRoom prepared.items }
+    requires none { started.old.items ≡ [] }
+    requires room { length prepared.items ≤ vec_capacity started.old }
+    ensures began { AppsBegan prepared.items access.old
+        (map app_of started.new.items) access.new }
+{
+    for app in prepared {
+        started.push_reserved(app.begin(rt, access));
     }
 }
 

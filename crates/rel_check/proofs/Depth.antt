@@ -7,7 +7,7 @@ use Rattle.mod_table.specs.declared.table.Table.{Table}
 use Rattle.mod_table.specs.declared.table.Table.TheVariants.{Worker, Super}
 use Rattle.mod_table.specs.Table.{ChildSpec, SuperTable}
 use Rattle.mod_table.specs.Tables.{Tables, first_of, child_table}
-use Rattle.rel_check.specs.Walk.{missing_at, missing_below, processes_from, members_from, is_within}
+use Rattle.rel_check.specs.Walk.{missing_at, missing_below, processes_from, is_within}
 use Rattle.rel_check.specs.Laws.{IsBelow, DeeperFindsTheSame, WithinItselfIsTooDeep}
 use Rattle.rel_check.specs.Laws.IsBelow.{child, further}
 use Rattle.rel_check.proofs.Members.{passes}
@@ -70,16 +70,6 @@ processes_same tables (suc n) (Super s) fits =
     (λ (c : ChildSpec). option_map_or (is_within n tables) (child_table tables c) true)
     (λ c here. number_child tables n (processes_from (suc n) tables) (processes_from n tables) (processes_same tables n) (child_table tables c) here) s.children (both (nat_le (length s.children) 64) _ fits).1
 
-members_same : (tables : Tables) (n : ℕ) (t : Table) → is_within n tables t ≡ true → members_from (suc n) tables t ≡ members_from n tables t
-unfolding members_from is_within
-members_same tables zero (Worker w) fits = refl
-members_same tables zero (Super s) fits = absurd cc
-members_same tables (suc n) (Worker w) fits = refl
-members_same tables (suc n) (Super s) fits =
-    ap suc (same_sum (λ (c : ChildSpec). option_map_or (members_from (suc n) tables) (child_table tables c) 0) (λ (c : ChildSpec). option_map_or (members_from n tables) (child_table tables c) 0)
-    (λ (c : ChildSpec). option_map_or (is_within n tables) (child_table tables c) true)
-    (λ c here. number_child tables n (members_from (suc n) tables) (members_from n tables) (members_same tables n) (child_table tables c) here) s.children (both (nat_le (length s.children) 64) _ fits).1)
-
 within_child : (tables : Tables) (n : ℕ) → ((t : Table) → is_within n tables t ≡ true → is_within (suc n) tables t ≡ true)
     → (o : Option Table) → option_map_or (is_within n tables) o true ≡ true → option_map_or (is_within (suc n) tables) o true ≡ true
 within_child tables n too None fits = refl
@@ -102,17 +92,16 @@ IsSame : Tables → ℕ → Table → ℕ → Type 0
 IsSame tables n t m =
     (missing_below m tables t ≡ missing_below n tables t)
     × (processes_from m tables t ≡ processes_from n tables t)
-    × (members_from m tables t ≡ members_from n tables t)
     × (is_within m tables t ≡ true)
 
 deeper : (tables : Tables) (n : ℕ) (t : Table) (m : ℕ) → IsSame tables n t m → IsSame tables n t (suc m)
 unfolding IsSame
-deeper tables n t m (missing, processes, members, within) =
-    (missing_same tables m t within ∙ missing, processes_same tables m t within ∙ processes, members_same tables m t within ∙ members, within_too tables m t within)
+deeper tables n t m (missing, processes, within) =
+    (missing_same tables m t within ∙ missing, processes_same tables m t within ∙ processes, within_too tables m t within)
 
 same_at : (tables : Tables) (n k : ℕ) (t : Table) → is_within n tables t ≡ true → IsSame tables n t (n + k)
 unfolding IsSame
-same_at tables n zero t fits = subst (IsSame tables n t) (sym (add-zero n)) (refl, refl, refl, fits)
+same_at tables n zero t fits = subst (IsSame tables n t) (sym (add-zero n)) (refl, refl, fits)
 same_at tables n (suc k) t fits = subst (IsSame tables n t) (let e : suc (n + k) ≡ n + suc k = omega arith in e) (deeper tables n t (n + k) (same_at tables n k t fits))
 
 pub deeper_same : DeeperFindsTheSame

@@ -9,7 +9,7 @@ use Rattle.mod_table.specs.declared.table.Table.TheVariants.{Worker, Super}
 use Rattle.rel_check.specs.Modules.{Part, Module, table_of, modules_in}
 use Rattle.mod_table.specs.Tables.{Tables, first_of, of_kind}
 use Rattle.rel_check.specs.Names.{Named, first_again, module_names, first_id_again}
-use Rattle.rel_check.specs.Walk.{missing_from, processes_from, members_from, is_within, top_of, part_missing, part_processes, part_members, part_is_within, first_missing, processes_in, members_in, are_within}
+use Rattle.rel_check.specs.Walk.{missing_from, processes_from, is_within, top_of, part_missing, part_processes, part_is_within, first_missing, processes_in, are_within}
 use Rattle.rel_check.specs.Fault.{first_fault, keeps_limits, few_modules_in, has_few_rows}
 use Rattle.rel_check.specs.Fault.Fault.{module_twice, id_twice, no_table, too_many}
 use Rattle.rel_check.specs.Summary.{Summary, summary, counted, known_at, top_summary, top_summary_at, nothing_started, no_table_of, release_summary, limits_kept}
@@ -66,13 +66,6 @@ processes_are tables ps =
     (λ p. top_number (λ s. s.processes) (processes_from 8 tables) tables (λ t. refl, refl, λ m. refl) (top_of p)) nothing_started 0 ps refl
     ∙ ap counted (zero-add (sum_by (part_processes tables) ps))
 
-members_are : (tables : Tables) (ps : List Part) → (release_summary (known_at 8 tables) ps).members ≡ counted (sum_by (part_members tables) ps)
-unfolding IsNumber
-members_are tables ps =
-    joined_number (λ s. s.members) (λ s t. refl) (λ (p : Part). top_summary (known_at 8 tables) (top_of p)) (part_members tables)
-    (λ p. top_number (λ s. s.members) (members_from 8 tables) tables (λ t. refl, refl, λ m. refl) (top_of p)) nothing_started 0 ps refl
-    ∙ ap counted (zero-add (sum_by (part_members tables) ps))
-
 within_is : (tables : Tables) (ps : List Part) → (release_summary (known_at 8 tables) ps).within ≡ list_all (part_is_within tables) ps
 within_is tables ps = joined_within (λ (p : Part). top_summary (known_at 8 tables) (top_of p)) (part_is_within tables) (λ p. top_within tables (top_of p)) nothing_started ps
 
@@ -88,10 +81,7 @@ limits_are ps ms s modules is =
     let processes : nat_le s.processes 256 ≡ nat_le (processes_in ps) 256 =
     ap (λ (t : Summary). nat_le t.processes 256) all
     ∙ (ap (λ n. nat_le n 256) (processes_are (table_of (modules_in ps)) ps) ∙ few_counted 256 (processes_in ps) (omega arith)) in
-    let members : nat_le s.members 4096 ≡ nat_le (members_in ps) 4096 =
-    ap (λ (t : Summary). nat_le t.members 4096) all
-    ∙ (ap (λ n. nat_le n 4096) (members_are (table_of (modules_in ps)) ps) ∙ few_counted 4096 (members_in ps) (omega arith)) in
-    λ j. list_all few_modules_in ps && (list_all has_few_rows (modules j) && (within j && (processes j && members j)))
+    λ j. list_all few_modules_in ps && (list_all has_few_rows (modules j) && (within j && processes j))
 
 -- the first fault, from what each test finds
 pub reported : (all ps : List Part) (ms : List Module) (a b : Option Named) (s : Summary) → ps ≡ all → ms ≡ modules_in ps

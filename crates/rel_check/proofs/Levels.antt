@@ -1,5 +1,5 @@
 -- What is found from each table on, level by level.
-use Rattle.std.proofs.Common.{◌≡◌, ℕ, suc, ◌+◌, Bool, true, false, cond, List, ◌∷◌, map, Option, None, Some, if◌then◌else◌, refl, sym, ap, ◌∙◌, zero-add, arith}
+use Rattle.std.proofs.Common.{◌≡◌, ℕ, suc, Bool, true, false, cond, List, ◌∷◌, map, Option, None, Some, if◌then◌else◌, refl, sym, ap, ◌∙◌, zero-add}
 use Rattle.std.specs.List.{sum_by}
 use Rattle.std.specs.Option.{option_map, option_or, option_and_then, option_map_or}
 use Rattle.std.specs.Str.{bytes_eq}
@@ -11,7 +11,7 @@ use Rattle.mod_table.specs.Table.{ChildSpec}
 use Rattle.rel_check.specs.declared.walk.Walk.{Walk}
 use Rattle.rel_check.specs.Modules.{Module, table_of}
 use Rattle.mod_table.specs.Tables.{Tables, of_kind, child_table}
-use Rattle.rel_check.specs.Walk.{missing_at, missing_below, processes_from, members_from, is_within}
+use Rattle.rel_check.specs.Walk.{missing_at, missing_below, processes_from, is_within}
 use Rattle.rel_check.specs.Summary.{Summary, Known, summary, summary_of, counted, known_at, child_summary, child_summary_at, no_table_of, supervisor_alone, next_summary}
 use Rattle.rel_check.proofs.Joins.{joined_kind, joined_missing, joined_number, joined_within}
 
@@ -44,13 +44,13 @@ child_within n tables kind.Supervisor m (Some (Super s)) = refl
 
 -- the lowest level
 at_lowest : (tables : Tables) (t : Table) → next_summary None t ≡ summary 0 tables t
-unfolding missing_below processes_from members_from is_within
+unfolding missing_below processes_from is_within
 at_lowest tables (Worker w) = refl
 at_lowest tables (Super s) = refl
 
 -- one level above another
 at_next : (n : ℕ) (tables : Tables) (known : Known) → ((q : List ℕ) → known q ≡ known_at n tables q) → (t : Table) → next_summary (Some known) t ≡ summary (suc n) tables t
-unfolding missing_below processes_from members_from is_within
+unfolding missing_below processes_from is_within
 at_next n tables known is (Worker w) = refl
 at_next n tables known is (Super s) =
     let kinds = joined_kind (supervisor_alone s.children) (map (child_summary known) s.children) in
@@ -61,15 +61,10 @@ at_next n tables known is (Super s) =
     (λ c. ap (λ (o : Option Summary). (child_summary_at c.kind c.start o).processes) (is c.start)
     ∙ child_number (λ s. s.processes) (processes_from n tables) n tables (λ t. refl) (λ m. refl) c.kind c.start (tables c.start))
     (supervisor_alone s.children) 0 s.children refl ∙ ap counted (zero-add (sum_by (λ (c : ChildSpec). option_map_or (processes_from n tables) (child_table tables c) 0) s.children)) in
-    let below = sum_by (λ (c : ChildSpec). option_map_or (members_from n tables) (child_table tables c) 0) s.children in
-    let members = joined_number (λ s. s.members) (λ s t. refl) (child_summary known) (λ (c : ChildSpec). option_map_or (members_from n tables) (child_table tables c) 0)
-    (λ c. ap (λ (o : Option Summary). (child_summary_at c.kind c.start o).members) (is c.start)
-    ∙ child_number (λ s. s.members) (members_from n tables) n tables (λ t. refl) (λ m. refl) c.kind c.start (tables c.start))
-    (supervisor_alone s.children) 1 s.children refl ∙ ap counted (let e : 1 + below ≡ suc below = omega arith in e) in
     let within = joined_within (child_summary known) (λ (c : ChildSpec). option_map_or (is_within n tables) (child_table tables c) true)
     (λ c. ap (λ (o : Option Summary). (child_summary_at c.kind c.start o).within) (is c.start) ∙ child_within n tables c.kind c.start (tables c.start))
     (supervisor_alone s.children) s.children in
-    λ j. record { kind = kinds j; missing = missing j; processes = processes j; members = members j; within = within j }
+    λ j. record { kind = kinds j; missing = missing j; processes = processes j; within = within j }
 
 -- the same of each module
 pub lowest_level : (tables : Tables) (q : List ℕ) → option_map (next_summary None) (tables q) ≡ known_at 0 tables q

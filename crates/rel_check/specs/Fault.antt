@@ -12,7 +12,7 @@ use Rattle.rel_check.specs.declared.fault.ReleaseFault.TheVariants.{ModuleTwice,
 use Rattle.rel_check.specs.Modules.{Part, Module, parts, modules_in}
 use Rattle.rel_check.specs.Names.{Named, first_module_again, first_id_again}
 use Rattle.rel_check.specs.InMemory.{named_of}
-use Rattle.rel_check.specs.Walk.{first_missing, processes_in, members_in, are_within}
+use Rattle.rel_check.specs.Walk.{first_missing, processes_in, are_within}
 
 -- what is wrong with a release: a module of two applications, with the second; an id of two children in an application; a
 -- module without the table that is asked of it; a limit that is passed
@@ -46,7 +46,7 @@ has_few_rows m = option_map_or rows_are_few m.table true
 abbrev pub keeps_limits : List Part → Bool
 keeps_limits ps =
     list_all few_modules_in ps
-    && (list_all has_few_rows (modules_in ps) && (are_within ps && (nat_le (processes_in ps) 256 && nat_le (members_in ps) 4096)))
+    && (list_all has_few_rows (modules_in ps) && (are_within ps && nat_le (processes_in ps) 256))
 
 -- the first fault, in this order
 abbrev pub first_fault : List Part → Option Fault

@@ -7,14 +7,13 @@ use Rattle.rel_files.specs.Name.{AreDistinct}
 use Rattle.rel_check.specs.Modules.{Part, Module, modules_in}
 use Rattle.mod_table.specs.Tables.{Tables, child_table}
 use Rattle.rel_check.specs.Names.{Named, first_again, first_module_again}
-use Rattle.rel_check.specs.Walk.{missing_below, processes_from, members_from, is_within, tables_of, first_missing}
+use Rattle.rel_check.specs.Walk.{missing_below, processes_from, is_within, tables_of, first_missing}
 
 -- Where supervisors keep within a number of them in each other, a walk that may go deeper finds the same.
 abbrev pub DeeperFindsTheSame : Type 0
 DeeperFindsTheSame = (tables : Tables) (n k : ℕ) (t : Table) → is_within n tables t ≡ true
     → (missing_below (n + k) tables t ≡ missing_below n tables t)
     × (processes_from (n + k) tables t ≡ processes_from n tables t)
-    × (members_from (n + k) tables t ≡ members_from n tables t)
     × (is_within (n + k) tables t ≡ true)
 
 -- a supervisor is a child of another, or a child of one that is below it

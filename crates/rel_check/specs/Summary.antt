@@ -15,19 +15,18 @@ use Rattle.rel_check.specs.declared.walk.Walk.{Walk}
 use Rattle.rel_check.specs.Modules.{Part, Module}
 use Rattle.mod_table.specs.Tables.{Tables}
 use Rattle.rel_check.specs.Fault.{few_modules_in, has_few_rows}
-use Rattle.rel_check.specs.Walk.{missing_below, processes_from, members_from, is_within, top_of}
+use Rattle.rel_check.specs.Walk.{missing_below, processes_from, is_within, top_of}
 
--- the kind of a table, and of the processes from it on: the first module without a table, their number, that of them and the
--- supervisors together, and whether the limits on supervisors are kept
+-- the kind of a table, and of the processes from it on: the first module without a table, their number, and whether the limits on
+-- supervisors are kept
 pub record Summary : Type 0 where
   pub kind : ChildKind
   pub missing : Option (List ℕ)
   pub processes : ℕ
-  pub members : ℕ
   pub within : Bool
 
 abbrev pub summary_of : Walk → Summary
-summary_of w = record { kind = w.kind; missing = option_map (λ n. n.now) w.missing; processes = w.processes; members = w.members; within = w.within }
+summary_of w = record { kind = w.kind; missing = option_map (λ n. n.now) w.missing; processes = w.processes; within = w.within }
 
 abbrev pub kind_of : Table → ChildKind
 kind_of (Worker w) = kind.Worker
@@ -43,7 +42,6 @@ summary n tables t = record {
   kind = kind_of t;
   missing = missing_below n tables t;
   processes = counted (processes_from n tables t);
-  members = counted (members_from n tables t);
   within = is_within n tables t;
 }
 
@@ -65,7 +63,6 @@ joined s t = record {
   kind = s.kind;
   missing = option_or s.missing t.missing;
   processes = counted (s.processes + t.processes);
-  members = counted (s.members + t.members);
   within = s.within && t.within;
 }
 
@@ -75,15 +72,15 @@ all_joined s (t ∷ ts) = all_joined (joined s t) ts
 
 -- one process
 abbrev pub one_worker : Summary
-one_worker = record { kind = kind.Worker; missing = None; processes = 1; members = 1; within = true }
+one_worker = record { kind = kind.Worker; missing = None; processes = 1; within = true }
 
 -- no process and no supervisor
 abbrev pub nothing_started : Summary
-nothing_started = record { kind = kind.Supervisor; missing = None; processes = 0; members = 0; within = true }
+nothing_started = record { kind = kind.Supervisor; missing = None; processes = 0; within = true }
 
 -- neither, and no table of this module
 abbrev pub no_table_of : List ℕ → Summary
-no_table_of m = record { kind = kind.Supervisor; missing = Some m; processes = 0; members = 0; within = true }
+no_table_of m = record { kind = kind.Supervisor; missing = Some m; processes = 0; within = true }
 
 abbrev pub is_same_kind : ChildKind → ChildKind → Bool
 is_same_kind kind.Worker kind.Worker = true
@@ -104,7 +101,7 @@ child_summary known c = child_summary_at c.kind c.start (known c.start)
 
 -- that of a supervisor, before its children
 abbrev pub supervisor_alone : List ChildSpec → Summary
-supervisor_alone cs = record { kind = kind.Supervisor; missing = None; processes = 0; members = 1; within = nat_le (length cs) 64 }
+supervisor_alone cs = record { kind = kind.Supervisor; missing = None; processes = 0; within = nat_le (length cs) 64 }
 
 -- that of children, joined to this
 abbrev pub children_joined : Known → Summary → List ChildSpec → Summary
@@ -116,7 +113,7 @@ supervisor_summary known cs = children_joined known (supervisor_alone cs) cs
 
 -- that of a supervisor deeper than the walk goes
 abbrev pub too_deep : Summary
-too_deep = record { kind = kind.Supervisor; missing = None; processes = 0; members = 0; within = false }
+too_deep = record { kind = kind.Supervisor; missing = None; processes = 0; within = false }
 
 -- that of a table, from what is known one level below it
 abbrev pub next_summary : Option Known → Table → Summary
@@ -144,4 +141,4 @@ release_summary known ps = parts_joined known nothing_started ps
 -- no limit is passed, where this is what the release starts
 abbrev pub limits_kept : List Part → List Module → Summary → Bool
 limits_kept ps ms s =
-    list_all few_modules_in ps && (list_all has_few_rows ms && (s.within && (nat_le s.processes 256 && nat_le s.members 4096)))
+    list_all few_modules_in ps && (list_all has_few_rows ms && (s.within && nat_le s.processes 256))

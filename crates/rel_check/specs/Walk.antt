@@ -1,8 +1,8 @@
 -- The walk through the processes that a release starts: from the top modules of its applications down through the children
 -- of supervisors. A number says how many supervisors in each other the walk goes through at most.
-use Rattle.std.specs.Prelude.{ℕ, zero, suc, Bool, true, false, ◌&&◌, List, [], ◌∷◌, length, nat_le, Option, None, Some, if◌then◌else◌}
+use Rattle.std.specs.Prelude.{ℕ, zero, suc, Bool, true, false, ◌&&◌, List, length, nat_le, Option, None, Some, if◌then◌else◌}
 use Rattle.std.specs.List.{list_all, sum_by}
-use Rattle.std.specs.Option.{option_or, option_and_then, option_map_or}
+use Rattle.std.specs.Option.{option_and_then, option_map_or}
 use Rattle.rel_files.specs.declared.release.StartType.{StartType}
 use Rattle.rel_files.specs.declared.release.StartType.TheVariants.{Permanent, Transient, Temporary}
 use Rattle.mod_table.specs.declared.child.ChildKind.TheVariants as kind
@@ -28,12 +28,6 @@ unfoldable pub processes_from : ℕ → Tables → Table → ℕ
 processes_from n tables (Worker w) = 1
 processes_from zero tables (Super s) = 0
 processes_from (suc n) tables (Super s) = sum_by (λ (c : ChildSpec). option_map_or (processes_from n tables) (child_table tables c) 0) s.children
-
--- how many processes and supervisors there are from this table on, itself counted
-unfoldable pub members_from : ℕ → Tables → Table → ℕ
-members_from n tables (Worker w) = 1
-members_from zero tables (Super s) = 0
-members_from (suc n) tables (Super s) = suc (sum_by (λ (c : ChildSpec). option_map_or (members_from n tables) (child_table tables c) 0) s.children)
 
 -- no supervisor has more than 64 children, and none is deeper than so many in each other
 unfoldable pub is_within : ℕ → Tables → Table → Bool
@@ -68,9 +62,6 @@ top_table tables p = option_and_then (of_kind kind.Supervisor) (option_and_then 
 abbrev pub part_processes : Tables → Part → ℕ
 part_processes tables p = option_map_or (processes_from 8 tables) (top_table tables p) 0
 
-abbrev pub part_members : Tables → Part → ℕ
-part_members tables p = option_map_or (members_from 8 tables) (top_table tables p) 0
-
 abbrev pub part_is_within : Tables → Part → Bool
 part_is_within tables p = option_map_or (is_within 8 tables) (top_table tables p) true
 
@@ -85,10 +76,6 @@ first_missing ps = first_of (part_missing (tables_of ps)) ps
 -- how many processes the release starts
 abbrev pub processes_in : List Part → ℕ
 processes_in ps = sum_by (part_processes (tables_of ps)) ps
-
--- how many processes and supervisors
-abbrev pub members_in : List Part → ℕ
-members_in ps = sum_by (part_members (tables_of ps)) ps
 
 -- each supervisor that is started has few children, and few are in each other
 abbrev pub are_within : List Part → Bool

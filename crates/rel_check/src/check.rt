@@ -24,9 +24,6 @@ const MOST_ROWS: usize = 4_096;
 // How many processes a release starts at most.
 const MOST_PROCESSES: usize = 256;
 
-// How many processes and supervisors it starts at most.
-const MOST_MEMBERS: usize = 4_096;
-
 /// The first fault of a release of these applications, with their libraries in the same order. An application in whose place
 /// there is no library isn't tested.
 pub fn check_release<'a>(
@@ -67,7 +64,6 @@ fn keeps_limits(parts: &[Part<'_>], modules: &[Module<'_>], walk: Walk<'_>) -> b
         && have_few_rows(modules)
         && walk.within
         && walk.processes <= MOST_PROCESSES
-        && walk.members <= MOST_MEMBERS
 }
 
 fn have_few_modules(parts: &[Part<'_>]) -> bool

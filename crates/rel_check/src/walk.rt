@@ -29,8 +29,6 @@ pub(crate) struct Walk<'a> {
     pub(crate) missing: Option<&'a str>,
     /// How many processes there are; `usize::MAX` for any number that is greater.
     pub(crate) processes: usize,
-    /// How many processes and supervisors there are, counted likewise.
-    pub(crate) members: usize,
     /// Whether no supervisor has too many children or stands too deep.
     pub(crate) within: bool,
 }
@@ -47,7 +45,6 @@ impl<'a> Walk<'a> {
             kind: ChildKind::Worker,
             missing: None,
             processes: 1,
-            members: 1,
             within: true,
         }
     }
@@ -60,7 +57,6 @@ impl<'a> Walk<'a> {
             kind: ChildKind::Supervisor,
             missing: None,
             processes: 0,
-            members: 0,
             within: true,
         }
     }
@@ -73,7 +69,6 @@ impl<'a> Walk<'a> {
             kind: ChildKind::Supervisor,
             missing: Some(name),
             processes: 0,
-            members: 0,
             within: true,
         }
     }
@@ -86,7 +81,6 @@ impl<'a> Walk<'a> {
             kind: ChildKind::Supervisor,
             missing: None,
             processes: 0,
-            members: 1,
             within: children.len() <= MOST_CHILDREN,
         }
     }
@@ -99,7 +93,6 @@ impl<'a> Walk<'a> {
             kind: ChildKind::Supervisor,
             missing: None,
             processes: 0,
-            members: 0,
             within: false,
         }
     }
@@ -112,7 +105,6 @@ impl<'a> Walk<'a> {
             kind: self.kind,
             missing: self.missing.or(below.missing),
             processes: self.processes.saturating_add(below.processes),
-            members: self.members.saturating_add(below.members),
             within: self.within && below.within,
         }
     }

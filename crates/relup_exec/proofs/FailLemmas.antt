@@ -10,7 +10,7 @@ use Rattle.relup_instruction.specs.declared.instruction.Instr.TheVariants.{Apply
 use Rattle.relup_instruction.specs.declared.instruction.Purging.{Purging}
 use Rattle.relup_instruction.specs.Instruction.{CallForm, Instruction, instruction_of}
 use Rattle.relup_instruction.specs.Instruction.Instruction.{apply, remove}
-use Rattle.script_progress.specs.Tree.{App}
+use Rattle.sup_tree.specs.Tree.{App}
 use Rattle.script_progress.specs.declared.cause.Failure.{Failure}
 use Rattle.script_progress.specs.Fault.{Cause, call_fault, error_cause}
 use Rattle.script_progress.specs.InMemory.{cause_of}

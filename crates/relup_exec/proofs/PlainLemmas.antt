@@ -7,7 +7,7 @@ use Rattle.held_processes.specs.Following.{AllFollow, AreLonger, HeldSlots}
 use Rattle.held_processes.specs.Operations.{Values, modules_by_slot, values_seen}
 use Rattle.relup_instruction.specs.Instruction.{Instruction}
 use Rattle.relup_instruction.specs.Instruction.Instruction.{purge, restart_emulator}
-use Rattle.script_progress.specs.Tree.{App}
+use Rattle.sup_tree.specs.Tree.{App}
 use Rattle.relup_exec.specs.declared.release.Plain.{Plain}
 use Rattle.relup_exec.specs.declared.release.Plain.TheVariants.{Resume, Stop, Start}
 use Rattle.script_progress.specs.Fault.{fault}

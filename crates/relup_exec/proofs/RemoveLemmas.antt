@@ -6,7 +6,7 @@ use Rattle.held_processes.specs.Operations.{AreLookedAt, uses_up, modules_by_slo
 use Rattle.relup_instruction.specs.Instruction.{PurgingForm}
 use Rattle.relup_instruction.specs.Instruction.Instruction.{remove}
 use Rattle.loaded_modules.specs.Loaded.{NamedModules, without_module}
-use Rattle.script_progress.specs.Tree.{App, supervises}
+use Rattle.sup_tree.specs.Tree.{App, supervises}
 use Rattle.script_progress.specs.declared.cause.Failure.{Failure}
 use Rattle.script_progress.specs.Fault.{remove_fault}
 use Rattle.script_progress.specs.Fault.Cause.{in_use}

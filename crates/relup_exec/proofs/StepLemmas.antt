@@ -21,7 +21,7 @@ use Rattle.relup_instruction.specs.declared.instruction.Suspension.{Suspension}
 use Rattle.relup_instruction.specs.Instruction.{ChangeForm, ConversionForm, FetchForm, PurgingForm, SuspensionForm, suspension_of}
 use Rattle.relup_instruction.specs.Instruction.Instruction.{load_object_code, suspend, load, code_change}
 use Rattle.loaded_modules.specs.Loaded.{Module, NamedModules, library_modules, module_named, with_loaded}
-use Rattle.script_progress.specs.Tree.{App}
+use Rattle.sup_tree.specs.Tree.{App}
 use Rattle.script_progress.specs.declared.cause.Cause as declared
 use Rattle.script_progress.specs.declared.cause.Cause.TheVariants.{NotFetched}
 use Rattle.script_progress.specs.declared.cause.Failure.{Failure}

@@ -7,7 +7,7 @@ use Rattle.relup_instruction.specs.declared.instruction.Direction.{Direction}
 use Rattle.relup_instruction.specs.Instruction.{ChangeForm, Instruction}
 use Rattle.relup_instruction.specs.Instruction.Instruction.{apply, remove}
 use Rattle.loaded_modules.specs.Loaded.{NamedModules, module_named}
-use Rattle.script_progress.specs.Tree.{App}
+use Rattle.sup_tree.specs.Tree.{App}
 use Rattle.held_processes.specs.Course.{ModulesBySlot}
 use Rattle.held_processes.specs.Course.Operation.{suspend}
 use Rattle.held_processes.specs.Following.{AllFollow, Followed, HeldSlots}

@@ -99,10 +99,7 @@ fn give_table<R: Wait, S: Seating>(
             Ok(())
         };
     };
-    match progress
-        .held
-        .load(rt, alloc, access, &users, worker, early)
-    {
+    match progress.held.load(rt, alloc, access, &users, worker, early) {
         Ok(()) => Ok(()),
         Err(undone) => Err(Failure {
             cause: Cause::NoMemory,

@@ -36,14 +36,7 @@ pub(crate) fn do_plain<R: Wait, S: Seating>(
         (plain_instruction plain (map string_bytes names.now)) (Ok tt)
         (progress_of progress.new) progress.new.tree access.old access.new }
 {
-    do_all(
-        rt,
-        access,
-        &progress.tree,
-        &mut progress.held,
-        plain,
-        names,
-    );
+    do_all(rt, access, &progress.tree, &mut progress.held, plain, names);
 }
 
 // Carries out an operation on the processes of these modules, one module after another.

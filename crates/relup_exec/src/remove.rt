@@ -6,7 +6,7 @@ ghost use Rattle.relup_instruction.specs.Instruction.{purging_of};
 ghost use Rattle.relup_instruction.specs.Instruction.Instruction.{remove};
 ghost use Rattle.script_progress.specs.Script.{Site};
 ghost use Rattle.script_progress.specs.Steps.{CarriesOut, GoesByLooks, HasDone, Past, on_no_child, progress_of};
-ghost use Rattle.script_progress.specs.Tree.{supervises};
+ghost use Rattle.sup_tree.specs.Tree.{supervises};
 
 use held_processes::Users;
 use relup_instruction::Purging;

@@ -32,7 +32,14 @@ pub(crate) fn suspend<R: Wait, S: Seating>(
         (instruction.Instruction.suspend (map suspension_of suspensions.now))
         result (progress_of progress.new) progress.new.tree access.old access.new }
 {
-    hold_all(rt, alloc, access, &progress.tree, &mut progress.held, suspensions)
+    hold_all(
+        rt,
+        alloc,
+        access,
+        &progress.tree,
+        &mut progress.held,
+        suspensions,
+    )
 }
 
 // Holds the processes of these modules, one module after another.

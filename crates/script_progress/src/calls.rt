@@ -58,7 +58,14 @@ pub fn apply<R: Wait, S: Seating>(
         access.old access.new }
 {
     match call.name.as_str() {
-        "application" => on_no_child(call_app(progress, rt, alloc, access, sources, app_call(call))),
+        "application" => on_no_child(call_app(
+            progress,
+            rt,
+            alloc,
+            access,
+            sources,
+            app_call(call),
+        )),
         "supervisor" => call_child(progress, rt, alloc, access, child_call(call)),
         _ => Err(raise(error_term(call))),
     }
@@ -110,14 +117,10 @@ fn start_from<R: Wait, S: Seating>(
     ensures memory { AsksMemory (may_start (Some (library_of library.now)) past.run) result }
 {
     let Library { app, .. } = library;
-    match progress.held.start_app(
-        rt,
-        alloc,
-        access,
-        &mut progress.tree,
-        app,
-        &progress.next,
-    ) {
+    match progress
+        .held
+        .start_app(rt, alloc, access, &mut progress.tree, app, &progress.next)
+    {
         Ok(()) => Ok(()),
         Err(error) => match start_cause(error) {
             Some(cause) => Err(failure_at_start(cause)),
@@ -140,9 +143,7 @@ fn stop_app<R: Wait, S: Seating>(
       run = with_scene past.run (with_stopped app.now.name.now (scene_of past.run));
     }) (progress_of progress.new) progress.new.tree access.new }
 {
-    progress
-        .held
-        .stop_app(rt, access, &mut progress.tree, app);
+    progress.held.stop_app(rt, access, &mut progress.tree, app);
 }
 
 // What a call does to applications.

@@ -5,7 +5,7 @@ use Rattle.std.specs.List.{flat_map}
 use Rattle.std.specs.Fmt.{decimal}
 use Rattle.std.proofs.lemmas.Bool.{and_parts}
 use Rattle.erl_term.proofs.Lines.{append_line, commas_line, decimal_line, term_line, members_line}
-use Rattle.erl_term.specs.FaultTexts.{term_fault_text}
+use Rattle.erl_number.specs.FaultTexts.{term_fault_text}
 use Rattle.erl_term.specs.Lines.{is_one_line}
 use Rattle.erl_term.specs.Printing.{text_of, texts_of, with_commas}
 use Rattle.erl_term.specs.TermFault.{TermFault}

@@ -9,9 +9,9 @@ use crate::{Member, MemberState, StartedProcess};
 use app_members::NewMember;
 use mod_table::Table;
 use proc_table::{Beginning, Name};
-use table_access::{Seating, TableAccess};
 use std::alloc::{AllocError, Global};
 use std::sync::Wait;
+use table_access::{Seating, TableAccess};
 
 /// A process that is to begin: all that it begins with, and what is kept of it.
 #[derive(Drop)]

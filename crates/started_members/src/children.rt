@@ -13,8 +13,8 @@ use crate::looks::{Stay, member_stays};
 use crate::places::{range_of_child, take_out};
 use crate::{Member, MemberState};
 use mod_table::Restart;
-use table_access::{Seating, TableAccess};
 use std::sync::Wait;
+use table_access::{Seating, TableAccess};
 
 /// The child of this id of the first supervisor of this module among these members ends, and those below it: their processes are
 /// given up, the last first. Its specification stays, unless it is temporary. Nothing is done where there is no such child.

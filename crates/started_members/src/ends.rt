@@ -5,8 +5,8 @@ ghost use Rattle.started_members.specs.Ends.{EndedAt, EndedInOrder, MemberEnded,
 
 use crate::Member;
 use proc_table::{Entry, Pid, Value};
-use table_access::{Seating, TableAccess};
 use std::sync::Wait;
+use table_access::{Seating, TableAccess};
 
 /// The processes of these members are given up, the last first, but for those that were given up before. It waits for their slots,
 /// and without end for one that the handler itself holds. It takes no memory.

@@ -5,8 +5,8 @@ ghost use Rattle.started_members.specs.Looks.{LookedAt, StateLookedAt, kept_at, 
 use crate::{Member, MemberState};
 use mod_table::Restart;
 use proc_table::{Now, Pid, Standing, Value};
-use table_access::{Seating, TableAccess};
 use std::sync::Wait;
+use table_access::{Seating, TableAccess};
 
 /// Which children stay as they are.
 #[derive(Clone, Copy)]

@@ -16,13 +16,13 @@ pub enum StartError<'a> {
     /// Unsupported the one that comes first on the way through the children is reported.
     #[error("NoTable")]
     NoTable(&'a str),
-    /// Supervisors stand in each other deeper than 8, or there are more than 4,096 processes and supervisors.
+    /// Supervisors stand in each other deeper than 8.
     #[error("Unsupported")]
     Unsupported,
     /// A process can begin in fewer slots than it needs.
     #[error("NoSlot")]
     NoSlot,
-    /// No memory was left. It may come in place of any other but AlreadyStarted.
+    /// There is no memory for all members. It may come in place of any other but AlreadyStarted.
     #[error("NoMemory")]
     NoMemory,
 }
@@ -64,13 +64,13 @@ pub enum RestartError {
     /// the way through the children is reported.
     #[error("NoTable")]
     NoTable,
-    /// Supervisors stand in each other deeper than 8, or there are more than 4,096 processes and supervisors.
+    /// Supervisors stand in each other deeper than 8.
     #[error("Unsupported")]
     Unsupported,
     /// A process can begin in fewer slots than it needs.
     #[error("NoSlot")]
     NoSlot,
-    /// No memory was left. It may come in place of any other but NoSuper.
+    /// There is no memory for all members. It may come in place of any other but NoSuper.
     #[error("NoMemory")]
     NoMemory,
 }

@@ -4,6 +4,8 @@
 //! what stands for each, and of a process its id, its module and its `Pid` (specs/Tree). [`Tree::start_app`] begins a process for
 //! each worker below the application's top: children in the order of their list, those of a supervisor before its next sibling
 //! (`app_members`), each in the lowest slot in which one can begin (specs/Starts). It starts all of them, or nothing.
+//! [`prepare_app`] takes all memory that an application needs, and [`NewApp::begin`] starts it without any more: so several
+//! applications start together, or none ([`Tree::of`]).
 //! [`Tree::stop_app`] gives them up, the last first, but for those that were given up before (specs/Stops). Both wait for the
 //! slots. [`Tree::find`], [`Tree::processes_using`] and [`Tree::module_in`] look processes up, and [`Tree::supervises`] a
 //! supervisor.
@@ -24,7 +26,8 @@ mod restarts;
 mod stops;
 mod tree;
 
-pub use app_members::Loaded;
+pub use app_members::{Loaded, MembersError};
+pub use begins::{NewApp, prepare_app};
 pub use error::{NoSuchApp, NoSuper, RestartError, StartError};
 pub use started_members::{Kept, Member, MemberState, StartedProcess, Stay};
 pub use tree::{StartedApp, Tree};

@@ -1,5 +1,5 @@
 //! The tree of started applications.
-ghost use Rattle.std.specs.Prelude.{◌≡◌, IfOk, Some, is_some, []};
+ghost use Rattle.std.specs.Prelude.{◌≡◌, IfOk, Some, is_some, [], map};
 ghost use Rattle.std.specs.Option.{option_map};
 ghost use Rattle.sup_tree.specs.Tree.{app_of, app_named, find_process, members_of, NotesUsers, module_in, processes_using, supervises};
 
@@ -41,6 +41,13 @@ impl Tree {
         Tree {
             apps: Vec::new(alloc),
         }
+    }
+
+    /// A tree in which these applications are started.
+    pub fn of(apps: Vec<StartedApp>) -> Tree
+        ensures { result ≡ map app_of apps.items }
+    {
+        Tree { apps }
     }
 
     /// Whether the application is started.

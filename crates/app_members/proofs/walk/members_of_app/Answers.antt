@@ -17,4 +17,4 @@ pub returns-in-None : goal.returns-in-None
 returns-in-None c =
     let tables = tables_of (modules_in c.args.loaded.now) in
     let is = rw c.in-None.is at c.in_ok-top.ensures in
-    (without_top tables (specification_of c.args.app.now).top is.0 is.1 is.2, ap new_members_of c.new.ensures.items ∙ sym is.2)
+    (without_top tables (specification_of c.args.app.now).top is.0 is.1, ap new_members_of c.new.ensures.items ∙ sym is.2)

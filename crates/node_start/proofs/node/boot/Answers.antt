@@ -1,4 +1,4 @@
-use Rattle.std.proofs.Common.{◌≡◌, ◌⊎◌, ◌≤◌, inl, inr, ⊎_elim, Ok, refl, sym, subst}
+use Rattle.std.proofs.Common.{◌⊎◌, ◌≤◌, inl, inr, ⊎_elim, Ok, refl, sym, subst}
 use Rattle.rel_disk.specs.Moments.{LeavesOnly}
 use Rattle.node_store.specs.Image.{IsLeftByBoot}
 use Rattle.node_store.specs.State.{disk_in, list_in}

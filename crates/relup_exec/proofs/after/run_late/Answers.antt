@@ -134,7 +134,7 @@ close-requires g c κs within =
     (λ j. get_or (script_of (here j)) (at j) point_of_no_return) ∙ next_is script c.loop-i.i c.index-script-i.result c.loop-i-test.true c.index-script-i.is in
     let inside = subst₂ (λ (n : ℕ) (is : List Instr). n < length is) (sym at) (sym here) c.loop-i-test.true in
     let courses : courses_within (site_of w.self.sources.now) false (get_or (script_of w.self.script.now) w.self.done point_of_no_return) e.modules e.slot (run_behind (site_of w.self.sources.now) g.start w.self.reported.items (script_of (take w.self.done w.self.script.now)))
-        ≡ courses_within s false i e.modules e.slot (run_behind s g.start bs so_far) =
+    ≡ courses_within s false i e.modules e.slot (run_behind s g.start bs so_far) =
     λ j. courses_within (site_of (sources j)) false (next j) e.modules e.slot (run_behind (site_of (sources j)) g.start (reported j) (script_of (take (at j) (here j)))) in
     (within, (inside, subst (λ (cs : Courses). AllFollow g.start.first cs w.self.progress.held w.access) (sym courses) failed.partly))
 
@@ -162,7 +162,7 @@ returns-in-Err-clause-broken g c =
     let next : get_or (script_of w.self.script.now) w.self.done point_of_no_return ≡ i =
     (λ j. get_or (script_of (here j)) (at j) point_of_no_return) ∙ next_is script c.loop-i.i c.index-script-i.result c.loop-i-test.true c.index-script-i.is in
     let courses : courses_within (site_of w.self.sources.now) false (get_or (script_of w.self.script.now) w.self.done point_of_no_return) e.modules e.slot (run_behind (site_of w.self.sources.now) g.start w.self.reported.items (script_of (take w.self.done w.self.script.now)))
-        ≡ courses_within s false i e.modules e.slot (run_behind s g.start bs so_far) =
+    ≡ courses_within s false i e.modules e.slot (run_behind s g.start bs so_far) =
     λ j. courses_within (site_of (sources j)) false (next j) e.modules e.slot (run_behind (site_of (sources j)) g.start (reported j) (script_of (take (at j) (here j)))) in
     subst₂ (λ (n : ℕ) (k : Cause). IsBrokenFrom s g.start (script_of script) c.args.access.now n k c.close.new.access) (sym (c.close.ensures.instr ∙ ap (λ n. n + 1) at)) (ap cause_of (sym c.close.ensures.cause))
     (record {

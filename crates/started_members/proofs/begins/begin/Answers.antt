@@ -13,6 +13,8 @@ unreachable-requires g c =
     omega (arith, one, none, c.requires.slots)
 
 pub returns : goal.returns
-returns g c = record { began =
-    subst (λ o. IsBegunWith o c.args.preparation.member c.args.access.now (begun_with c.args.preparation.member c.in-Some.field-0 c.in-Ok.pid) c.begin_lowest.new.self) (sym c.in-Some.is)
-    (c.in-Ok.pid, rw c.in-Ok.is at c.begin_lowest.ensures.began, refl) }
+returns g c = record {
+  began =
+      subst (λ o. IsBegunWith o c.args.preparation.member c.args.access.now (begun_with c.args.preparation.member c.in-Some.field-0 c.in-Ok.pid) c.begin_lowest.new.self) (sym c.in-Some.is)
+      (c.in-Ok.pid, rw c.in-Ok.is at c.begin_lowest.ensures.began, refl);
+}

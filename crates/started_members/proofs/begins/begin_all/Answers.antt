@@ -26,5 +26,7 @@ loop-preparation-preserved g c =
 pub returns : goal.returns
 returns g c =
     let ended = rw c.in-None.is at c.next.ensures.steps in
-    record { began = all_began c.args.prepared.items (into_iter_items c.loop-preparation.preparation-iterator) c.args.access.now c.loop-preparation.access c.loop-preparation.members.items
-    (omega (arith, ended.0, c.loop-preparation.preparation-iterator.rest.ok.0)) c.loop-preparation.invariant.4 }
+    record {
+      began = all_began c.args.prepared.items (into_iter_items c.loop-preparation.preparation-iterator) c.args.access.now c.loop-preparation.access c.loop-preparation.members.items
+          (omega (arith, ended.0, c.loop-preparation.preparation-iterator.rest.ok.0)) c.loop-preparation.invariant.4;
+    }

@@ -25,11 +25,13 @@ roll_back-requires g c =
     let asked = c.requires.follow in
     let first = asked.0 in
     let cs = asked.1 in
-    let process = c.in-Some-place.process in record { held = (
-      past_of first cs process.held.slot,
-      may_end first cs dropped c.loop-place.places.items c.pop.new.self.items process c.loop-place.access
-          (c.in-Some.ensures.items ∙ ap (λ (x : Option HeldForm). c.pop.new.self.items ++ x ∷ []) c.in-Some-place.is) (c.loop-place.invariant.0 first cs asked.2),
-    ) }
+    let process = c.in-Some-place.process in record {
+      held = (
+        past_of first cs process.held.slot,
+        may_end first cs dropped c.loop-place.places.items c.pop.new.self.items process c.loop-place.access
+            (c.in-Some.ensures.items ∙ ap (λ (x : Option HeldForm). c.pop.new.self.items ++ x ∷ []) c.in-Some-place.is) (c.loop-place.invariant.0 first cs asked.2),
+      );
+    }
 
 pub loop-place-preserved-in-Some-place : goal.loop-place-preserved-in-Some-place
 loop-place-preserved-in-Some-place g c =
