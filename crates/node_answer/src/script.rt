@@ -1,18 +1,16 @@
 // The lines of scripts (OTP: release_handler:check_install_release/1, install_release/1).
-ghost use Rattle.std.specs.Prelude.{◌≡◌, map, string_bytes, Ok, IfOk, IsErr};
+ghost use Rattle.std.specs.Prelude.{◌≡◌, map, string_bytes, Ok, IfOk};
 ghost use Rattle.erl_term.specs.Value.{value_of};
 ghost use Rattle.erl_term.specs.Value.Value.{atom};
 ghost use Rattle.node_upgrade.specs.Failure.{failure_of};
-ghost use Rattle.node_upgrade.specs.Failure.Why.{fails};
 ghost use Rattle.rel_files.specs.Terms.{atoms_term};
 ghost use Rattle.relup_file.specs.Search.{found_of};
-ghost use Rattle.script_progress.specs.Fault.Cause.{no_memory};
 ghost use Rattle.node_answer.specs.Lines.{checked_line, installed_text};
 ghost use Rattle.node_answer.specs.Refusals.{refusal_line};
 ghost use Rattle.node_answer.specs.Refusals.NodeRefusal.{must_reboot, script_refused};
 
 use erl_term::{Term, print};
-use node_upgrade::{Cause, Installed, ScriptFailure, Why};
+use node_upgrade::{Installed, ScriptFailure};
 use proc_history::Name;
 use rel_files::terms::{atom_term, text_term};
 use relup_file::Found;
@@ -68,15 +66,11 @@ pub fn refused_line(alloc: Global, failure: &ScriptFailure) -> Result<String, Al
     format!(in alloc; "error handler 14 Refused {text}\n")
 }
 
-/// The line of a script that fails after its point of no return. Out of memory is no answer.
+/// The line of a script that fails after its point of no return.
 pub fn broken_line(alloc: Global, failure: &ScriptFailure) -> Result<String, AllocError>
-    ensures reported { IfOk result (λ text. string_bytes text
+    ensures { IfOk result (λ text. string_bytes text
         ≡ refusal_line (must_reboot (failure_of failure.now))) }
-    ensures memory { (failure_of failure.now).why ≡ fails no_memory → IsErr result }
 {
-    if let Why::Fails(Cause::NoMemory) = &failure.why {
-        return Err(AllocError);
-    }
     let text = failure.text(alloc)?;
     format!(in alloc; "error handler 15 MustReboot {text}\n")
 }

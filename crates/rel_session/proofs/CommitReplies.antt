@@ -17,13 +17,15 @@ use Rattle.node_store.specs.Refusals.{CommandRefused}
 use Rattle.node_store.specs.State.{disk_in, list_in, is_dead, extent_in, IsSame}
 use Rattle.node_command.specs.Taking.{commanded}
 use Rattle.rel_session.specs.declared.place.Place.TheVariants as memory
+use Rattle.rel_session.specs.declared.unanswered.Unanswered.{Unanswered}
+use Rattle.rel_session.specs.declared.unanswered.Unanswered.TheVariants as unanswered
 use Rattle.rel_session.specs.Device.{Device, LeavesOnly, HasFailed}
 use Rattle.rel_session.specs.InMemory.{IsAt, Replied, Answers}
 use Rattle.rel_session.specs.Node.{Place, Reply, refused, failed, releases_after, list_or_none}
 use Rattle.rel_session.specs.Node.Place.{raw, closed, running, dead}
 use Rattle.rel_unpack.specs.Refusal.{Refusal as FilesRefusal}
 use Rattle.node_answer.specs.Refusals.{NodeRefusal, refusal_of, refusal_for, refusal_line}
-use Rattle.node_answer.specs.Refusals.NodeRefusal.{full, device}
+use Rattle.node_answer.specs.Refusals.NodeRefusal.{full, device, no_memory}
 use Rattle.rel_session.specs.Run.{IsReached, Holds}
 use Rattle.rel_session.specs.Transition
 use Rattle.rel_session.specs.Transition.Action.{changes_node}
@@ -33,7 +35,7 @@ use Rattle.rel_session.proofs.ExtentLemmas.{reach_at}
 use Rattle.rel_session.proofs.DeviceLemmas.{IsDevice, weakened}
 use Rattle.rel_session.proofs.ListLemmas.{list_after-push}
 use Rattle.rel_session.proofs.Prefixes.{reached_with}
-use Rattle.rel_session.proofs.Replies.{stays, leaves_all, same_at, runs_at, reports, answers_line}
+use Rattle.rel_session.proofs.Replies.{stays, same_at, runs_at, reports, answers_line, refuses_running}
 
 module _ {D : Type 0} (v : Device D) (laws : IsDevice v) (P : Place → Reply → Type 0) (n : BootedNode D) (alive : is_dead n.handler ≡ false) where
   -- An event comes to the node. Done says what is replied where it was committed.
@@ -80,30 +82,30 @@ module _ {D : Type 0} (v : Device D) (laws : IsDevice v) (P : Place → Reply �
         stays v laws (running events extent ps) (refusal_line why) _ (memory.Made n) (memory.Made new) at same.disk (same_at v laws n new (running events extent ps) same kept_on at)
         (right_for events extent ps o _ at.2 is (barred events extent ps at.3), refl)
 
-    by_list : (why : HandlerError) → (is_dead n.handler ≡ false) × (commanded e (list_in n.handler) ≡ Err why) → IsSame n.handler new.handler → Answers v P (Err why) (memory.Made n) (memory.Made new)
-    by_list why (living, barred) same p at = inl (same_reply (refusal_of why) (Err why) barred same (λ events extent ps at. refl) p at)
+    by_list : (why : HandlerError) → (is_dead n.handler ≡ false) × (commanded e (list_in n.handler) ≡ Err why) → IsSame n.handler new.handler → Answers v P (Err (unanswered.Refused why)) (memory.Made n) (memory.Made new)
+    by_list why (living, barred) same p at = same_reply (refusal_of why) (Err why) barred same (λ events extent ps at. refl) p at
 
     -- The event was not committed.
-    pub commits_none : (why : HandlerError) → CommandRefused v.failures e body_size n.handler new.handler why → Answers v P (Err why) (memory.Made n) (memory.Made new)
-    commits_none handler_error.Dead (gone, same) = never (sym alive ∙ gone)
-    commits_none handler_error.NoSuchRelease (barred, same) = by_list handler_error.NoSuchRelease barred same
-    commits_none handler_error.ExistingRelease (barred, same) = by_list handler_error.ExistingRelease barred same
-    commits_none handler_error.AlreadyInstalled (barred, same) = by_list handler_error.AlreadyInstalled barred same
-    commits_none (handler_error.BadStatus s) (barred, same) = by_list (handler_error.BadStatus s) barred same
-    commits_none handler_error.Permanent (barred, same) = by_list handler_error.Permanent barred same
-    commits_none handler_error.Running (barred, same) = by_list handler_error.Running barred same
-    commits_none handler_error.TooMany (barred, same) = by_list handler_error.TooMany barred same
-    commits_none handler_error.NoMatchingRelup (barred, same) = by_list handler_error.NoMatchingRelup barred same
-    commits_none (handler_error.LibDiffers app) (barred, same) = by_list (handler_error.LibDiffers app) barred same
-    commits_none (handler_error.NoTable app) (barred, same) = by_list (handler_error.NoTable app) barred same
-    commits_none (handler_error.BadFile path trouble) (barred, same) = by_list (handler_error.BadFile path trouble) barred same
-    commits_none (handler_error.MissingFile path) (barred, same) = by_list (handler_error.MissingFile path) barred same
-    commits_none (handler_error.VsnMismatch path) (barred, same) = by_list (handler_error.VsnMismatch path) barred same
-    commits_none handler_error.Full ((living, (list, allowed)), over, same) =
-        λ p at. inl (same_reply full (Ok list) allowed same (λ events extent ps at. inr (subst (λ n. HasSpace n body_size → ⊥) at over, refl)) p at)
-    commits_none handler_error.NoMemory (living, same) = λ p at. inr (refl, inr (leaves_all v laws p (memory.Made n) (memory.Made new) same.disk (same_at v laws n new p same kept_on at)))
-    commits_none handler_error.Device ((living, (list, allowed), fits), cause, gone) = λ p at. inl (device_failed list allowed fits cause gone p at)
-    commits_none handler_error.Exists gone = absurd gone
+    pub commits_none : ((events : Events) (extent : Extent) (ps : Processes) → P (running events extent ps) (refused no_memory (running events extent ps))) → (why : HandlerError) → CommandRefused v.failures e body_size n.handler new.handler why → Answers v P (Err (unanswered.Refused why)) (memory.Made n) (memory.Made new)
+    commits_none lacks handler_error.Dead (gone, same) = never (sym alive ∙ gone)
+    commits_none lacks handler_error.NoSuchRelease (barred, same) = by_list handler_error.NoSuchRelease barred same
+    commits_none lacks handler_error.ExistingRelease (barred, same) = by_list handler_error.ExistingRelease barred same
+    commits_none lacks handler_error.AlreadyInstalled (barred, same) = by_list handler_error.AlreadyInstalled barred same
+    commits_none lacks (handler_error.BadStatus s) (barred, same) = by_list (handler_error.BadStatus s) barred same
+    commits_none lacks handler_error.Permanent (barred, same) = by_list handler_error.Permanent barred same
+    commits_none lacks handler_error.Running (barred, same) = by_list handler_error.Running barred same
+    commits_none lacks handler_error.TooMany (barred, same) = by_list handler_error.TooMany barred same
+    commits_none lacks handler_error.NoMatchingRelup (barred, same) = by_list handler_error.NoMatchingRelup barred same
+    commits_none lacks (handler_error.LibDiffers app) (barred, same) = by_list (handler_error.LibDiffers app) barred same
+    commits_none lacks (handler_error.NoTable app) (barred, same) = by_list (handler_error.NoTable app) barred same
+    commits_none lacks (handler_error.BadFile path trouble) (barred, same) = by_list (handler_error.BadFile path trouble) barred same
+    commits_none lacks (handler_error.MissingFile path) (barred, same) = by_list (handler_error.MissingFile path) barred same
+    commits_none lacks (handler_error.VsnMismatch path) (barred, same) = by_list (handler_error.VsnMismatch path) barred same
+    commits_none lacks handler_error.Full ((living, (list, allowed)), over, same) =
+        λ p at. same_reply full (Ok list) allowed same (λ events extent ps at. inr (subst (λ n. HasSpace n body_size → ⊥) at over, refl)) p at
+    commits_none lacks handler_error.NoMemory (living, same) = refuses_running v laws P n alive new same kept_on handler_error.NoMemory lacks
+    commits_none lacks handler_error.Device ((living, (list, allowed), fits), cause, gone) = λ p at. device_failed list allowed fits cause gone p at
+    commits_none lacks handler_error.Exists gone = absurd gone
 
   -- A command changes the node.
   module _ (change : Transition.Change) (right : (events : Events) (extent : Extent) (ps : Processes) (a : Reply) → Transition.Acts (running events extent ps) (changes_node change) a → P (running events extent ps) a) where
@@ -156,11 +158,11 @@ module _ {D : Type 0} (v : Device D) (laws : IsDevice v) (P : Place → Reply �
         }
 
     -- it is done, and answered by this line
-    pub changes : is_dead new.handler ≡ false → IsDone v change.event (change.size (list_in n.handler)) n.handler new.handler → (line : Result (String Global) AllocError) (result : Result (String Global) HandlerError)
-        → MatchResult line (λ text. result ≡ Ok text) (λ _. result ≡ Err handler_error.NoMemory) → IfOk line (λ text. string_bytes text ≡ Transition.done_line (change.details (list_in n.handler))) → Answers v P result (memory.Made n) (memory.Made new)
+    pub changes : is_dead new.handler ≡ false → IsDone v change.event (change.size (list_in n.handler)) n.handler new.handler → (line : Result (String Global) AllocError) (result : Result (String Global) Unanswered)
+        → MatchResult line (λ text. result ≡ Ok text) (λ _. result ≡ Err unanswered.NoMemory) → IfOk line (λ text. string_bytes text ≡ Transition.done_line (change.details (list_in n.handler))) → Answers v P result (memory.Made n) (memory.Made new)
     changes works is_done line result is reported =
-        answers_line v laws P line result (memory.Made n) (memory.Made new) is (reports v laws P line _ (memory.Made n) (memory.Made new) reported (replies_done works is_done))
+        answers_line v laws P line result (memory.Made n) (memory.Made new) is (reports v laws P [] line _ (memory.Made n) (memory.Made new) reported (replies_done works is_done))
 
     -- it isn't
-    pub changes_none : (e : HandlerError) → CommandRefused v.failures change.event (change.size (list_in n.handler)) n.handler new.handler e → Answers v P (Err e) (memory.Made n) (memory.Made new)
+    pub changes_none : ((events : Events) (extent : Extent) (ps : Processes) → P (running events extent ps) (refused no_memory (running events extent ps))) → (e : HandlerError) → CommandRefused v.failures change.event (change.size (list_in n.handler)) n.handler new.handler e → Answers v P (Err (unanswered.Refused e)) (memory.Made n) (memory.Made new)
     changes_none = commits_none change.event change.size IsChanged right new kept_on commits

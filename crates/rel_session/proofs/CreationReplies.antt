@@ -8,13 +8,13 @@ use Rattle.rel_list.specs.Event.Event.{made, boot as booting}
 use Rattle.node_command.specs.declared.error.HandlerError.{HandlerError}
 use Rattle.node_command.specs.declared.error.HandlerError.TheVariants as handler_error
 use Rattle.node_store.specs.declared.node_store.NodeStore.{NodeStore}
-use Rattle.node_store.specs.Events.{IsStoredAs, Stored}
+use Rattle.node_store.specs.Events.{Events, IsStoredAs, Stored, certain}
 use Rattle.node_command.specs.Files.{bundle_brought, made_size, Brings, IsOfFiles}
 use Rattle.node_command.specs.Place.{own_refusal}
-use Rattle.node_store.specs.Image.{extent_behind, first_extent, HasSpace, holds_a_store, IsImageOf}
+use Rattle.node_store.specs.Image.{Extent, extent_behind, first_extent, HasSpace, holds_a_store, IsImageOf}
 use Rattle.rel_handler.specs.Moments.{WritesNothing}
 use Rattle.rel_handler.specs.Refusals.{MakingRefused}
-use Rattle.node_store.specs.State.{disk_in, list_in, is_dead, HasStarted}
+use Rattle.node_store.specs.State.{disk_in, list_in, is_dead, version_of, HasStarted}
 use Rattle.rel_handler.specs.Unpacking.{IsMade, IsNotBegun, IsNotMade, NodeCreationRefused}
 use Rattle.rel_unpack.specs.Refusal as of_files
 use Rattle.rel_unpack.specs.Unpacking.{Brought}
@@ -24,34 +24,38 @@ use Rattle.rel_session.specs.declared.booted_node.BootedNode.{BootedNode}
 use Rattle.rel_session.specs.declared.place.Place.{Place as PlaceInMemory}
 use Rattle.rel_session.specs.declared.place.Place.TheVariants as memory
 use Rattle.rel_session.specs.Device.{Device, HasFailed}
-use Rattle.rel_session.specs.InMemory.{IsAt, Replied, NothingDone, Answers, AnswersCommand, IsNodeStarted}
+use Rattle.rel_session.specs.InMemory.{IsAt, Replied, Answers, AnswersCommand, IsStartedOrNot}
+use Rattle.rel_session.specs.declared.unanswered.Unanswered.{Unanswered}
+use Rattle.rel_session.specs.declared.unanswered.Unanswered.TheVariants as unanswered
+use Rattle.rel_session.specs.Booting.{boot_line}
+use Rattle.rel_handler.specs.declared.error.BootError.TheVariants as boot_error
+use Rattle.node_answer.specs.Lines.{ok_line}
+use Rattle.node_processes.specs.Fresh.{fresh_processes}
+use Rattle.node_processes.specs.InMemory.{processes_in}
 use Rattle.rel_session.specs.Node.{Place, just_booted, Reply, reply, refused, failed, done}
 use Rattle.rel_session.specs.Node.Place.{raw, closed, running, dead}
 use Rattle.node_answer.specs.Refusals.{NodeRefusal, refusal_of, refusal_for, refusal_line}
-use Rattle.node_answer.specs.Refusals.NodeRefusal.{full, exists, device}
+use Rattle.node_answer.specs.Refusals.NodeRefusal.{full, exists, device, no_memory}
 use Rattle.rel_session.proofs.Contradiction.{never}
+use Rattle.rel_session.specs.Run.{Holds}
 use Rattle.rel_session.specs.Transition
 use Rattle.rel_session.specs.Transition.Action.{makes_node}
-use Rattle.rel_session.proofs.StoppedReplies.{without_its_node}
 use Rattle.rel_session.proofs.DeviceLemmas.{IsDevice}
-use Rattle.rel_session.proofs.ReleaseLemmas.{files_refuse, reported_alike, creation_refused}
-use Rattle.rel_session.proofs.Replies.{HasBooted, held, kept, quiet, moments_of_nothing, stays, booted_at, starts, answers_or_stops, reports_refusal, refuses_anywhere}
+use Rattle.rel_session.proofs.ReleaseLemmas.{creation_refused, lacks_memory, refused_or_lacks, reported_alike}
+use Rattle.rel_session.proofs.Replies.{HasBooted, held, kept, quiet, moments_of_nothing, stays, booted_at, starts, reports, answers_line, refuses_anywhere}
 
 module _ {D : Type 0} (v : Device D) (laws : IsDevice v) (source : Source) (path : List ℕ) where
   abbrev Creates : Place → Reply → Type 0
   Creates = λ p a. Transition.Transition source p (create path) a
 
-  abbrev Stops : Place → Reply → Type 0
-  Stops = λ p a. Transition.IsStopped source p (create path) a
-
   making : (found : Brought) → Brings source path (Ok found) → (p : Place) (a : Reply) → Transition.MakesNode p found a → Creates p a
-  making found read p a is = (makes_node found, (Ok found, read, refl), is)
+  making found read p a is = (makes_node found, inl (Ok found, read, refl), is)
 
   -- There is a node.
   pub creates_again : (n : BootedNode D) (why : HandlerError) → IsOfFiles source path why ⊎ ((why ≡ handler_error.Exists) × ((found : Brought) × Brings source path (Ok found)))
-      → Answers v Creates (Err why) (memory.Made n) (memory.Made n)
-  creates_again n why (inl of) = refuses_anywhere v laws Creates (memory.Made n) why (λ known p. creation_refused source path (refusal_of why) p (files_refuse source path why of known))
-  creates_again n why (inr (is, (found, read))) = subst (λ e. Answers v Creates (Err e) (memory.Made n) (memory.Made n)) (sym is) (λ p at. inl (there p at))
+      → Answers v Creates (Err (unanswered.Refused why)) (memory.Made n) (memory.Made n)
+  creates_again n why (inl of) = refuses_anywhere v laws Creates (memory.Made n) why (λ p. refused_or_lacks source p (create path) path refl why of (creation_refused source path (refusal_of why) p))
+  creates_again n why (inr (is, (found, read))) = subst (λ e. Answers v Creates (Err (unanswered.Refused e)) (memory.Made n) (memory.Made n)) (sym is) there
     where
       there : (p : Place) → IsAt v (memory.Made n) p → Replied v p (λ a. Creates p a × (a.answer ≡ refusal_line exists)) (memory.Made n) (memory.Made n)
       there (raw bytes) at = absurd at
@@ -73,32 +77,59 @@ module _ {D : Type 0} (v : Device D) (laws : IsDevice v) (source : Source) (path
 
     -- The node is made.
     module _ (h : NodeStore D) (is_made : IsMade v source path disk h) (started : HasStarted v.may_leave h) (alive : is_dead h ≡ false) (free : holds_a_store (v.seen disk) ≡ true → ⊥) (counted : v.failures disk ≤ v.failures (disk_in h)) where
-      replies : (p : Place) → IsAt v (memory.Idle disk) p
-          → HasBooted v laws p (λ a. Creates p a × (a.answer ≡ Transition.ok_line (Transition.version_of (running_release (list_in h))))) (memory.Idle disk) h
-      replies (closed s) at = absurd (free (store_there s at))
-      replies (running events extent ps) at = absurd at
-      replies (dead s) at = absurd at
-      replies (raw bytes) at =
-          let found = is_made.brought in
-          let events = made (bundle_brought found) ∷ booting ∷ [] in
-          let extent = extent_behind first_extent (made_size found) in
-          let place = booted_at v laws h events extent alive (ap (λ l. Some l) (sym is_made.list)) is_made.extent is_made.acknowledged started in
-          let a = reply (Transition.ok_line found.found.release.vsn) (done events) (just_booted events extent) in
-          record {
-            given = a;
-            right = (making is_made.brought is_made.read (raw bytes) a (on_raw is_made.brought bytes false a (no_store (holds_a_store bytes) refl) (by_refusal is_made.brought bytes _ a is_made.free (inl (is_made.fits, refl)))), ap (λ l. Transition.ok_line (Transition.version_of (running_release l))) (sym is_made.list));
-            at = place.1;
-            happens = record { moments = (is_made.synced, is_made.begun); holds = place.0; cause = λ e. never e; counted = counted };
-          }
+      abbrev own_events : Events
+      own_events = made (bundle_brought is_made.brought) ∷ booting ∷ []
+
+      abbrev own_extent : Extent
+      own_extent = extent_behind first_extent (made_size is_made.brought)
+
+      abbrev found_version : List ℕ
+      found_version = is_made.brought.found.release.vsn
+
+      -- where the disk stands then, and where a node with its handler does
+      there : Holds v (just_booted own_events own_extent) (disk_in h) × ((n : BootedNode D) → n.handler ≡ h → processes_in n.processes ≡ fresh_processes (list_in h) → IsAt v (memory.Made n) (just_booted own_events own_extent))
+      there = booted_at v laws h own_events own_extent alive (ap (λ l. Some l) (sym is_made.list)) is_made.extent is_made.acknowledged started
+
+      -- the replies on bytes that hold no store
+      made_there : (bytes : List ℕ) → v.seen disk ≡ bytes → (a : Reply) → Transition.IsMadeWith (bundle_brought is_made.brought) own_extent a → Creates (raw bytes) a
+      made_there bytes at a is = making is_made.brought is_made.read (raw bytes) a (on_raw is_made.brought bytes false a (no_store (holds_a_store bytes) refl) (by_refusal is_made.brought bytes _ a is_made.free (inl (is_made.fits, is))))
         where
           no_store : (b : Bool) → holds_a_store bytes ≡ b → holds_a_store bytes ≡ false
           no_store true e = absurd (free (ap holds_a_store at ∙ e))
           no_store false e = e
 
-      pub creates : (line : Result (String Global) AllocError) (result : Result (String Global) HandlerError) (place : PlaceInMemory D) → MatchResult line (λ text. result ≡ Ok text) (λ _. result ≡ Err handler_error.NoMemory)
-          → IsNodeStarted h line place → AnswersCommand v source (create path) result (memory.Idle disk) place
-      creates line result place is reported = answers_or_stops v laws Creates Stops line result (memory.Idle disk) place is
-          (starts v laws Creates Stops (λ p b (does, comes, acts). (does, comes, without_its_node p does b acts)) h (memory.Idle disk) replies line place reported)
+      -- its processes were started
+      replies : (p : Place) → IsAt v (memory.Idle disk) p
+          → HasBooted v laws p (λ a. Creates p a × (a.answer ≡ ok_line (version_of (running_release (list_in h))))) (memory.Idle disk) h
+      replies (closed s) at = absurd (free (store_there s at))
+      replies (running events extent ps) at = absurd at
+      replies (dead s) at = absurd at
+      replies (raw bytes) at = record {
+        given = reply (ok_line found_version) (done own_events) (just_booted own_events own_extent);
+        right = (made_there bytes at _ (inl refl), ap (λ l. ok_line (version_of (running_release l))) (sym is_made.list));
+        at = there.1;
+        happens = record { moments = (is_made.synced, is_made.begun); holds = there.0; cause = λ e. never e; counted = counted };
+      }
+
+      -- memory was refused to them
+      unstarted : (p : Place) → IsAt v (memory.Idle disk) p → Replied v p (λ a. Creates p a × (a.answer ≡ boot_line boot_error.NoMemory)) (memory.Idle disk) (memory.Idle (disk_in h))
+      unstarted (closed s) at = absurd (free (store_there s at))
+      unstarted (running events extent ps) at = absurd at
+      unstarted (dead s) at = absurd at
+      unstarted (raw bytes) at = record {
+        given = reply (boot_line boot_error.NoMemory) (done own_events) (closed (certain own_events own_extent));
+        right = (made_there bytes at _ (inr refl), refl);
+        at = there.0;
+        happens = record { moments = (is_made.synced, is_made.begun); holds = there.0; cause = λ e. never e; counted = counted };
+      }
+
+      pub creates : (line : Result (String Global) AllocError) (result : Result (String Global) Unanswered) (place : PlaceInMemory D) → MatchResult line (λ text. result ≡ Ok text) (λ _. result ≡ Err unanswered.NoMemory)
+          → IsStartedOrNot h [] line place → AnswersCommand v source (create path) result (memory.Idle disk) place
+      creates line result (memory.Made n) is reported =
+          answers_line v laws Creates line result (memory.Idle disk) (memory.Made n) is (starts v laws Creates h (memory.Idle disk) replies [] line (memory.Made n) reported)
+      creates line result (memory.Idle d) is (same, reported) =
+          subst (λ e. AnswersCommand v source (create path) result (memory.Idle disk) (memory.Idle e)) (sym same)
+          (answers_line v laws Creates line result (memory.Idle disk) (memory.Idle (disk_in h)) is (reports v laws Creates [] line (boot_line boot_error.NoMemory) (memory.Idle disk) (memory.Idle (disk_in h)) reported unstarted))
 
     -- The node isn't made.
     module _ (new : D) (counted : v.failures disk ≤ v.failures new) where
@@ -122,18 +153,13 @@ module _ {D : Type 0} (v : Device D) (laws : IsDevice v) (source : Source) (path
         };
       }
 
-      nothing_done : WritesNothing v.seen v.may_leave v.moment v.left_since disk new → (p : Place) → IsAt v (memory.Idle disk) p → NothingDone v p (memory.Idle disk) (memory.Idle new)
-      nothing_done u p at = record { nothing_new = u.any_moment; holds = held v laws (memory.Idle new) p (unwritten_at p at u); counted = counted }
-
       -- the files are why
-      unread : (why : HandlerError) → IsOfFiles source path why → WritesNothing v.seen v.may_leave v.moment v.left_since disk new → Answers v Creates (Err why) (memory.Idle disk) (memory.Idle new)
-      unread why of u = reports_refusal v laws Creates why (memory.Idle disk) (memory.Idle new)
-          (λ known p at. refuses p (refusal_of why) at u (creation_refused source path (refusal_of why) p (files_refuse source path why of known))) (nothing_done u)
+      unread : (why : HandlerError) → IsOfFiles source path why → WritesNothing v.seen v.may_leave v.moment v.left_since disk new → Answers v Creates (Err (unanswered.Refused why)) (memory.Idle disk) (memory.Idle new)
+      unread why of u = λ p at. refuses p (refusal_of why) at u (refused_or_lacks source p (create path) path refl why of (creation_refused source path (refusal_of why) p))
 
       -- the files of its applications are
-      barred : (why : HandlerError) → IsNotBegun v source path disk new why → Answers v Creates (Err why) (memory.Idle disk) (memory.Idle new)
-      barred why n = reports_refusal v laws Creates why (memory.Idle disk) (memory.Idle new)
-          (λ known p at. refuses p (refusal_of why) at n.unwritten (making n.brought n.read p _ (subst (λ w. Transition.MakesNode p n.brought (refused w p)) is (there p at)))) (nothing_done n.unwritten)
+      barred : (why : HandlerError) → IsNotBegun v source path disk new why → Answers v Creates (Err (unanswered.Refused why)) (memory.Idle disk) (memory.Idle new)
+      barred why n = λ p at. refuses p (refusal_of why) at n.unwritten (making n.brought n.read p _ (subst (λ w. Transition.MakesNode p n.brought (refused w p)) is (there p at)))
         where
           is : refusal_for (of_files.refusal_of n.barred.error) ≡ refusal_of why
           is = sym (reported_alike n.barred.error) ∙ ap refusal_of (sym n.barred.reported)
@@ -200,11 +226,11 @@ module _ {D : Type 0} (v : Device D) (laws : IsDevice v) (source : Source) (path
         full_there clear stored_there over (dead s) at = absurd at
 
         by_error : (e : HandlerError) → (e ≢ handler_error.Exists → e ≢ handler_error.Device → own_refusal is_not.brought ≡ None) → MakingRefused (v.seen disk) (made_size found) (v.failures disk) (v.failures new) (WritesNothing v.seen v.may_leave v.moment v.left_since disk new) e
-            → Answers v Creates (Err e) (memory.Idle disk) (memory.Idle new)
-        by_error handler_error.Device clear cause = λ p at. inl (device_fails cause p at)
-        by_error handler_error.Exists clear (stored_there, u) = λ p at. inl (refuses p exists at u (right_for p _ (exists_there stored_there p at)))
-        by_error handler_error.Full clear (stored_there, over, u) = λ p at. inl (refuses p full at u (right_for p _ (full_there (clear (λ e. cc e) (λ e. cc e)) stored_there over p at)))
-        by_error handler_error.NoMemory clear u = λ p at. inr (refl, inr (nothing_done u p at))
+            → Answers v Creates (Err (unanswered.Refused e)) (memory.Idle disk) (memory.Idle new)
+        by_error handler_error.Device clear cause = λ p at. device_fails cause p at
+        by_error handler_error.Exists clear (stored_there, u) = λ p at. refuses p exists at u (right_for p _ (exists_there stored_there p at))
+        by_error handler_error.Full clear (stored_there, over, u) = λ p at. refuses p full at u (right_for p _ (full_there (clear (λ e. cc e) (λ e. cc e)) stored_there over p at))
+        by_error handler_error.NoMemory clear u = λ p at. refuses p no_memory at u (lacks_memory source p (create path) Transition.memory_line refl)
         by_error handler_error.NoMatchingRelup clear gone = absurd gone
         by_error handler_error.TooMany clear gone = absurd gone
         by_error handler_error.NoSuchRelease clear gone = absurd gone
@@ -221,7 +247,7 @@ module _ {D : Type 0} (v : Device D) (laws : IsDevice v) (source : Source) (path
         by_error handler_error.Dead clear gone = absurd gone
 
       pub creates_none : (why : HandlerError) → (holds_a_store (v.seen disk) ≡ true → WritesNothing v.seen v.may_leave v.moment v.left_since disk new)
-          → NodeCreationRefused v source path disk new why → Answers v Creates (Err why) (memory.Idle disk) (memory.Idle new)
+          → NodeCreationRefused v source path disk new why → Answers v Creates (Err (unanswered.Refused why)) (memory.Idle disk) (memory.Idle new)
       creates_none why taken (inl (of, u)) = unread why of u
       creates_none why taken (inr (inl n)) = barred why n
       creates_none why taken (inr (inr is_not)) = by_error why is_not taken why is_not.clear is_not.refused

@@ -4,7 +4,6 @@ pub mod DeviceLemmas
 pub mod ListLemmas
 pub mod ExtentLemmas
 pub mod Prefixes
-pub mod StoppedReplies
 pub mod Replies
 pub mod CommitReplies
 pub mod BootsBehind

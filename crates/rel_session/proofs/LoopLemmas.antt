@@ -27,7 +27,7 @@ use Rattle.rel_session.specs.Node.{Place, Reply}
 use Rattle.rel_session.specs.Node.Place.{raw, closed, running, dead}
 use Rattle.counted_io.specs.Prefixes.{AppendsPrefix}
 use Rattle.rel_session.specs.Output.{MayAdd, Writes}
-use Rattle.rel_session.specs.Run.{Starts, Executes, MayLeave, IsReply, Replies, Ending, IsTextOf, IsRun, answers_of, commands_within}
+use Rattle.rel_session.specs.Run.{Starts, Executes, Replies, Ending, IsTextOf, IsRun, answers_of, commands_within}
 use Rattle.rel_session.specs.Run.Ending.{ended, cut_off, unread, unwritten, out_of_memory, going_on}
 use Rattle.rel_session.specs.Transition.{Transition}
 use Rattle.rel_session.proofs.DeviceLemmas.{IsDevice, still}
@@ -86,19 +86,10 @@ are_all : (known : Option (List ℕ)) (most : ℕ) (commands : Feed Command) →
 are_all None most commands left = tt
 are_all (Some input) most commands left = left
 
-is_reply : (source : Source) (p : Place) (c : Command) (ending : Ending) (a : Reply) (more : List Reply) → Transition source p c a → IsReply source p c ending more a
-is_reply source p c ended a more is = is
-is_reply source p c cut_off a more is = is
-is_reply source p c unread a more is = is
-is_reply source p c unwritten a more is = is
-is_reply source p c going_on a more is = is
-is_reply source p c out_of_memory a [] is = inl is
-is_reply source p c out_of_memory a (b ∷ more) is = is
-
 -- a reply to the first of these commands
 pub replies_next : (base : Source) (files : Files) (p : Place) (c : Command) (rest : Feed Command) (ending : Ending) (a : Reply) (more : List Reply) → Transition (source_of base files) p c a
     → Replies base (files_behind files c) a.after rest ending more → Replies base files p (next c rest) ending (a ∷ more)
-replies_next base files p c rest ending a more is right = (is_reply (source_of base files) p c ending a more is, right)
+replies_next base files p c rest ending a more is right = (is, right)
 
 -- none of them has one
 replies_yet : (base : Source) (files : Files) (p : Place) (commands : Feed Command) → Replies base files p commands going_on []
@@ -272,7 +263,7 @@ module _ {D : Type 0} (v : Device D) (laws : IsDevice v) (base : Source) where
         rest : Feed Command
         rest = some_left (new most)
 
-        by_outcome : Leads v r.here (MayLeave (source_of base (files_of node.files)) r.here c) node.place later.place ⊎ NothingDone v r.here node.place later.place
+        by_outcome : Leads v r.here (Transition (source_of base (files_of node.files)) r.here c) node.place later.place ⊎ NothingDone v r.here node.place later.place
             → (commands : Feed Command) × AreLeft (all most) commands × Writes old mid (λ t. IsRun v base no_files start commands out_of_memory disk final t)
         by_outcome (inl a) =
             let whole = r.completes out_of_memory most (next c rest) (a.given ∷ []) (disk_of later) [] (omega arith) (are_next (now most) (new most) c rest (gives most le) (are_some (new most)))

@@ -1,5 +1,5 @@
 -- What is replied to commands that ask a node which runs, or change its processes.
-use Rattle.std.proofs.Common.{◌≡◌, ℕ, ◌≤◌, false, List, Result, Ok, Err, inr, refl, sym, ap, ◌∙◌, subst, arith}
+use Rattle.std.proofs.Common.{◌≡◌, ℕ, ◌≤◌, false, List, Result, Ok, Err, inr, sym, ap, ◌∙◌, subst, arith}
 use Rattle.std.specs.Prelude.{IfOk, MatchResult, String, string_bytes}
 use Rattle.std.specs.declared.alloc.AllocError.{AllocError}
 use Rattle.std.specs.declared.alloc.Global.{Global}
@@ -7,8 +7,8 @@ use Rattle.node_store.specs.Image.{Extent}
 use Rattle.node_store.specs.Events.{Events}
 use Rattle.node_store.specs.State.{disk_in, list_in, is_dead}
 use Rattle.rel_list.specs.Releases.{Releases}
-use Rattle.node_command.specs.declared.error.HandlerError.{HandlerError}
-use Rattle.node_command.specs.declared.error.HandlerError.TheVariants as handler_error
+use Rattle.rel_session.specs.declared.unanswered.Unanswered.{Unanswered}
+use Rattle.rel_session.specs.declared.unanswered.Unanswered.TheVariants as unanswered
 use Rattle.node_processes.specs.InMemory.{processes_in}
 use Rattle.node_processes.specs.Processes.{Processes}
 use Rattle.rel_session.proofs.Contradiction.{never}
@@ -56,16 +56,16 @@ module _ {D : Type 0} (v : Device D) (laws : IsDevice v) (P : Place → Reply �
       (record { nothing_new = still v laws (disk_in n.handler); holds = at.0; counted = omega arith })
 
   -- Where memory is refused, the processes may be any.
-  pub answers_if_reported : (line : Result (String Global) AllocError) (result : Result (String Global) HandlerError)
-      → MatchResult line (λ text. result ≡ Ok text) (λ _. result ≡ Err handler_error.NoMemory) → IfOk line (λ text. string_bytes text ≡ says (list_in n.handler) (processes_in n.processes))
+  pub answers_if_reported : (line : Result (String Global) AllocError) (result : Result (String Global) Unanswered)
+      → MatchResult line (λ text. result ≡ Ok text) (λ _. result ≡ Err unanswered.NoMemory) → IfOk line (λ text. string_bytes text ≡ says (list_in n.handler) (processes_in n.processes))
       → IfOk line (λ _. processes_in new.processes ≡ leaves (processes_in n.processes)) → Answers v P result (memory.Made n) (memory.Made new)
   answers_if_reported (Ok text) result is reported left = subst (λ r. Answers v P r (memory.Made n) (memory.Made new)) (sym is) (λ p at.
       let r = replies left p at in
       record { given = r.given; right = (r.right.0, r.right.1 ∙ sym reported); at = r.at; happens = r.happens })
-  answers_if_reported (Err e) result is reported left = subst (λ r. Answers v P r (memory.Made n) (memory.Made new)) (sym is) (λ p at. inr (refl, inr (writes_nothing p at)))
+  answers_if_reported (Err e) result is reported left = subst (λ r. Answers v P r (memory.Made n) (memory.Made new)) (sym is) (λ p at. inr (writes_nothing p at))
 
-  pub answers_of_node : processes_in new.processes ≡ leaves (processes_in n.processes) → (line : Result (String Global) AllocError) (result : Result (String Global) HandlerError)
-      → MatchResult line (λ text. result ≡ Ok text) (λ _. result ≡ Err handler_error.NoMemory) → IfOk line (λ text. string_bytes text ≡ says (list_in n.handler) (processes_in n.processes))
+  pub answers_of_node : processes_in new.processes ≡ leaves (processes_in n.processes) → (line : Result (String Global) AllocError) (result : Result (String Global) Unanswered)
+      → MatchResult line (λ text. result ≡ Ok text) (λ _. result ≡ Err unanswered.NoMemory) → IfOk line (λ text. string_bytes text ≡ says (list_in n.handler) (processes_in n.processes))
       → Answers v P result (memory.Made n) (memory.Made new)
   answers_of_node left (Ok text) result is reported = answers_if_reported (Ok text) result is reported left
   answers_of_node left (Err e) result is reported = answers_if_reported (Err e) result is reported tt

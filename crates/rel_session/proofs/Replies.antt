@@ -1,7 +1,7 @@
 -- What each command replies, wherever the disk stands, as the handler's clauses give it.
-use Rattle.std.proofs.Common.{◌≡◌, ◌≢◌, ◌⊎◌, inl, inr, ⊎_elim, ℕ, ◌≤◌, true, false, List, [], ◌∷◌, ◌++◌, Some, Result, Ok, Err, refl, sym, ap, ◌∙◌, subst, arith}
+use Rattle.std.proofs.Common.{◌≡◌, ◌≢◌, ◌⊎◌, inl, inr, ℕ, ◌≤◌, true, false, List, [], ◌∷◌, ◌++◌, Some, Result, Ok, Err, refl, sym, ap, ◌∙◌, subst, arith}
 use Rattle.std.specs.Result.{IsErrAnd}
-use Rattle.std.specs.Prelude.{IfOk, IsErr, String, string_bytes, MatchResult}
+use Rattle.std.specs.Prelude.{IfOk, String, string_bytes, MatchResult}
 use Rattle.std.specs.declared.alloc.Global.{Global}
 use Rattle.std.specs.declared.alloc.AllocError.{AllocError}
 use Rattle.rel_list.specs.Releases.{Releases, running as running_release}
@@ -15,7 +15,7 @@ use Rattle.node_store.specs.declared.node_store.NodeStore.{NodeStore}
 use Rattle.rel_handler.specs.Booting.{IsBootOf}
 use Rattle.node_store.specs.Events.{Events, Stored, certain, uncertain_boot, IsStoredAs}
 use Rattle.rel_handler.specs.Moments.{KeepsStore}
-use Rattle.node_store.specs.Image.{Extent, booted_extent, extent_of, IsImageAt, IsImageOf, IsLeftByBoot}
+use Rattle.node_store.specs.Image.{Extent, booted_extent, extent_of, IsImageAt, IsImageOf, IsLeftByBoot, IsStarted}
 use Rattle.rel_handler.specs.Refusals.{BootRefused, IsBootRefusal}
 use Rattle.node_store.specs.State.{disk_in, list_in, is_dead, extent_in, HasStarted, IsSame}
 use Rattle.node_processes.specs.Answers.{processes_line, modules_line, peek_line}
@@ -32,54 +32,31 @@ use Rattle.session_input.specs.Commands.{Command}
 use Rattle.session_input.specs.Commands.Command.{file, create, set_unpacked, check, install, permanent, remove, reboot_old, boot, start, releases, procs, modules, peek, call, flood, relup, quit, bad}
 use Rattle.rel_session.specs.Device.{Device, LeavesOnly, HasFailed}
 use Rattle.rel_unpack.specs.Source.{Source}
-use Rattle.rel_session.specs.InMemory.{disk_at, IsAt, Replied, Leads, NothingDone, Answers, ReportsOrStops, AnswersOrStops, IsNodeStarted, NeedsNode}
-use Rattle.rel_session.specs.Node.{Place, just_booted, at_rest, list_or_none, CommandOutcome, Reply, reply, refused, failed, nothing, done, failed_with}
+use Rattle.rel_session.specs.InMemory.{disk_at, IsAt, Replied, NothingDone, ActsOrLacks, Answers, AnswersAfter, IsNodeStarted, IsStartedOrNot, NeedsNode}
+use Rattle.rel_session.specs.Node.{Place, just_booted, list_or_none, CommandOutcome, Reply, reply, refused, nothing, done}
 use Rattle.rel_session.specs.Node.Place.{raw, closed, running, dead}
 use Rattle.node_answer.specs.Refusals.{refusal_of, refusal_line}
-use Rattle.rel_session.specs.Booting.{boot_line}
+use Rattle.rel_session.specs.Booting.{Lack, boot_line, boot_undone, is_failure, lack_error, undone, IsLeftUndone, IsUndone}
+use Rattle.rel_session.specs.Booting.Lack.{device_failed, memory_refused}
+use Rattle.node_answer.specs.Lines.{ok_line}
+use Rattle.node_store.specs.State.{version_of}
+use Rattle.rel_session.specs.declared.unanswered.Unanswered.{Unanswered}
+use Rattle.rel_session.specs.declared.unanswered.Unanswered.TheVariants as unanswered
+use Rattle.rel_list.proofs.PermanentLaws.{permanent-of_booted}
 use Rattle.node_answer.specs.Refusals.NodeRefusal.{dead as dead_node}
 use Rattle.rel_session.proofs.Contradiction.{never}
 use Rattle.rel_session.specs.Run.{IsReached, Holds, Moments, Happens}
 use Rattle.rel_session.specs.Transition
 use Rattle.rel_session.specs.Transition.Action.{answers, changes_node, installs, reboots_node, boots_node, reports_start, calls}
-use Rattle.rel_session.proofs.StoppedReplies.{without_its_node}
 use Rattle.rel_session.proofs.DeviceLemmas.{IsDevice, weakened, still}
 use Rattle.rel_session.proofs.Histories.{events_of_image}
 use Rattle.rel_session.proofs.ListLemmas.{list_after-push}
 use Rattle.rel_session.proofs.Prefixes.{reached, reached_booting, stored}
 
--- A command gave this line; where memory is refused, it may have been done.
-abbrev pub ReportsReply : {D : Type 0} → Device D → (Place → Reply → Type 0) → Result (String Global) AllocError
-    → PlaceInMemory D → PlaceInMemory D → Type 0
-ReportsReply v P (Ok text) old new =
-    (p : Place) → IsAt v old p → Replied v p (λ a. P p a × (a.answer ≡ string_bytes text)) old new
-ReportsReply v P (Err e) old new = (p : Place) → IsAt v old p → Replied v p (P p) old new ⊎ NothingDone v p old new
-
--- what an error became is the refusal
-pub reported_so : (r : Result (String Global) HandlerError) (why : HandlerError) → IsErrAnd r (λ e. e ≡ why) → r ≡ Err why
+-- what an error became is the result
+pub reported_so : (r : Result (String Global) Unanswered) (why : Unanswered) → IsErrAnd r (λ e. e ≡ why) → r ≡ Err why
 reported_so (Ok vsn) why never = absurd never
 reported_so (Err e) why is = ap Err is
-
--- memory was refused, or it was something else
-memory_or_not : (why : HandlerError) → (why ≡ handler_error.NoMemory) ⊎ (why ≢ handler_error.NoMemory)
-memory_or_not handler_error.NoSuchRelease = inr (λ e. cc e)
-memory_or_not handler_error.ExistingRelease = inr (λ e. cc e)
-memory_or_not handler_error.AlreadyInstalled = inr (λ e. cc e)
-memory_or_not (handler_error.BadStatus s) = inr (λ e. cc e)
-memory_or_not handler_error.Permanent = inr (λ e. cc e)
-memory_or_not handler_error.Running = inr (λ e. cc e)
-memory_or_not (handler_error.BadFile q f) = inr (λ e. cc e)
-memory_or_not (handler_error.MissingFile q) = inr (λ e. cc e)
-memory_or_not (handler_error.VsnMismatch q) = inr (λ e. cc e)
-memory_or_not (handler_error.LibDiffers q) = inr (λ e. cc e)
-memory_or_not (handler_error.NoTable q) = inr (λ e. cc e)
-memory_or_not handler_error.TooMany = inr (λ e. cc e)
-memory_or_not handler_error.Device = inr (λ e. cc e)
-memory_or_not handler_error.Full = inr (λ e. cc e)
-memory_or_not handler_error.Dead = inr (λ e. cc e)
-memory_or_not handler_error.NoMemory = inl refl
-memory_or_not handler_error.NoMatchingRelup = inr (λ e. cc e)
-memory_or_not handler_error.Exists = inr (λ e. cc e)
 
 module _ {D : Type 0} (v : Device D) (laws : IsDevice v) where
   -- what is so of the disk of a place
@@ -192,40 +169,39 @@ module _ {D : Type 0} (v : Device D) (laws : IsDevice v) where
             (here, living, behind, stop, has ∙ ap (λ o. fresh_processes (list_or_none o)) (sym after)),
       )
 
-  -- what holds of a disk holds once no node runs on it
-  rests : (p : Place) (disk : D) → Holds v p disk → Holds v (at_rest p) disk
-  rests (raw bytes) disk holds = holds
-  rests (closed s) disk holds = holds
-  rests (running events extent ps) disk holds = holds
-  rests (dead s) disk holds = holds
-
-  -- Its processes were started, or memory was refused and its disk alone is left.
-  module _ (P Q : Place → Reply → Type 0) (lost : (p : Place) (b : Reply) → P p b → Q p (Transition.without_node b)) (h : NodeStore D) (old : PlaceInMemory D) where
+  -- Its processes were started, and a line was made that reports it, after a text.
+  module _ (P : Place → Reply → Type 0) (h : NodeStore D) (old : PlaceInMemory D) where
     abbrev Reports : Place → Reply → Type 0
-    Reports p a = P p a × (a.answer ≡ Transition.ok_line (Transition.version_of (running_release (list_in h))))
+    Reports p a = P p a × (a.answer ≡ ok_line (version_of (running_release (list_in h))))
 
-    pub starts : ((p : Place) → IsAt v old p → HasBooted p (Reports p) old h) → (line : Result (String Global) AllocError) (place : PlaceInMemory D) → IsNodeStarted h line place → ReportsOrStops v P Q line old place
-    starts booted_there (Ok text) (memory.Idle disk) never_so = absurd never_so
-    starts booted_there (Ok text) (memory.Made n) (is, has, reported, begun) = λ p at.
+    pub starts : ((p : Place) → IsAt v old p → HasBooted p (Reports p) old h) → (text : List ℕ) (line : Result (String Global) AllocError) (place : PlaceInMemory D) → IsNodeStarted h text line place → AnswersAfter v text P line old place
+    starts booted_there text line (memory.Idle disk) never_so = absurd never_so
+    starts booted_there text (Ok whole) (memory.Made n) (is, has, reported, begun) = λ p at.
         let b = booted_there p at in
-        record { given = b.given; right = (b.right.0, b.right.1 ∙ sym reported); at = b.at n is has; happens = subst (λ k. Happens v p b.given (disk_at old) (disk_in k)) (sym is) b.happens }
-    starts booted_there (Err e) (memory.Made n) never_so = absurd never_so
-    starts booted_there (Err e) (memory.Idle disk) is = λ p at.
+        record {
+          given = b.given;
+          right = (b.right.0, ap (λ t. text ++ t) b.right.1 ∙ sym reported);
+          at = b.at n is has;
+          happens = subst (λ k. Happens v p b.given (disk_at old) (disk_in k)) (sym is) b.happens;
+        }
+    starts booted_there text (Err e) (memory.Made n) (is, has, reported, begun) = λ p at.
         let b = booted_there p at in
-        inl (record { given = Transition.without_node b.given; right = inr (lost p b.given b.right.0); happens = subst (λ d. Happens v p (Transition.without_node b.given) (disk_at old) d) (sym is) (left p b.given b.happens) })
-      where
-        left : (p : Place) (b : Reply) → Happens v p b (disk_at old) (disk_in h) → Happens v p (Transition.without_node b) (disk_at old) (disk_in h)
-        left p b happens = record { moments = happens.moments; holds = rests b.after (disk_in h) happens.holds; cause = happens.cause; counted = happens.counted }
+        record { given = b.given; right = b.right.0; happens = subst (λ k. Happens v p b.given (disk_at old) (disk_in k)) (sym is) b.happens }
 
-  -- A command's line, which may not fit into memory.
-  pub reports : (P : Place → Reply → Type 0) (line : Result (String Global) AllocError) (answer : List ℕ) (old new : PlaceInMemory D) → IfOk line (λ text. string_bytes text ≡ answer)
-      → ((p : Place) → IsAt v old p → Replied v p (λ a. P p a × (a.answer ≡ answer)) old new) → ReportsReply v P line old new
-  reports P (Ok text) answer old new reported replied = λ p at.
+  -- what has started is one of the two
+  pub started_or_not : (h : NodeStore D) (text : List ℕ) (line : Result (String Global) AllocError) (place : PlaceInMemory D) → IsNodeStarted h text line place → IsStartedOrNot h text line place
+  started_or_not h text line (memory.Idle disk) is = absurd is
+  started_or_not h text line (memory.Made n) is = is
+
+  -- A command was done, and its line stands after a text, unless there was no memory for it.
+  pub reports : (P : Place → Reply → Type 0) (text : List ℕ) (line : Result (String Global) AllocError) (answer : List ℕ) (old new : PlaceInMemory D) → IfOk line (λ whole. string_bytes whole ≡ text ++ answer)
+      → ((p : Place) → IsAt v old p → Replied v p (λ a. P p a × (a.answer ≡ answer)) old new) → AnswersAfter v text P line old new
+  reports P text (Ok whole) answer old new reported replied = λ p at.
       let r = replied p at in
-      record { given = r.given; right = (r.right.0, r.right.1 ∙ sym reported); at = r.at; happens = r.happens }
-  reports P (Err e) answer old new reported replied = λ p at.
+      record { given = r.given; right = (r.right.0, ap (λ t. text ++ t) r.right.1 ∙ sym reported); at = r.at; happens = r.happens }
+  reports P text (Err e) answer old new reported replied = λ p at.
       let r = replied p at in
-      inl (record { given = r.given; right = r.right.0; at = r.at; happens = r.happens })
+      record { given = r.given; right = r.right.0; happens = r.happens }
 
   -- a boot that is done
   module _ (old : PlaceInMemory D) (disk : D) (taken : disk ≡ disk_at old) (h : NodeStore D) (alive : is_dead h ≡ false)
@@ -279,8 +255,8 @@ module _ {D : Type 0} (v : Device D) (laws : IsDevice v) where
     boots_at (running events extent ps) here = boots_store (running events extent ps) (certain events extent) here (λ m. m)
     boots_at (dead s) here = boots_store (dead s) s here (λ m. m)
 
-    pub boots : (line : Result (String Global) AllocError) (place : PlaceInMemory D) → IsNodeStarted h line place → ReportsOrStops v Transition.Boots (λ p a. Transition.StopsWithin p boots_node a) line old place
-    boots = starts Transition.Boots (λ p a. Transition.StopsWithin p boots_node a) (λ p b is. without_its_node p boots_node b is) h old (λ p at. boots_at p (subst (λ d. Holds v p d) (sym taken) (held old p at)))
+    pub boots : (text : List ℕ) (line : Result (String Global) AllocError) (place : PlaceInMemory D) → IsNodeStarted h text line place → AnswersAfter v text Transition.Boots line old place
+    boots = starts Transition.Boots h old (λ p at. boots_at p (subst (λ d. Holds v p d) (sym taken) (held old p at)))
 
   -- the disk was read alone
   abbrev IsQuiet : D → D → Type 0
@@ -303,183 +279,146 @@ module _ {D : Type 0} (v : Device D) (laws : IsDevice v) where
       };
     }
 
-    module _ (why : BootError) (is : BootRefused (v.seen disk) (v.failures disk) (v.failures new) why) (read : (why ≢ boot_error.Device) → IsQuiet disk new)
-        (only : (es : Releases) → IsImageOf (v.seen disk) es → (why ≡ boot_error.Device) ⊎ (why ≡ boot_error.NoMemory)) (known : why ≢ boot_error.NoMemory) where
-      -- on a store nothing but the device refuses
-      by_store : (p : Place) (s : Stored) → ((c : List ℕ) → v.may_leave disk c → IsStoredAs s c) → (LeavesOnly v disk new (IsReached s.known (booting ∷ [])) → Moments v p (failed_with (Some booting)) disk new)
-          → Replied v p (λ a. Transition.BootsStore s a × (a.answer ≡ boot_line why)) old (memory.Idle new)
-      by_store p s here moments = go (only (here (v.seen disk) (laws.reads_an_image disk)).list (here (v.seen disk) (laws.reads_an_image disk)).image_of)
-        where
-          failed_to : (q : Place) → why ≡ boot_error.Device → IsAt v (memory.Idle new) q → Transition.FailsOnStore s (Transition.boot_failed q) → Replied v p (λ a. Transition.BootsStore s a × (a.answer ≡ boot_line why)) old (memory.Idle new)
-          failed_to q failed then fails =
-              refused_at p q (boot_line why) (failed_with (Some booting)) (Transition.BootsStore s) (moments (reached_booting v s disk new (stored_all s here))) then (λ e. subst (BootRefused (v.seen disk) (v.failures disk) (v.failures new)) failed is)
-              (subst (λ w. Transition.BootsStore s (reply (boot_line w) (failed_with (Some booting)) q)) (sym failed) (inr fails))
+    module _ (why : BootError) (is : BootRefused (v.seen disk) (v.failures disk) (v.failures new) why) (only : (es : Releases) → IsImageOf (v.seen disk) es → IsLack why) (stopped : HasStopped v disk (new, why)) where
+      -- on a store it is not done for a lack alone
+      module _ (p : Place) (s : Stored) (here : (c : List ℕ) → v.may_leave disk c → IsStoredAs s c) (moments : (lack : Lack) → LeavesOnly v disk new (IsReached s.known (booting ∷ [])) → Moments v p (undone lack) disk new) where
+        abbrev RepliesThere : Type 0
+        RepliesThere = Replied v p (λ a. Transition.BootsStore s a × (a.answer ≡ boot_line why)) old (memory.Idle new)
 
-          fails_so : why ≡ boot_error.Device → KeepsStore v s disk new → Replied v p (λ a. Transition.BootsStore s a × (a.answer ≡ boot_line why)) old (memory.Idle new)
-          fails_so failed (inl all) = failed_to (closed s) failed (λ c now. all.each c (laws.counts_now new (v.moment disk) c all.later now)) (inl refl)
-          fails_so failed (inr k) = failed_to (closed (uncertain_boot s.known.ran k.events k.extent)) failed k.now (inr (k.events, k.extent, k.has, refl))
+        module _ (lack : Lack) (lacks : why ≡ lack_error lack) (cause : is_failure lack ≡ true → HasFailed v disk new) where
+          undone_to : (q : Place) → IsAt v (memory.Idle new) q → IsUndone s lack (boot_undone lack q) → RepliesThere
+          undone_to q then right =
+              refused_at p q (boot_line why) (undone lack) (Transition.BootsStore s) (moments lack (reached_booting v s disk new (stored_all s here))) then cause
+              (subst (λ w. Transition.BootsStore s (reply (boot_line w) (undone lack) q)) (sym lacks) (inr (lack, right)))
 
-          go : (why ≡ boot_error.Device) ⊎ (why ≡ boot_error.NoMemory) → Replied v p (λ a. Transition.BootsStore s a × (a.answer ≡ boot_line why)) old (memory.Idle new)
-          go (inl failed) = fails_so failed (stored_all s here)
-          go (inr memory) = absurd (known memory)
+          undone_so : KeepsStore v s disk new → RepliesThere
+          undone_so (inl all) = undone_to (closed s) (λ c now. all.each c (laws.counts_now new (v.moment disk) c all.later now)) (inl refl)
+          undone_so (inr k) = undone_to (closed (uncertain_boot s.known.ran k.events k.extent)) k.now (inr (k.events, k.extent, k.has, refl))
 
-      by_bytes : (bytes : List ℕ) → v.seen disk ≡ bytes → Replied v (raw bytes) (λ a. Transition.BootsBytes bytes a × (a.answer ≡ boot_line why)) old (memory.Idle new)
-      by_bytes bytes here = go why refl is
-        where
-          plainly : (w : BootError) → why ≡ w → w ≢ boot_error.Device → IsBootRefusal (v.seen disk) w → Replied v (raw bytes) (λ a. Transition.BootsBytes bytes a × (a.answer ≡ boot_line why)) old (memory.Idle new)
-          plainly w e other reported = refused_at (raw bytes) (raw bytes) (boot_line why) nothing (Transition.BootsBytes bytes) (read (λ d. other (sym e ∙ d))).1 ((read (λ d. other (sym e ∙ d))).0 ∙ here) (λ f. never f)
-              (inr (inl (why, subst (λ b. IsBootRefusal b why) here (subst (IsBootRefusal (v.seen disk)) (sym e) reported), refl)))
+        by_store : RepliesThere
+        by_store = go (only (here (v.seen disk) (laws.reads_an_image disk)).list (here (v.seen disk) (laws.reads_an_image disk)).image_of)
+          where
+            go : IsLack why → RepliesThere
+            go (inl failed) = undone_so device_failed failed (λ f. subst (BootRefused (v.seen disk) (v.failures disk) (v.failures new)) failed is) (stored_all s here)
+            go (inr wanting) = undone_so memory_refused wanting (λ f. never f) (stored_all s here)
 
-          go : (w : BootError) → why ≡ w → BootRefused (v.seen disk) (v.failures disk) (v.failures new) w → Replied v (raw bytes) (λ a. Transition.BootsBytes bytes a × (a.answer ≡ boot_line why)) old (memory.Idle new)
-          go boot_error.NotAStore e reported = plainly boot_error.NotAStore e (λ f. cc f) reported
-          go (boot_error.Damaged at) e reported = plainly (boot_error.Damaged at) e (λ f. cc f) reported
-          go boot_error.Device e reported = refused_at (raw bytes) (raw (v.seen new)) (boot_line why) (failed_with (Some booting)) (Transition.BootsBytes bytes) leaves refl (λ f. reported)
-              (inr (inr (v.seen new, ap (λ w. reply (boot_line w) (failed_with (Some booting)) (raw (v.seen new))) e)))
-          go boot_error.NoMemory e reported = absurd (known e)
-          go (boot_error.BadRecord i) e reported = plainly (boot_error.BadRecord i) e (λ f. cc f) reported
+      -- on bytes that nothing is known of
+      module _ (bytes : List ℕ) (here : v.seen disk ≡ bytes) where
+        abbrev RepliesHere : Type 0
+        RepliesHere = Replied v (raw bytes) (λ a. Transition.BootsBytes bytes a × (a.answer ≡ boot_line why)) old (memory.Idle new)
+
+        -- the bytes were read alone, where neither was lacking
+        read_alone : why ≢ boot_error.Device → why ≢ boot_error.NoMemory → IsQuiet disk new
+        read_alone works wants = go stopped
+          where
+            go : HasStopped v disk (new, why) → IsQuiet disk new
+            go (inl failed) = absurd (works failed)
+            go (inr (inl read)) = (read.same, read.any_moment)
+            go (inr (inr (wanting, booted))) = absurd (wants wanting)
+
+        plainly : (w : BootError) → why ≡ w → w ≢ boot_error.Device → w ≢ boot_error.NoMemory → IsBootRefusal (v.seen disk) w → RepliesHere
+        plainly w e works wants reported =
+            let (same, read) = read_alone (λ d. works (sym e ∙ d)) (λ d. wants (sym e ∙ d)) in
+            refused_at (raw bytes) (raw bytes) (boot_line why) nothing (Transition.BootsBytes bytes) read (same ∙ here) (λ f. never f)
+            (inr (inl (why, subst (λ b. IsBootRefusal b why) here (subst (IsBootRefusal (v.seen disk)) (sym e) reported), refl)))
+
+        -- the boot was not done for a lack
+        undone_here : (lack : Lack) → why ≡ lack_error lack → IsLeftUndone lack bytes (v.seen new) → (is_failure lack ≡ true → HasFailed v disk new) → RepliesHere
+        undone_here lack e left cause = refused_at (raw bytes) (raw (v.seen new)) (boot_line why) (undone lack) (Transition.BootsBytes bytes) leaves refl cause
+            (inr (inr (lack, v.seen new, left, ap (λ w. reply (boot_line w) (undone lack) (raw (v.seen new))) e)))
+
+        -- All that a boot writes was written: it had no memory for the processes.
+        left_by_boot : (h : NodeStore D) → IsBootedFrom v disk h → new ≡ disk_in h → IsLeftByBoot bytes (v.seen new)
+        left_by_boot h b same =
+            let (es, image_of, still) = b.image in
+            let booted_so = b.list es image_of in
+            let now : v.may_leave (disk_in h) (v.seen new) = subst (λ d. v.may_leave d (v.seen new)) same (laws.reads_an_image new) in
+            let image = subst (λ l. IsImageAt (v.seen new) l (extent_in h)) booted_so.list (b.acknowledged (v.seen new) now) in
+            let started = subst (λ l. IsStarted l (v.seen new)) booted_so.list (b.sound.started b.works (v.seen new) now) in
+            subst (λ x. IsLeftByBoot x (v.seen new)) here (record {
+              list = es;
+              was = image_of;
+              left = inr (subst (IsImageAt (v.seen new) (booted es)) booted_so.extent image, inr (record { release = started.release; listed = sym (permanent-of_booted es) ∙ started.listed; spells = started.spells }));
+            })
+
+        left_behind : why ≡ boot_error.NoMemory → HasStopped v disk (new, why) → IsLeftUndone memory_refused bytes (v.seen new)
+        left_behind e (inl failed) = let lost : boot_error.NoMemory ≡ boot_error.Device = sym e ∙ failed in cc
+        left_behind e (inr (inl read)) = inl (read.same ∙ here)
+        left_behind e (inr (inr (wanting, (h, b, same)))) = inr (left_by_boot h b same)
+
+        by_bytes : RepliesHere
+        by_bytes = go why refl is
+          where
+            go : (w : BootError) → why ≡ w → BootRefused (v.seen disk) (v.failures disk) (v.failures new) w → RepliesHere
+            go boot_error.NotAStore e reported = plainly boot_error.NotAStore e (λ f. cc f) (λ f. cc f) reported
+            go (boot_error.Damaged at) e reported = plainly (boot_error.Damaged at) e (λ f. cc f) (λ f. cc f) reported
+            go boot_error.Device e reported = undone_here device_failed e tt (λ f. reported)
+            go boot_error.NoMemory e reported = undone_here memory_refused e (left_behind e stopped) (λ f. never f)
+            go (boot_error.BadRecord i) e reported = plainly (boot_error.BadRecord i) e (λ f. cc f) (λ f. cc f) reported
 
       boot_refused_at : (p : Place) → Holds v p disk → Replied v p (λ a. Transition.Boots p a × (a.answer ≡ boot_line why)) old (memory.Idle new)
       boot_refused_at (raw bytes) here = by_bytes bytes here
-      boot_refused_at (closed s) here = by_store (closed s) s here (λ m. m)
-      boot_refused_at (running events extent ps) here = by_store (running events extent ps) (certain events extent) here (λ m. m)
-      boot_refused_at (dead s) here = by_store (dead s) s here (λ m. m)
+      boot_refused_at (closed s) here = by_store (closed s) s here (λ lack m. m)
+      boot_refused_at (running events extent ps) here = by_store (running events extent ps) (certain events extent) here (λ lack m. m)
+      boot_refused_at (dead s) here = by_store (dead s) s here (λ lack m. m)
 
-      pub boot_refused : (line : Result (String Global) AllocError) → IfOk line (λ text. string_bytes text ≡ boot_line why) → ReportsReply v Transition.Boots line old (memory.Idle new)
-      boot_refused line reported = reports Transition.Boots line _ old (memory.Idle new) reported (λ p at. boot_refused_at p (subst (λ d. Holds v p d) (sym taken) (held old p at)))
-
-    -- memory was refused
-    pub boot_without_memory : (why : BootError) (is : BootRefused (v.seen disk) (v.failures disk) (v.failures new) why) (read : (why ≢ boot_error.Device) → IsQuiet disk new)
-        (only : (es : Releases) → IsImageOf (v.seen disk) es → (why ≡ boot_error.Device) ⊎ (why ≡ boot_error.NoMemory))
-        (line : Result (String Global) AllocError) → IfOk line (λ text. string_bytes text ≡ boot_line why) → (why ≡ boot_error.NoMemory → IsErr line) → ReportsReply v Transition.Boots line old (memory.Idle new)
-    boot_without_memory why is read only (Ok text) reported wanting = boot_refused why is read only (λ memory. let lost = wanting memory in cc) (Ok text) reported
-    boot_without_memory why is read only (Err e) reported wanting = go (no_memory why)
-      where
-        no_memory : (w : BootError) → (w ≡ boot_error.NoMemory) ⊎ (w ≢ boot_error.NoMemory)
-        no_memory boot_error.NotAStore = inr (λ f. cc f)
-        no_memory (boot_error.Damaged at) = inr (λ f. cc f)
-        no_memory boot_error.Device = inr (λ f. cc f)
-        no_memory boot_error.NoMemory = inl refl
-        no_memory (boot_error.BadRecord i) = inr (λ f. cc f)
-
-        read_only : why ≡ boot_error.NoMemory → IsQuiet disk new
-        read_only memory = read (λ d. let lost : boot_error.NoMemory ≡ boot_error.Device = sym memory ∙ d in cc)
-
-        go : (why ≡ boot_error.NoMemory) ⊎ (why ≢ boot_error.NoMemory) → ReportsReply v Transition.Boots (Err e) old (memory.Idle new)
-        go (inl memory) = λ p at. inr (record {
-          nothing_new = subst (λ d. LeavesOnly v d new (v.may_leave d)) taken (read_only memory).1;
-          holds = holds_still p disk new (subst (λ d. Holds v p d) (sym taken) (held old p at)) (read_only memory).0 (read_only memory).1;
-          counted = subst (λ d. v.failures d ≤ v.failures new) taken counted;
-        })
-        go (inr known) = boot_refused why is read only known (Err e) reported
+      pub boot_refused : (text : List ℕ) (line : Result (String Global) AllocError) → IfOk line (λ whole. string_bytes whole ≡ text ++ boot_line why) → AnswersAfter v text Transition.Boots line old (memory.Idle new)
+      boot_refused text line reported = reports Transition.Boots text line _ old (memory.Idle new) reported (λ p at. boot_refused_at p (subst (λ d. Holds v p d) (sym taken) (held old p at)))
 
   -- a line as an answer
-  pub answers_line : (P : Place → Reply → Type 0) (line : Result (String Global) AllocError) (result : Result (String Global) HandlerError) (old new : PlaceInMemory D)
-      → MatchResult line (λ text. result ≡ Ok text) (λ _. result ≡ Err handler_error.NoMemory) → ReportsReply v P line old new → Answers v P result old new
+  pub answers_line : (P : Place → Reply → Type 0) (line : Result (String Global) AllocError) (result : Result (String Global) Unanswered) (old new : PlaceInMemory D)
+      → MatchResult line (λ text. result ≡ Ok text) (λ _. result ≡ Err unanswered.NoMemory) → AnswersAfter v [] P line old new → Answers v P result old new
   answers_line P (Ok text) result old new is reported = subst (λ r. Answers v P r old new) (sym is) reported
-  answers_line P (Err e) result old new is reported = subst (λ r. Answers v P r old new) (sym is) (λ p at. inr (refl, reported p at))
-
-  -- What was never stopped within.
-  pub never_stops : (P Q : Place → Reply → Type 0) (result : Result (String Global) HandlerError) (old new : PlaceInMemory D) → Answers v P result old new → AnswersOrStops v P Q result old new
-  never_stops P Q (Ok text) old new given = given
-  never_stops P Q (Err why) old new given = λ p at. ⊎_elim (λ reported. inl reported) (λ (memory, r). inr (memory, done_or_not p r)) (given p at)
-    where
-      done_or_not : (p : Place) → Replied v p (P p) old new ⊎ NothingDone v p old new → Leads v p (λ a. P p a ⊎ Q p a) old new ⊎ NothingDone v p old new
-      done_or_not p (inl r) = inl (record { given = r.given; right = inl r.right; happens = r.happens })
-      done_or_not p (inr lapsed) = inr lapsed
-
-  pub line_never_stops : (P Q : Place → Reply → Type 0) (line : Result (String Global) AllocError) (old new : PlaceInMemory D) → ReportsReply v P line old new → ReportsOrStops v P Q line old new
-  line_never_stops P Q (Ok text) old new reported = reported
-  line_never_stops P Q (Err e) old new reported = λ p at. ⊎_elim (λ (r : Replied v p (P p) old new). inl (record { given = r.given; right = inl r.right; happens = r.happens })) (λ lapsed. inr lapsed) (reported p at)
-
-  -- A boot that is refused has written nothing, or all that a boot writes, where memory was refused to its processes; or the device
-  -- failed in it.
-  module _ (old : PlaceInMemory D) (disk new : D) (taken : disk ≡ disk_at old) (leaves : LeavesOnly v disk new (λ c. v.may_leave disk c ⊎ IsLeftByBoot (v.seen disk) c))
-      (stored_all : (s : Stored) → ((c : List ℕ) → v.may_leave disk c → IsStoredAs s c) → KeepsStore v s disk new) (counted : v.failures disk ≤ v.failures new)
-      (why : BootError) (is : BootRefused (v.seen disk) (v.failures disk) (v.failures new) why) (only : (es : Releases) → IsImageOf (v.seen disk) es → IsLack why)
-      (line : Result (String Global) AllocError) (reported : IfOk line (λ text. string_bytes text ≡ boot_line why)) (wanting : why ≡ boot_error.NoMemory → IsErr line) where
-    abbrev Stops : Place → Reply → Type 0
-    Stops p a = Transition.StopsWithin p boots_node a
-
-    without_its_processes : (h : NodeStore D) → IsBootedFrom v disk h → new ≡ disk_in h → (l : Result (String Global) AllocError) → IsErr l → ReportsOrStops v Transition.Boots Stops l old (memory.Idle new)
-    without_its_processes h b same (Ok text) lapsed = absurd cc
-    without_its_processes h b same (Err e) lapsed =
-        boots old disk taken h b.works b.image b.acknowledged (b.sound.started b.works) b.list
-        (subst (λ d. LeavesOnly v disk d (λ c. v.may_leave disk c ⊎ IsLeftByBoot (v.seen disk) c)) same leaves) (λ s here. subst (KeepsStore v s disk) same (stored_all s here))
-        (subst (λ d. v.failures disk ≤ v.failures d) same counted) (Err e) (memory.Idle new) same
-
-    unwritten : (why ≢ boot_error.Device → IsQuiet disk new) → ReportsOrStops v Transition.Boots Stops line old (memory.Idle new)
-    unwritten read = line_never_stops Transition.Boots Stops line old (memory.Idle new) (boot_without_memory old disk new taken leaves stored_all counted why is read only line reported wanting)
-
-    pub boot_stopped : HasStopped v disk (new, why) → ReportsOrStops v Transition.Boots Stops line old (memory.Idle new)
-    boot_stopped (inl failed) = unwritten (λ other. absurd (other failed))
-    boot_stopped (inr (inl read)) = unwritten (λ other. (read.same, read.any_moment))
-    boot_stopped (inr (inr (lapsed, (h, b, same)))) = without_its_processes h b same line (wanting lapsed)
-
-  -- a line as an answer, where it may be stopped within
-  pub answers_or_stops : (P Q : Place → Reply → Type 0) (line : Result (String Global) AllocError) (result : Result (String Global) HandlerError) (old new : PlaceInMemory D)
-      → MatchResult line (λ text. result ≡ Ok text) (λ _. result ≡ Err handler_error.NoMemory) → ReportsOrStops v P Q line old new → AnswersOrStops v P Q result old new
-  answers_or_stops P Q (Ok text) result old new is reported = subst (λ r. AnswersOrStops v P Q r old new) (sym is) reported
-  answers_or_stops P Q (Err e) result old new is reported = subst (λ r. AnswersOrStops v P Q r old new) (sym is) (λ p at. inr (refl, reported p at))
+  answers_line P (Err e) result old new is reported = subst (λ r. Answers v P r old new) (sym is) (λ p at. inl (reported p at))
 
   -- from the place as the call took it
-  pub from_there : (P : Place → Reply → Type 0) (r : Result (String Global) HandlerError) (old there new : PlaceInMemory D) → old ≡ there → Answers v P r there new → Answers v P r old new
+  pub from_there : (P : Place → Reply → Type 0) (r : Result (String Global) Unanswered) (old there new : PlaceInMemory D) → old ≡ there → Answers v P r there new → Answers v P r old new
   from_there P r old there new is given = subst (λ o. Answers v P r o new) (sym is) given
-
-  pub stops_from_there : (P Q : Place → Reply → Type 0) (r : Result (String Global) HandlerError) (old there new : PlaceInMemory D) → old ≡ there → AnswersOrStops v P Q r there new → AnswersOrStops v P Q r old new
-  stops_from_there P Q r old there new is given = subst (λ o. AnswersOrStops v P Q r o new) (sym is) given
-
-  -- A refusal is reported, unless memory was refused.
-  pub reports_refusal : (P : Place → Reply → Type 0) (why : HandlerError) (old new : PlaceInMemory D)
-      → (why ≢ handler_error.NoMemory → (p : Place) → IsAt v old p → Replied v p (λ a. P p a × (a.answer ≡ refusal_line (refusal_of why))) old new)
-      → ((p : Place) → IsAt v old p → NothingDone v p old new) → Answers v P (Err why) old new
-  reports_refusal P why old new reported lapsed = λ p at. ⊎_elim (λ memory. inr (memory, inr (lapsed p at))) (λ known. inl (reported known p at)) (memory_or_not why)
 
   -- A command on the node that runs: P has what it replies there.
   module _ (P : Place → Reply → Type 0) (n : BootedNode D) (alive : is_dead n.handler ≡ false) where
     -- it is refused, and nothing of the node has changed
     pub refuses_running : (new : BootedNode D) → IsSame n.handler new.handler → processes_in new.processes ≡ processes_in n.processes → (why : HandlerError)
-        → (why ≢ handler_error.NoMemory → (events : Events) (extent : Extent) (ps : Processes) → P (running events extent ps) (refused (refusal_of why) (running events extent ps)))
-        → Answers v P (Err why) (memory.Made n) (memory.Made new)
-    refuses_running new same kept_on why right =
-        reports_refusal P why (memory.Made n) (memory.Made new) (λ known p at. stands known p at) (λ p at. leaves_all p (memory.Made n) (memory.Made new) same.disk (same_at n new p same kept_on at))
+        → ((events : Events) (extent : Extent) (ps : Processes) → P (running events extent ps) (refused (refusal_of why) (running events extent ps)))
+        → Answers v P (Err (unanswered.Refused why)) (memory.Made n) (memory.Made new)
+    refuses_running new same kept_on why right p at = stands p at
       where
-        stands : why ≢ handler_error.NoMemory → (p : Place) → IsAt v (memory.Made n) p → Replied v p (λ a. P p a × (a.answer ≡ refusal_line (refusal_of why))) (memory.Made n) (memory.Made new)
-        stands known (raw bytes) at = absurd at
-        stands known (closed s) at = absurd at
-        stands known (running events extent ps) at =
-            stays (running events extent ps) (refusal_line (refusal_of why)) _ (memory.Made n) (memory.Made new) at same.disk (same_at n new (running events extent ps) same kept_on at) (right known events extent ps, refl)
-        stands known (dead s) at = never (sym alive ∙ at.1)
+        stands : (p : Place) → IsAt v (memory.Made n) p → Replied v p (λ a. P p a × (a.answer ≡ refusal_line (refusal_of why))) (memory.Made n) (memory.Made new)
+        stands (raw bytes) at = absurd at
+        stands (closed s) at = absurd at
+        stands (running events extent ps) at =
+            stays (running events extent ps) (refusal_line (refusal_of why)) _ (memory.Made n) (memory.Made new) at same.disk (same_at n new (running events extent ps) same kept_on at) (right events extent ps, refl)
+        stands (dead s) at = never (sym alive ∙ at.1)
 
   -- Where no node runs, a command that would change one is refused.
   module _ (P : Place → Reply → Type 0) (right : (p : Place) → ((events : Events) (extent : Extent) (ps : Processes) → p ≡ running events extent ps → ⊥) → P p (refused dead_node p)) where
-    pub changes_dead : (n : BootedNode D) → is_dead n.handler ≡ true → Answers v P (Err handler_error.Dead) (memory.Made n) (memory.Made n)
+    pub changes_dead : (n : BootedNode D) → is_dead n.handler ≡ true → Answers v P (Err (unanswered.Refused handler_error.Dead)) (memory.Made n) (memory.Made n)
     changes_dead n gone (raw bytes) at = absurd at
     changes_dead n gone (closed s) at = absurd at
     changes_dead n gone (running events extent ps) at = never (sym at.1 ∙ gone)
-    changes_dead n gone (dead s) at = inl (stays (dead s) (refusal_line dead_node) _ (memory.Made n) (memory.Made n) at refl at (right (dead s) (λ es n ps e. cc e), refl))
+    changes_dead n gone (dead s) at = stays (dead s) (refusal_line dead_node) _ (memory.Made n) (memory.Made n) at refl at (right (dead s) (λ es n ps e. cc e), refl)
 
-    pub changes_nowhere : (disk : D) → Answers v P (Err handler_error.Dead) (memory.Idle disk) (memory.Idle disk)
-    changes_nowhere disk (raw bytes) at = inl (stays (raw bytes) (refusal_line dead_node) _ (memory.Idle disk) (memory.Idle disk) at refl at (right (raw bytes) (λ es n ps e. cc e), refl))
-    changes_nowhere disk (closed s) at = inl (stays (closed s) (refusal_line dead_node) _ (memory.Idle disk) (memory.Idle disk) at refl at (right (closed s) (λ es n ps e. cc e), refl))
+    pub changes_nowhere : (disk : D) → Answers v P (Err (unanswered.Refused handler_error.Dead)) (memory.Idle disk) (memory.Idle disk)
+    changes_nowhere disk (raw bytes) at = stays (raw bytes) (refusal_line dead_node) _ (memory.Idle disk) (memory.Idle disk) at refl at (right (raw bytes) (λ es n ps e. cc e), refl)
+    changes_nowhere disk (closed s) at = stays (closed s) (refusal_line dead_node) _ (memory.Idle disk) (memory.Idle disk) at refl at (right (closed s) (λ es n ps e. cc e), refl)
     changes_nowhere disk (running events extent ps) at = absurd at
     changes_nowhere disk (dead s) at = absurd at
 
-  -- where memory is refused
-  pub changes_no_memory : (P : Place → Reply → Type 0) (place : PlaceInMemory D) → Answers v P (Err handler_error.NoMemory) place place
-  changes_no_memory P place p at = inr (refl, inr (leaves_all p place place refl at))
+  -- where memory is refused before anything was done
+  pub changes_no_memory : (P : Place → Reply → Type 0) (place : PlaceInMemory D) → Answers v P (Err unanswered.NoMemory) place place
+  changes_no_memory P place p at = inr (leaves_all p place place refl at)
 
   -- A command is refused wherever the disk stands, before the node was asked.
   pub refuses_anywhere : (P : Place → Reply → Type 0) (place : PlaceInMemory D) (why : HandlerError)
-      → (why ≢ handler_error.NoMemory → (p : Place) → P p (refused (refusal_of why) p)) → Answers v P (Err why) place place
-  refuses_anywhere P place why right =
-      reports_refusal P why place place (λ known p at. stays p (refusal_line (refusal_of why)) _ place place at refl at (right known p, refl)) (λ p at. leaves_all p place place refl at)
+      → ((p : Place) → P p (refused (refusal_of why) p)) → Answers v P (Err (unanswered.Refused why)) place place
+  refuses_anywhere P place why right = λ p at. stays p (refusal_line (refusal_of why)) _ place place at refl at (right p, refl)
 
   -- `set_unpacked` where no node runs
   idle_sets : (source : Source) (path : List ℕ) (p : Place) → ((events : Events) (extent : Extent) (ps : Processes) → p ≡ running events extent ps → ⊥) → Transition.Transition source p (set_unpacked path) (refused dead_node p)
-  idle_sets source path (raw bytes) idle = (Transition.refuses dead_node, refl, refl)
-  idle_sets source path (closed s) idle = (Transition.refuses dead_node, refl, refl)
+  idle_sets source path (raw bytes) idle = (Transition.refuses dead_node, inl refl, refl)
+  idle_sets source path (closed s) idle = (Transition.refuses dead_node, inl refl, refl)
   idle_sets source path (running events extent ps) idle = absurd (idle events extent ps refl)
-  idle_sets source path (dead s) idle = (Transition.refuses dead_node, refl, refl)
+  idle_sets source path (dead s) idle = (Transition.refuses dead_node, inl refl, refl)
 
   -- and so are a change, a reboot, an installation and `start`
   idle_changes : (c : Transition.Change) (p : Place) → ((events : Events) (extent : Extent) (ps : Processes) → p ≡ running events extent ps → ⊥) → Transition.Acts p (changes_node c) (refused dead_node p)
@@ -499,6 +438,13 @@ module _ {D : Type 0} (v : Device D) (laws : IsDevice v) where
   idle_installs vsn (closed s) idle = refl
   idle_installs vsn (running events extent ps) idle = absurd (idle events extent ps refl)
   idle_installs vsn (dead s) idle = refl
+
+  -- the same of an action to which memory may be refused
+  pub idle_acts : (does : Transition.Action) (p : Place) → ((events : Events) (extent : Extent) (ps : Processes) → p ≡ running events extent ps → ⊥) → Transition.Acts p does (refused dead_node p) → ActsOrLacks does p (refused dead_node p)
+  idle_acts does (raw bytes) idle is = is
+  idle_acts does (closed s) idle is = is
+  idle_acts does (running events extent ps) idle is = absurd (idle events extent ps refl)
+  idle_acts does (dead s) idle is = is
 
   idle_reports : (p : Place) → ((events : Events) (extent : Extent) (ps : Processes) → p ≡ running events extent ps → ⊥) → Transition.Acts p reports_start (refused dead_node p)
   idle_reports (raw bytes) idle = refl
@@ -524,15 +470,15 @@ module _ {D : Type 0} (v : Device D) (laws : IsDevice v) where
   -- Where no node runs, each command that needs one is refused.
   pub idle_needs : (source : Source) (c : Command) → NeedsNode c → (p : Place) → ((events : Events) (extent : Extent) (ps : Processes) → p ≡ running events extent ps → ⊥) → Transition.Transition source p c (refused dead_node p)
   idle_needs source (set_unpacked path) needs p idle = idle_sets source path p idle
-  idle_needs source (check vsn) needs p idle = (answers (Transition.reported (λ list ps. Transition.check_line vsn list) p), refl, idle_reported (λ list ps. Transition.check_line vsn list) p idle)
-  idle_needs source (permanent vsn) needs p idle = (changes_node (Transition.permanence vsn), refl, idle_changes (Transition.permanence vsn) p idle)
-  idle_needs source (remove vsn) needs p idle = (changes_node (Transition.removal vsn), refl, idle_changes (Transition.removal vsn) p idle)
-  idle_needs source start needs p idle = (reports_start, refl, idle_reports p idle)
-  idle_needs source procs needs p idle = (answers (Transition.asked processes_line p), refl, idle_asked processes_line p idle)
-  idle_needs source modules needs p idle = (answers (Transition.asked modules_line p), refl, idle_asked modules_line p idle)
-  idle_needs source (peek app id) needs p idle = (answers (Transition.asked (peek_line app id) p), refl, idle_asked (peek_line app id) p idle)
-  idle_needs source (call app id input) needs p idle = (calls (once app id input), refl, idle_calls (once app id input) p idle)
-  idle_needs source (flood app id input times) needs p idle = (calls (often app id input times), refl, idle_calls (often app id input times) p idle)
+  idle_needs source (check vsn) needs p idle = (answers (Transition.reported (λ list ps. Transition.check_line vsn list) p), inl refl, idle_reported (λ list ps. Transition.check_line vsn list) p idle)
+  idle_needs source (permanent vsn) needs p idle = (changes_node (Transition.permanence vsn), inl refl, idle_changes (Transition.permanence vsn) p idle)
+  idle_needs source (remove vsn) needs p idle = (changes_node (Transition.removal vsn), inl refl, idle_changes (Transition.removal vsn) p idle)
+  idle_needs source start needs p idle = (reports_start, inl refl, idle_reports p idle)
+  idle_needs source procs needs p idle = (answers (Transition.asked processes_line p), inl refl, idle_asked processes_line p idle)
+  idle_needs source modules needs p idle = (answers (Transition.asked modules_line p), inl refl, idle_asked modules_line p idle)
+  idle_needs source (peek app id) needs p idle = (answers (Transition.asked (peek_line app id) p), inl refl, idle_asked (peek_line app id) p idle)
+  idle_needs source (call app id input) needs p idle = (calls (once app id input), inl refl, idle_calls (once app id input) p idle)
+  idle_needs source (flood app id input times) needs p idle = (calls (often app id input times), inl refl, idle_calls (often app id input times) p idle)
   idle_needs source (file path f) needs p idle = absurd needs
   idle_needs source (create path) needs p idle = absurd needs
   idle_needs source (install vsn) needs p idle = absurd needs

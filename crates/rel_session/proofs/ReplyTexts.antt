@@ -1,5 +1,5 @@
 -- What a command answers, and what its answer is in a session.
-use Rattle.std.proofs.Common.{◌≡◌, ◌⊎◌, inl, inr, ⊎_elim, ℕ, List, Option, Some, None, Result, Ok, Err, refl, sym, ◌∙◌, subst}
+use Rattle.std.proofs.Common.{◌≡◌, inl, inr, ⊎_elim, ℕ, List, Option, Some, None, Result, Ok, Err, refl, sym, ◌∙◌, subst}
 use Rattle.std.specs.Prelude.{IfOk, OnOk, MatchResult, String, string_bytes, codes}
 use Rattle.std.specs.declared.alloc.Global.{Global}
 use Rattle.std.specs.declared.alloc.AllocError.{AllocError}
@@ -7,8 +7,8 @@ use Rattle.session_input.specs.declared.error.SessionError.{SessionError}
 use Rattle.rel_session.specs.declared.given_files.GivenFiles.{GivenFiles}
 use Rattle.rel_session.specs.declared.node.SessionNode.{SessionNode}
 use Rattle.rel_session.specs.declared.place.Place.{Place as PlaceInMemory}
-use Rattle.node_command.specs.declared.error.HandlerError.{HandlerError}
-use Rattle.node_command.specs.declared.error.HandlerError.TheVariants as handler_error
+use Rattle.rel_session.specs.declared.unanswered.Unanswered.{Unanswered}
+use Rattle.rel_session.specs.declared.unanswered.Unanswered.TheVariants as unanswered
 use Rattle.session_input.specs.Commands.{Command, File, command_of}
 use Rattle.session_input.specs.Commands.Command.{file}
 use Rattle.session_input.specs.declared.command.Command.{Command as CommandInMemory}
@@ -17,14 +17,17 @@ use Rattle.node_processes.specs.Processes.{Processes}
 use Rattle.rel_session.specs.Device.{Device}
 use Rattle.rel_unpack.specs.Source.{Source}
 use Rattle.rel_session.specs.Files.{Files, files_of, files_behind, give, source_of}
-use Rattle.rel_session.specs.InMemory.{IsAt, Replied, Leads, NothingDone, Answers, AnswersAsked, AnswersReported, AnswersAction, AnswersCommand, AsksNode, FollowsCommand, IsLine, IsText}
+use Rattle.rel_session.specs.InMemory.{ActsOrLacks, IsAt, Replied, Leads, Answers, AnswersAsked, AnswersReported, AnswersAction, AnswersCommand, AsksNode, FollowsCommand, IsLine, IsText}
+use Rattle.node_store.specs.Events.{Events}
+use Rattle.node_store.specs.Image.{Extent}
 use Rattle.rel_session.specs.Node.{Place, Reply, reply, nothing}
-use Rattle.node_answer.specs.Refusals.{refusal_of, refusal_line}
+use Rattle.rel_session.specs.Node.Place.{raw, closed, running, dead}
 use Rattle.rel_list.specs.Releases.{Releases}
-use Rattle.rel_session.specs.Transition.{Action, ComesTo, Acts, asked, reported as reported_by_node, StopsWithin, IsStopped, Transition}
+use Rattle.rel_session.specs.Transition.{Action, ComesTo, Acts, asked, memory_line, memory_report_at, reported as reported_by_node, Transition}
 use Rattle.rel_session.specs.Transition.Action.{answers}
 use Rattle.rel_session.proofs.DeviceLemmas.{IsDevice}
-use Rattle.rel_session.proofs.Replies.{stays, leaves_all, changes_no_memory, never_stops}
+use Rattle.rel_session.proofs.ReleaseLemmas.{lacks_memory}
+use Rattle.rel_session.proofs.Replies.{stays, leaves_all, changes_no_memory}
 
 module _ {D : Type 0} (v : Device D) where
   module _ (old new : PlaceInMemory D) where
@@ -36,57 +39,44 @@ module _ {D : Type 0} (v : Device D) where
     leads_so p P Q implies r = record { given = r.given; right = implies r.given r.right; happens = r.happens }
 
     -- What was answered by these replies was answered by those.
-    answers_so : (P Q : Place → Reply → Type 0) → ((p : Place) (a : Reply) → P p a → Q p a) → (r : Result (String Global) HandlerError) → Answers v P r old new → Answers v Q r old new
+    answers_so : (P Q : Place → Reply → Type 0) → ((p : Place) (a : Reply) → P p a → Q p a) → (r : Result (String Global) Unanswered) → Answers v P r old new → Answers v Q r old new
     answers_so P Q right (Ok text) given = λ p at. replied_so p _ _ (λ a is. (right p a is.0, is.1)) (given p at)
-    answers_so P Q right (Err why) given = λ p at. by_reply p (given p at)
-      where
-        by_reply : (p : Place) → Replied v p (λ a. P p a × (a.answer ≡ refusal_line (refusal_of why))) old new ⊎ ((why ≡ handler_error.NoMemory) × (Replied v p (P p) old new ⊎ NothingDone v p old new))
-            → Replied v p (λ a. Q p a × (a.answer ≡ refusal_line (refusal_of why))) old new ⊎ ((why ≡ handler_error.NoMemory) × (Replied v p (Q p) old new ⊎ NothingDone v p old new))
-        by_reply p (inl r) = inl (replied_so p _ _ (λ a is. (right p a is.0, is.1)) r)
-        by_reply p (inr (memory, inl r)) = inr (memory, inl (replied_so p _ _ (right p) r))
-        by_reply p (inr (memory, inr lapsed)) = inr (memory, inr lapsed)
-
-    -- what is answered by no function that is stopped within
-    pub never_stopped : IsDevice v → (source : Source) (command : Command) (r : Result (String Global) HandlerError) → Answers v (λ p a. Transition source p command a) r old new → AnswersCommand v source command r old new
-    never_stopped laws source command r given = never_stops v laws _ _ r old new given
+    answers_so P Q right (Err (unanswered.Refused why)) given = λ p at. replied_so p _ _ (λ a is. (right p a is.0, is.1)) (given p at)
+    answers_so P Q right (Err unanswered.NoMemory) given = λ p at.
+        ⊎_elim (λ (l : Leads v p (P p) old new). inl (record { given = l.given; right = right p l.given l.right; happens = l.happens })) (λ lapsed. inr lapsed) (given p at)
 
     -- What is answered to a command is answered to one that equals it.
-    module _ (source : Source) (command c : Command) (r : Result (String Global) HandlerError) (is : command ≡ c) where
+    module _ (source : Source) (command c : Command) (r : Result (String Global) Unanswered) (is : command ≡ c) where
       pub answers_command : Answers v (λ p a. Transition source p c a) r old new → Answers v (λ p a. Transition source p command a) r old new
       answers_command given = subst (λ d. Answers v (λ p a. Transition source p d a) r old new) (sym is) given
 
-      pub stops_command : AnswersCommand v source c r old new → AnswersCommand v source command r old new
-      stops_command given = subst (λ d. AnswersCommand v source d r old new) (sym is) given
-
       -- so it is answered by what it asks of the processes
       pub reports_node : (says : Releases → Processes → List ℕ) → ((p : Place) → ComesTo source p c (answers (reported_by_node says p))) → AnswersReported v says r old new → Answers v (λ p a. Transition source p command a) r old new
-      reports_node says comes given = answers_command (answers_so _ _ (λ p a acts. (answers (reported_by_node says p), comes p, acts)) r given)
+      reports_node says comes given = answers_command (answers_so _ _ (λ p a acts. (answers (reported_by_node says p), inl (comes p), acts)) r given)
 
       pub asks_node : (says : Processes → List ℕ) → ((p : Place) → ComesTo source p c (answers (asked says p))) → AnswersAsked v says r old new → Answers v (λ p a. Transition source p command a) r old new
       asks_node says = reports_node (λ list ps. says ps)
 
       module _ (does : Action) (comes : (p : Place) → ComesTo source p c does) where
-        pub answers_action : Answers v (λ p a. Acts p does a) r old new → Answers v (λ p a. Transition source p command a) r old new
-        answers_action given = answers_command (answers_so _ _ (λ p a acts. (does, comes p, acts)) r given)
+        pub answers_acts : Answers v (λ p a. Acts p does a) r old new → Answers v (λ p a. Transition source p command a) r old new
+        answers_acts given = answers_command (answers_so _ _ (λ p a acts. (does, inl (comes p), acts)) r given)
 
-        -- it may be stopped within
-        pub stops_action : AnswersAction v does r old new → AnswersCommand v source command r old new
-        stops_action given = subst (λ d. AnswersCommand v source d r old new) (sym is) (stops_so r given)
+        -- memory may be refused to its call
+        pub answers_action : ((events : Events) (extent : Extent) (ps : Processes) → memory_report_at (running events extent ps) c ≡ Some memory_line) → AnswersAction v does r old new → Answers v (λ p a. Transition source p command a) r old new
+        answers_action reports given = answers_command (answers_so _ _ by_place r given)
           where
-            leads_then : (p : Place) → Leads v p (λ a. Acts p does a ⊎ StopsWithin p does a) old new → Leads v p (λ a. Transition source p c a ⊎ IsStopped source p c a) old new
-            leads_then p l =
-                record { given = l.given; right = ⊎_elim (λ acts. inl (does, comes p, acts)) (λ stopped. inr (does, comes p, stopped)) l.right; happens = l.happens }
-
-            stops_so : (r : Result (String Global) HandlerError) → AnswersAction v does r old new → AnswersCommand v source c r old new
-            stops_so (Ok text) given = λ p at. replied_so p _ _ (λ a right. ((does, comes p, right.0), right.1)) (given p at)
-            stops_so (Err why) given = λ p at.
-                ⊎_elim (λ reported. inl (replied_so p _ _ (λ a right. ((does, comes p, right.0), right.1)) reported))
-                (λ (memory, r). inr (memory, ⊎_elim (λ l. inl (leads_then p l)) (λ lapsed. inr lapsed) r)) (given p at)
+            by_place : (p : Place) (a : Reply) → ActsOrLacks does p a → Transition source p c a
+            by_place (raw bytes) a acts = (does, inl (comes (raw bytes)), acts)
+            by_place (closed s) a acts = (does, inl (comes (closed s)), acts)
+            by_place (running events extent ps) a (inl acts) = (does, inl (comes (running events extent ps)), acts)
+            by_place (running events extent ps) a (inr lacks) =
+                subst (Transition source (running events extent ps) c) (sym lacks) (lacks_memory source (running events extent ps) c memory_line (reports events extent ps))
+            by_place (dead s) a acts = (does, inl (comes (dead s)), acts)
 
   module _ (laws : IsDevice v) where
     -- A command left the place as it was, and gave a line.
-    pub answers_still : (place : PlaceInMemory D) (answer : Place → List ℕ) (Q : Place → Reply → Type 0) → ((p : Place) → Q p (reply (answer p) nothing p)) → (line : Result (String Global) AllocError) (r : Result (String Global) HandlerError)
-        → MatchResult line (λ text. r ≡ Ok text) (λ _. r ≡ Err handler_error.NoMemory) → IfOk line (λ s. (p : Place) → IsAt v place p → string_bytes s ≡ answer p) → Answers v Q r place place
+    pub answers_still : (place : PlaceInMemory D) (answer : Place → List ℕ) (Q : Place → Reply → Type 0) → ((p : Place) → Q p (reply (answer p) nothing p)) → (line : Result (String Global) AllocError) (r : Result (String Global) Unanswered)
+        → MatchResult line (λ text. r ≡ Ok text) (λ _. r ≡ Err unanswered.NoMemory) → IfOk line (λ s. (p : Place) → IsAt v place p → string_bytes s ≡ answer p) → Answers v Q r place place
     answers_still place answer Q right (Ok s) r is says =
         subst (λ q. Answers v Q q place place) (sym is) (λ p at. stays v laws p (answer p) (λ a. Q p a × (a.answer ≡ string_bytes s)) place place at refl at (right p, sym (says p at)))
     answers_still place answer Q right (Err e) r is says = subst (λ q. Answers v Q q place place) (sym is) (changes_no_memory v laws Q place)
@@ -99,9 +89,13 @@ module _ {D : Type 0} (v : Device D) where
       kept,
       λ p at.
           stays v laws p (codes "ok\n") (λ a. Transition (source_of base (files_of old.files)) p (file path f) a × (a.answer ≡ string_bytes s)) old.place old.place at refl at
-          ((answers (codes "ok\n"), refl, refl), sym reported),
+          ((answers (codes "ok\n"), inl refl, refl), sym reported),
     )
     gives base old files path f (Err e) kept reported = λ p at. inr (leaves_all v laws p old.place old.place refl at)
+
+    -- Memory was refused before a command was followed.
+    pub not_followed : (base : Source) (command : Command) (e : SessionError) (old : SessionNode D) → FollowsCommand v base command (Err e) old old
+    not_followed base command e old = λ p at. inr (leaves_all v laws p old.place old.place refl at)
 
   -- A command that is asked of the node changes no files.
   files_stay : (files : Files) (m : CommandInMemory) → AsksNode m → files ≡ files_behind files (command_of m)
@@ -136,17 +130,15 @@ module _ {D : Type 0} (v : Device D) where
     abbrev new : SessionNode D
     new = record { place = place; files = old.files }
 
-    ended : (r : Result (String Global) HandlerError) → AnswersCommand v (source_of base (files_of old.files)) command r old.place place → (p : Place) → IsAt v old.place p
-        → Leads v p (λ a. Does p a ⊎ IsStopped (source_of base (files_of old.files)) p command a) old.place place ⊎ NothingDone v p old.place place
-    ended (Ok answer) given p at = inl (leads_so old.place place p _ _ (λ a is. inl is.0) (given p at))
-    ended (Err why) given p at = ⊎_elim (λ reported. inl (leads_so old.place place p _ _ (λ a is. inl is.0) reported)) (λ (memory, r). r) (given p at)
-
-    pub follows : (r : Result (String Global) HandlerError) (line : Result (Option (String Global)) SessionError) → IfOk line (λ text. IsLine r text)
+    pub follows : (r : Result (String Global) Unanswered) (line : Result (Option (String Global)) SessionError) → IsLine r line
         → AnswersCommand v (source_of base (files_of old.files)) command r old.place place → FollowsCommand v base command line old new
-    follows r (Ok None) is given = absurd is
+    follows (Ok answer) (Ok None) is given = absurd is
     follows (Ok answer) (Ok (Some text)) is given = (files_stay (files_of old.files) m other, λ p at. replied_so old.place place p _ _ (λ a reported. (reported.0, reported.1 ∙ sym is)) (given p at))
-    follows (Err why) (Ok (Some text)) (known, is) given = (
-      files_stay (files_of old.files) m other,
-      λ p at. ⊎_elim (λ r. replied_so old.place place p _ _ (λ a reported. (reported.0, reported.1 ∙ sym is)) r) (λ lapsed. absurd (known lapsed.0)) (given p at),
-    )
-    follows r (Err e) is given = ended r given
+    follows (Ok answer) (Err e) is given = absurd is
+    follows (Err (unanswered.Refused why)) (Ok None) is given = absurd is
+    follows (Err (unanswered.Refused why)) (Ok (Some text)) is given =
+        (files_stay (files_of old.files) m other, λ p at. replied_so old.place place p _ _ (λ a reported. (reported.0, reported.1 ∙ sym is)) (given p at))
+    follows (Err (unanswered.Refused why)) (Err e) is given = λ p at. inl (leads_so old.place place p _ _ (λ a is. is.0) (given p at))
+    follows (Err unanswered.NoMemory) (Ok None) is given = absurd is
+    follows (Err unanswered.NoMemory) (Ok (Some text)) is given = absurd is
+    follows (Err unanswered.NoMemory) (Err e) is given = given

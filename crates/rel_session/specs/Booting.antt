@@ -1,19 +1,19 @@
 -- What a boot of a node replies.
-use Rattle.std.specs.Prelude.{◌≡◌, ◌⊎◌, ℕ, List, [], ◌∷◌, ◌++◌, codes, Some}
+use Rattle.std.specs.Prelude.{◌≡◌, ◌⊎◌, ℕ, Bool, true, false, List, [], ◌∷◌, ◌++◌, codes, Some}
 use Rattle.rel_list.specs.Releases.{Releases, running as running_release}
 use Rattle.rel_list.specs.Event.{Event, booted, list_after}
 use Rattle.rel_list.specs.Event.Event.{boot as booting}
 use Rattle.rel_handler.specs.declared.error.BootError.{BootError}
 use Rattle.rel_handler.specs.declared.error.BootError.TheVariants as boot_error
 use Rattle.node_store.specs.Events.{Events, Stored, MayHave, certain, uncertain_boot}
-use Rattle.node_store.specs.Image.{Extent, booted_extent, IsImageAt}
+use Rattle.node_store.specs.Image.{Extent, booted_extent, IsImageAt, IsLeftByBoot}
 use Rattle.rel_handler.specs.Refusals.{IsBootRefusal}
 use Rattle.node_store.specs.State.{version_of}
 use Rattle.node_answer.specs.Lines.{ok_line}
-use Rattle.rel_session.specs.Node.{Place, just_booted, Reply, reply, nothing, done, failed_with}
+use Rattle.rel_session.specs.Node.{Place, CommandOutcome, just_booted, Reply, reply, nothing, done}
 use Rattle.rel_session.specs.Node.Place.{raw, closed, running, dead}
 
--- the line that reports why a boot is refused: its number and its name; out of memory is never reported
+-- the line that reports why a boot is refused: its number and its name
 abbrev pub boot_line : BootError → List ℕ
 boot_line boot_error.NotAStore = codes "error boot 1 NotAStore\n"
 boot_line (boot_error.Damaged at) = codes "error boot 2 Damaged\n"
@@ -28,28 +28,54 @@ AnswersBoot events extent a =
     × (a ≡ reply (ok_line (version_of (running_release (booted list)))) (done (booting ∷ []))
     (just_booted (events ++ booting ∷ []) (booted_extent extent list)))
 
--- a boot in which the device failed, so that its event is in doubt
-abbrev pub boot_failed : Place → Reply
-boot_failed p = reply (boot_line boot_error.Device) (failed_with (Some booting)) p
+-- What a boot lacked that could have been done: a device that works, or memory, for itself or for the processes of its node.
+pub data Lack : Type 0 where
+  device_failed : Lack
+  memory_refused : Lack
 
--- A boot of a disk with these bytes: they stand for the list of some events, or are refused, or the device failed.
+abbrev pub lack_error : Lack → BootError
+lack_error device_failed = boot_error.Device
+lack_error memory_refused = boot_error.NoMemory
+
+-- the device failed in it
+abbrev pub is_failure : Lack → Bool
+is_failure device_failed = true
+is_failure memory_refused = false
+
+-- what a boot did that was not done for such a lack: its event is in doubt
+abbrev pub undone : Lack → CommandOutcome
+undone lack = record { acknowledged = []; in_doubt = Some booting; failed = is_failure lack }
+
+-- the reply then: no node runs after it
+abbrev pub boot_undone : Lack → Place → Reply
+boot_undone lack p = reply (boot_line (lack_error lack)) (undone lack) p
+
+-- What a read gives after a boot of these bytes that was not done. Where memory was refused, nothing was written, or what a boot
+-- writes.
+abbrev pub IsLeftUndone : Lack → List ℕ → List ℕ → Type 0
+IsLeftUndone device_failed bytes torn = Unit {0}
+IsLeftUndone memory_refused bytes torn = (torn ≡ bytes) ⊎ IsLeftByBoot bytes torn
+
+-- A boot of a disk with these bytes: they stand for the list of some events, or are refused, or it was not done for a lack.
 abbrev pub BootsBytes : List ℕ → Reply → Type 0
 BootsBytes bytes a =
     ((events : Events) × (list : Releases) × (extent : Extent) × (list_after events ≡ Some list) × IsImageAt bytes list extent
     × AnswersBoot events extent a)
     ⊎ (((why : BootError) × IsBootRefusal bytes why × (a ≡ reply (boot_line why) nothing (raw bytes)))
-    ⊎ ((torn : List ℕ) × (a ≡ boot_failed (raw torn))))
+    ⊎ ((lack : Lack) × (torn : List ℕ) × IsLeftUndone lack bytes torn × (a ≡ boot_undone lack (raw torn))))
 
--- The device failed in the boot of a store, before it had settled which events the store has, or after that.
-abbrev pub FailsOnStore : Stored → Reply → Type 0
-FailsOnStore s a =
-    (a ≡ boot_failed (closed s))
-    ⊎ ((events : Events) × (extent : Extent) × MayHave s events extent × (a ≡ boot_failed (closed (uncertain_boot s.known.ran events extent))))
+-- A boot of a store was not done for a lack, which came before it had settled which events the store has, or after that.
+abbrev pub IsUndone : Stored → Lack → Reply → Type 0
+IsUndone s lack a =
+    (a ≡ boot_undone lack (closed s))
+    ⊎ ((events : Events) × (extent : Extent) × MayHave s events extent
+    × (a ≡ boot_undone lack (closed (uncertain_boot s.known.ran events extent))))
 
 -- A boot of a store: it has the acknowledged events, with the one in doubt or without.
 abbrev pub BootsStore : Stored → Reply → Type 0
 BootsStore s a =
-    ((events : Events) × (extent : Extent) × MayHave s events extent × AnswersBoot events extent a) ⊎ FailsOnStore s a
+    ((events : Events) × (extent : Extent) × MayHave s events extent × AnswersBoot events extent a)
+    ⊎ ((lack : Lack) × IsUndone s lack a)
 
 -- What a boot replies, wherever the disk stands.
 abbrev pub Boots : Place → Reply → Type 0

@@ -1,8 +1,11 @@
 -- A session's node in memory, and what its functions do to it.
-use Rattle.std.specs.Prelude.{◌≡◌, ◌≢◌, ◌⊎◌, ℕ, ◌≤◌, true, false, List, Option, None, Some, Result, Ok, Err, String, string_bytes}
+use Rattle.std.specs.Prelude.{◌≡◌, ◌≢◌, ◌⊎◌, ℕ, ◌≤◌, true, false, List, ◌++◌, Option, None, Some, Result, Ok, Err, IfOk, String, string_bytes}
 use Rattle.std.specs.declared.alloc.Global.{Global}
 use Rattle.std.specs.declared.alloc.AllocError.{AllocError}
 use Rattle.rel_unpack.specs.Source.{Source}
+use Rattle.rel_unpack.specs.declared.error.UnpackError.{UnpackError}
+use Rattle.rel_unpack.specs.declared.error.UnpackError.TheVariants as unpack
+use Rattle.node_command.specs.Files.{reported_files}
 use Rattle.rel_list.specs.Releases.{Releases, running as running_release}
 use Rattle.rel_list.specs.Event.{list_after}
 use Rattle.node_store.specs.declared.node_store.NodeStore.{NodeStore}
@@ -12,6 +15,7 @@ use Rattle.rel_handler.specs.Installing.{install_event, install_room, install_si
 use Rattle.node_store.specs.State.{disk_in, extent_in, list_in, is_dead, HasStarted, IsSound}
 use Rattle.loaded_modules.specs.Loaded.{listed_in}
 use Rattle.session_input.specs.declared.error.SessionError.{SessionError}
+use Rattle.session_input.specs.declared.error.SessionError.TheVariants as session_error
 use Rattle.node_processes.specs.Fresh.{fresh_processes}
 use Rattle.node_processes.specs.InMemory.{processes_in, AreSound}
 use Rattle.node_start.specs.Begun.{HaveJustBegun, fresh_beginnings}
@@ -19,8 +23,8 @@ use Rattle.rel_session.specs.declared.booted_node.BootedNode.{BootedNode}
 use Rattle.rel_session.specs.declared.node.SessionNode.{SessionNode}
 use Rattle.rel_session.specs.declared.place.Place.{Place as PlaceInMemory}
 use Rattle.rel_session.specs.declared.place.Place.TheVariants as memory
-use Rattle.node_command.specs.declared.error.HandlerError.{HandlerError}
-use Rattle.node_command.specs.declared.error.HandlerError.TheVariants as handler_error
+use Rattle.rel_session.specs.declared.unanswered.Unanswered.{Unanswered}
+use Rattle.rel_session.specs.declared.unanswered.Unanswered.TheVariants as unanswered
 use Rattle.session_input.specs.Commands.{Command}
 use Rattle.session_input.specs.Commands.Command.{set_unpacked, check, permanent, remove, start, procs, modules, peek, call, flood, quit}
 use Rattle.session_input.specs.declared.command.Command.{Command as CommandInMemory}
@@ -28,7 +32,7 @@ use Rattle.session_input.specs.declared.command.Command.TheVariants as asked
 use Rattle.session_input.specs.declared.given.GivenFile.{GivenFile}
 use Rattle.rel_session.specs.Device.{Device, LeavesOnly}
 use Rattle.rel_session.specs.Files.{files_of, files_behind, source_of}
-use Rattle.rel_session.specs.Node.{Place, Reply}
+use Rattle.rel_session.specs.Node.{Place, Reply, refused}
 use Rattle.rel_session.specs.Node.Place.{raw, closed, running, dead}
 use Rattle.erl_term.specs.Value.{value_of}
 use Rattle.node_upgrade.specs.declared.error.InstallError.{InstallError}
@@ -36,15 +40,15 @@ use Rattle.node_upgrade.specs.declared.error.InstallError.TheVariants as install
 use Rattle.node_upgrade.specs.declared.upgrade.Installed.{Installed}
 use Rattle.node_upgrade.specs.Failure.{failure_of}
 use Rattle.node_upgrade.specs.Running.{NodeState, state}
-use Rattle.node_upgrade.specs.Failure.Why.{fails}
-use Rattle.script_progress.specs.Fault.Cause.{no_memory}
 use Rattle.node_answer.specs.Lines.{installed_text}
 use Rattle.node_answer.specs.Refusals.{refusal_of, refusal_line}
-use Rattle.node_answer.specs.Refusals.NodeRefusal.{must_reboot, script_refused}
+use Rattle.node_answer.specs.Refusals.NodeRefusal.{must_reboot, no_memory, script_refused}
 use Rattle.rel_session.specs.Run.{Holds, Happens}
 use Rattle.node_processes.specs.Processes.{Processes}
 use Rattle.node_answer.specs.Lines.{ok_line}
-use Rattle.rel_session.specs.Transition.{Action, Acts, reported, StopsWithin, Transition, IsStopped, version_of}
+use Rattle.rel_handler.specs.declared.error.BootError.TheVariants as boot_error
+use Rattle.rel_session.specs.Booting.{boot_line}
+use Rattle.rel_session.specs.Transition.{Action, Acts, relup_memory_line, reported, Transition, version_of}
 use Rattle.rel_session.specs.Transition.Action.{answers}
 
 abbrev pub disk_at : {D : Type 0} → PlaceInMemory D → D
@@ -92,61 +96,63 @@ pub record NothingDone {D : Type 0} (v : Device D) (p : Place) (old new : PlaceI
   pub holds : Holds v p (disk_at new)
   pub counted : v.failures (disk_at old) ≤ v.failures (disk_at new)
 
--- A command gave this result, wherever it began: its answer, or why it was refused. P says which replies are right. Where
--- memory is refused, it may have been done.
-abbrev pub Answers : {D : Type 0} → Device D → (Place → Reply → Type 0) → Result (String Global) HandlerError
+-- A command ended in the session's own want of memory, for its answer or before it began: it was done, or nothing was.
+abbrev pub EndsUnanswered : {D : Type 0} → Device D → (Place → Reply → Type 0) → PlaceInMemory D → PlaceInMemory D → Type 0
+EndsUnanswered v P old new = (p : Place) → IsAt v old p → Leads v p (P p) old new ⊎ NothingDone v p old new
+
+-- A command gave this result, wherever it began: its answer, or why it was refused, or no memory for its answer. P says which
+-- replies are right.
+abbrev pub Answers : {D : Type 0} → Device D → (Place → Reply → Type 0) → Result (String Global) Unanswered
     → PlaceInMemory D → PlaceInMemory D → Type 0
 Answers v P (Ok text) old new =
     (p : Place) → IsAt v old p → Replied v p (λ a. P p a × (a.answer ≡ string_bytes text)) old new
-Answers v P (Err why) old new =
-    (p : Place) → IsAt v old p
-    → Replied v p (λ a. P p a × (a.answer ≡ refusal_line (refusal_of why))) old new
-    ⊎ ((why ≡ handler_error.NoMemory) × (Replied v p (P p) old new ⊎ NothingDone v p old new))
+Answers v P (Err (unanswered.Refused why)) old new =
+    (p : Place) → IsAt v old p → Replied v p (λ a. P p a × (a.answer ≡ refusal_line (refusal_of why))) old new
+Answers v P (Err unanswered.NoMemory) old new = EndsUnanswered v P old new
 
--- A command gave this line. Where memory is refused, it may have been done, or stopped within: Q says what stands in place of the
--- reply then.
-abbrev pub ReportsOrStops : {D : Type 0} → Device D → (P Q : Place → Reply → Type 0) → Result (String Global) AllocError
+-- A command was done, and gave this line, in which its answer stands after a text, unless there was no memory for that.
+abbrev pub AnswersAfter : {D : Type 0} → Device D → List ℕ → (Place → Reply → Type 0) → Result (String Global) AllocError
     → PlaceInMemory D → PlaceInMemory D → Type 0
-ReportsOrStops v P Q (Ok text) old new =
-    (p : Place) → IsAt v old p → Replied v p (λ a. P p a × (a.answer ≡ string_bytes text)) old new
-ReportsOrStops v P Q (Err e) old new =
-    (p : Place) → IsAt v old p → Leads v p (λ a. P p a ⊎ Q p a) old new ⊎ NothingDone v p old new
+AnswersAfter v text P (Ok line) old new =
+    (p : Place) → IsAt v old p → Replied v p (λ a. P p a × (text ++ a.answer ≡ string_bytes line)) old new
+AnswersAfter v text P (Err e) old new = (p : Place) → IsAt v old p → Leads v p (P p) old new
 
--- A command gave this result: its answer, or why it was refused. Where memory is refused, it may have been done, or stopped
--- within: Q says what stands in place of the reply then.
-abbrev pub AnswersOrStops : {D : Type 0} → Device D → (P Q : Place → Reply → Type 0)
-    → Result (String Global) HandlerError → PlaceInMemory D → PlaceInMemory D → Type 0
-AnswersOrStops v P Q (Ok text) old new =
-    (p : Place) → IsAt v old p → Replied v p (λ a. P p a × (a.answer ≡ string_bytes text)) old new
-AnswersOrStops v P Q (Err why) old new =
-    (p : Place) → IsAt v old p
-    → Replied v p (λ a. P p a × (a.answer ≡ refusal_line (refusal_of why))) old new
-    ⊎ ((why ≡ handler_error.NoMemory) × (Leads v p (λ a. P p a ⊎ Q p a) old new ⊎ NothingDone v p old new))
+-- What a node replies to an action, or, where it runs, that memory was refused to the call of its handler: nothing was done.
+abbrev pub ActsOrLacks : Action → Place → Reply → Type 0
+ActsOrLacks does (running events extent ps) a =
+    Acts (running events extent ps) does a ⊎ (a ≡ refused no_memory (running events extent ps))
+ActsOrLacks does p a = Acts p does a
 
--- An action gave this result, or was stopped within.
-abbrev pub AnswersAction : {D : Type 0} → Device D → Action → Result (String Global) HandlerError
+-- An action gave this result.
+abbrev pub AnswersAction : {D : Type 0} → Device D → Action → Result (String Global) Unanswered
     → PlaceInMemory D → PlaceInMemory D → Type 0
-AnswersAction v does result old new = AnswersOrStops v (λ p a. Acts p does a) (λ p a. StopsWithin p does a) result old new
+AnswersAction v does result old new = Answers v (ActsOrLacks does) result old new
 
 -- A node was asked for a text about its releases and its processes, and gave this result.
-abbrev pub AnswersReported : {D : Type 0} → Device D → (Releases → Processes → List ℕ) → Result (String Global) HandlerError
+abbrev pub AnswersReported : {D : Type 0} → Device D → (Releases → Processes → List ℕ) → Result (String Global) Unanswered
     → PlaceInMemory D → PlaceInMemory D → Type 0
 AnswersReported v says result old new = Answers v (λ p a. Acts p (answers (reported says p)) a) result old new
 
 -- A node was asked for a text about its processes alone, and gave this result.
-abbrev pub AnswersAsked : {D : Type 0} → Device D → (Processes → List ℕ) → Result (String Global) HandlerError
+abbrev pub AnswersAsked : {D : Type 0} → Device D → (Processes → List ℕ) → Result (String Global) Unanswered
     → PlaceInMemory D → PlaceInMemory D → Type 0
 AnswersAsked v says result old new = AnswersReported v (λ list ps. says ps) result old new
 
 -- The handler of a node that has just booted is at this place, with its processes, which have begun in the node's table, where
--- nothing else has happened, and this line reports the version that runs; or memory was refused, and its disk alone is left.
-abbrev pub IsNodeStarted : {D : Type 0} → NodeStore D → Result (String Global) AllocError → PlaceInMemory D → Type 0
-IsNodeStarted h (Ok text) (memory.Made node) =
+-- nothing else has happened. This line reports, after a text, the version that runs, unless there was no memory for it.
+abbrev pub IsNodeStarted : {D : Type 0} → NodeStore D → List ℕ → Result (String Global) AllocError → PlaceInMemory D → Type 0
+IsNodeStarted h text line (memory.Made node) =
     (node.handler ≡ h) × (processes_in node.processes ≡ fresh_processes (list_in h))
-    × (string_bytes text ≡ ok_line (version_of (running_release (list_in h))))
+    × IfOk line (λ whole. string_bytes whole ≡ text ++ ok_line (version_of (running_release (list_in h))))
     × HaveJustBegun (fresh_beginnings (list_in h)) node.processes.seat.view
-IsNodeStarted h (Err e) (memory.Idle disk) = disk ≡ disk_in h
-IsNodeStarted h line place = ⊥
+IsNodeStarted h text line (memory.Idle disk) = ⊥
+
+-- The node has started so, or memory was refused to the processes: the disk of the handler alone is left, and this line reports
+-- that.
+abbrev pub IsStartedOrNot : {D : Type 0} → NodeStore D → List ℕ → Result (String Global) AllocError → PlaceInMemory D → Type 0
+IsStartedOrNot h text line (memory.Made node) = IsNodeStarted h text line (memory.Made node)
+IsStartedOrNot h text line (memory.Idle disk) =
+    (disk ≡ disk_in h) × IfOk line (λ whole. string_bytes whole ≡ text ++ boot_line boot_error.NoMemory)
 
 -- what a handler sees of the processes of a node
 abbrev pub state_in : {D : Type 0} → BootedNode D → NodeState
@@ -179,12 +185,10 @@ NeedsNode (call app id input) = Unit {0}
 NeedsNode (flood app id input times) = Unit {0}
 NeedsNode command = ⊥
 
--- A command was answered by its transition, over a source of files, or stopped within.
-abbrev pub AnswersCommand : {D : Type 0} → Device D → Source → Command → Result (String Global) HandlerError
+-- A command gave this result by its transition, over a source of files.
+abbrev pub AnswersCommand : {D : Type 0} → Device D → Source → Command → Result (String Global) Unanswered
     → PlaceInMemory D → PlaceInMemory D → Type 0
-AnswersCommand v source command result old new =
-    AnswersOrStops v (λ p a. Transition source p command a) (λ p a. IsStopped source p command a)
-    result old new
+AnswersCommand v source command result old new = Answers v (λ p a. Transition source p command a) result old new
 
 -- A command was followed, over a source of files. Its text is its answer; there is none where the session ends.
 abbrev pub FollowsCommand : {D : Type 0} → Device D → Source → Command → Result (Option (String Global)) SessionError
@@ -197,31 +201,35 @@ FollowsCommand v base command (Ok (Some text)) old new =
 FollowsCommand v base command (Ok None) old new = (command ≡ quit) × (new.place ≡ old.place)
 FollowsCommand v base command (Err e) old new =
     let source = source_of base (files_of old.files) in
-    (p : Place) → IsAt v old.place p
-    → Leads v p (λ a. Transition source p command a ⊎ IsStopped source p command a) old.place new.place
-    ⊎ NothingDone v p old.place new.place
+    EndsUnanswered v (λ p a. Transition source p command a) old.place new.place
 
 abbrev pub disk_of : {D : Type 0} → SessionNode D → D
 disk_of n = disk_at n.place
 
--- the line that reports what a command has done, or why it was refused
-abbrev pub IsLine : Result (String Global) HandlerError → Option (String Global) → Type 0
-IsLine done None = ⊥
-IsLine (Ok answer) (Some text) = string_bytes text ≡ string_bytes answer
-IsLine (Err why) (Some text) =
-    (why ≢ handler_error.NoMemory) × (string_bytes text ≡ refusal_line (refusal_of why))
+-- This is the line that reports what a command has done, or why it was refused, or that memory was refused to its answer.
+abbrev pub IsLine : Result (String Global) Unanswered → Result (Option (String Global)) SessionError → Type 0
+IsLine (Ok answer) (Ok (Some text)) = string_bytes text ≡ string_bytes answer
+IsLine (Err (unanswered.Refused why)) (Ok (Some text)) = string_bytes text ≡ refusal_line (refusal_of why)
+IsLine done (Ok line) = ⊥
+IsLine (Ok answer) (Err e) = ⊥
+IsLine done (Err e) = e ≡ session_error.NoMemory
 
 -- There is a text, and it has these bytes.
 abbrev pub IsText : Option (String Global) → List ℕ → Type 0
 IsText None bytes = ⊥
 IsText (Some text) bytes = string_bytes text ≡ bytes
 
--- What is answered of an installation: what was done, or why it wasn't; or memory was refused for the answer. A script that memory
--- stopped after its point of no return has no answer.
-abbrev pub ReportsInstallation : Result Installed InstallError → Result (String Global) HandlerError → Type 0
-ReportsInstallation (Err (install_error.Command why)) r = r ≡ Err why
+-- What is answered of an installation: what was done, or why it wasn't; or memory was refused to the answer.
+abbrev pub ReportsInstallation : Result Installed InstallError → Result (String Global) Unanswered → Type 0
+ReportsInstallation (Err (install_error.Command why)) r = r ≡ Err (unanswered.Refused why)
 ReportsInstallation (Ok i) (Ok text) = string_bytes text ≡ installed_text (string_bytes i.other) (value_of i.descr) i.stale.items
 ReportsInstallation (Err (install_error.Refused f)) (Ok text) = string_bytes text ≡ refusal_line (script_refused (failure_of f))
-ReportsInstallation (Err (install_error.MustReboot f)) (Ok text) =
-    (string_bytes text ≡ refusal_line (must_reboot (failure_of f))) × ((failure_of f).why ≢ fails no_memory)
-ReportsInstallation done (Err why) = why ≡ handler_error.NoMemory
+ReportsInstallation (Err (install_error.MustReboot f)) (Ok text) = string_bytes text ≡ refusal_line (must_reboot (failure_of f))
+ReportsInstallation done (Err why) = why ≡ unanswered.NoMemory
+
+-- What is answered to the request of a relup: what the files gave, or why they are refused, or that there was no memory.
+abbrev pub ReportsRelup : Result (String Global) UnpackError → Result (String Global) Unanswered → Type 0
+ReportsRelup (Ok text) r = r ≡ Ok text
+ReportsRelup (Err unpack.NoMemory) (Ok text) = string_bytes text ≡ relup_memory_line
+ReportsRelup (Err unpack.NoMemory) (Err why) = why ≡ unanswered.NoMemory
+ReportsRelup (Err why) r = r ≡ Err (unanswered.Refused (reported_files why))

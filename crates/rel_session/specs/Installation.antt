@@ -8,16 +8,19 @@ use Rattle.node_processes.specs.Processes.{Processes}
 use Rattle.node_processes.specs.Scripts.{behind_run, run_on}
 use Rattle.node_upgrade.specs.Failure.{Failure, failure}
 use Rattle.node_upgrade.specs.Failure.Why.{fails}
+use Rattle.script_progress.specs.Fault.Cause.{no_memory}
 use Rattle.node_upgrade.specs.Stale.{stale_modules}
 use Rattle.node_upgrade.specs.Upgrade.{script_failure, site_for, upgrade_to}
 use Rattle.node_store.specs.Events.{Events, Stored, certain, uncertain}
 use Rattle.node_store.specs.Compaction.{MayReach}
 use Rattle.node_store.specs.Image.{Extent, extent_behind, HasSpace}
+use Rattle.relup_instruction.specs.Instruction.{Instruction}
+use Rattle.relup_exec.specs.Outcome.{IsInstructionAt, still_early}
 use Rattle.relup_exec.specs.Alone as script
 use Rattle.relup_exec.specs.Alone.{outcome}
 use Rattle.relup_exec.specs.Alone.Outcome.{ends, refuses, breaks}
 use Rattle.relup_file.specs.Search.{FoundForm}
-use Rattle.rel_session.specs.Booting.{store_behind}
+use Rattle.rel_session.specs.Booting.{BootsStore, store_behind}
 use Rattle.rel_session.specs.Node.{Reply, releases_after, reply, refused, failed, done, behind, with_text}
 use Rattle.rel_session.specs.Node.Place.{running, dead}
 use Rattle.node_answer.specs.Lines.{installed_line}
@@ -47,38 +50,46 @@ restarted_reply vsn list f ps b =
     with_text (installed_line f (stale_modules ps.modules (libraries_at vsn list))) (behind (restart_installed vsn) b)
 
 -- What is replied after the commit, by whether there is a restart: the store reaches so far then, and these are the processes
--- after the script. Here and below `Boot` says what a boot of the store replies.
-abbrev pub IsInstallationReply : (Stored → Reply → Type 0) → Bool → Events → Extent → List ℕ → Releases → FoundForm → Processes
-    → Reply → Type 0
-IsInstallationReply Boot false events extent vsn list f ps a = a ≡ installed_reply events extent vsn list f ps
-IsInstallationReply Boot true events extent vsn list f ps a =
-    (b : Reply) × Boot (restarted events extent vsn) b × (a ≡ restarted_reply vsn list f ps b)
+-- after the script.
+abbrev pub IsInstallationReply : Bool → Events → Extent → List ℕ → Releases → FoundForm → Processes → Reply → Type 0
+IsInstallationReply false events extent vsn list f ps a = a ≡ installed_reply events extent vsn list f ps
+IsInstallationReply true events extent vsn list f ps a =
+    (b : Reply) × BootsStore (restarted events extent vsn) b × (a ≡ restarted_reply vsn list f ps b)
 
 -- A script that fails before its point of no return changes nothing. One that fails after it leaves the node dead, without an
 -- event. After one that was carried out the event is committed, or the device fails.
-abbrev pub RepliesTo : (Stored → Reply → Type 0) → Events → Extent → Processes → List ℕ → Releases → FoundForm → script.Outcome
-    → Reply → Type 0
-RepliesTo Boot events extent ps vsn list f (refuses n c) a =
+abbrev pub RepliesTo : Events → Extent → Processes → List ℕ → Releases → FoundForm → script.Outcome → Reply → Type 0
+RepliesTo events extent ps vsn list f (refuses n c) a =
     a ≡ refused (script_refused (failure n (fails c))) (running events extent ps)
-RepliesTo Boot events extent ps vsn list f (breaks n c) a =
+RepliesTo events extent ps vsn list f (breaks n c) a =
     a ≡ refused (must_reboot (failure n (fails c))) (dead (certain events extent))
-RepliesTo Boot events extent ps vsn list f (ends r) a =
+RepliesTo events extent ps vsn list f (ends r) a =
     let e = install_event vsn list in
     ((x : Extent) × MayReach (extent_behind extent (install_size vsn list)) (releases_after (events ++ e ∷ [])) x
-    × IsInstallationReply Boot (needs_restart vsn list) events x vsn list f (behind_run r) a)
+    × IsInstallationReply (needs_restart vsn list) events x vsn list f (behind_run r) a)
     ⊎ (a ≡ failed (Some e) (dead (uncertain events extent e (install_size vsn list))))
+
+-- The instruction with this number stands after the point of no return of a script.
+abbrev pub IsAfterPoint : List Instruction → ℕ → Type 0
+IsAfterPoint script n =
+    (front : List Instruction) × (i : Instruction) × IsInstructionAt script n front i × (still_early true front ≡ false)
+
+-- Memory was refused to an instruction of a script after the point of no return: the node is dead, without an event.
+abbrev pub BreaksForMemory : Events → Extent → FoundForm → Reply → Type 0
+BreaksForMemory events extent f a =
+    (n : ℕ) × IsAfterPoint f.script n
+    × (a ≡ refused (must_reboot (failure n (fails no_memory))) (dead (certain events extent)))
 
 -- A script that isn't run is refused; one that may begin does, where the record of its event fits, and with a restart that of
 -- the next boot after it.
-abbrev pub RunsUnless : (Stored → Reply → Type 0) → Events → Extent → Processes → List ℕ → Releases → FoundForm
-    → Option Failure → Reply → Type 0
-RunsUnless Boot events extent ps vsn list f (Some why) a = a ≡ refused (script_refused why) (running events extent ps)
-RunsUnless Boot events extent ps vsn list f None a =
-    (HasSpace extent (install_room vsn list) × RepliesTo Boot events extent ps vsn list f (upgrade_outcome vsn list f ps) a)
+abbrev pub RunsUnless : Events → Extent → Processes → List ℕ → Releases → FoundForm → Option Failure → Reply → Type 0
+RunsUnless events extent ps vsn list f (Some why) a = a ≡ refused (script_refused why) (running events extent ps)
+RunsUnless events extent ps vsn list f None a =
+    (HasSpace extent (install_room vsn list)
+    × (RepliesTo events extent ps vsn list f (upgrade_outcome vsn list f ps) a ⊎ BreaksForMemory events extent f a))
     ⊎ ((HasSpace extent (install_room vsn list) → ⊥) × (a ≡ refused full (running events extent ps)))
 
 -- The list or the relups refuse the installation, or there is a script for it.
-abbrev pub Installs : (Stored → Reply → Type 0) → Events → Extent → Processes → List ℕ → Releases
-    → Result FoundForm HandlerError → Reply → Type 0
-Installs Boot events extent ps vsn list (Err why) a = a ≡ refused (refusal_of why) (running events extent ps)
-Installs Boot events extent ps vsn list (Ok f) a = RunsUnless Boot events extent ps vsn list f (script_failure vsn list f) a
+abbrev pub Installs : Events → Extent → Processes → List ℕ → Releases → Result FoundForm HandlerError → Reply → Type 0
+Installs events extent ps vsn list (Err why) a = a ≡ refused (refusal_of why) (running events extent ps)
+Installs events extent ps vsn list (Ok f) a = RunsUnless events extent ps vsn list f (script_failure vsn list f) a

@@ -18,7 +18,7 @@ use Rattle.session_input.specs.Input.{most_bytes}
 use Rattle.session_input.specs.Lines.{lines_of}
 use Rattle.rel_session.specs.Node.{Place, CommandOutcome, Reply}
 use Rattle.rel_session.specs.Node.Place.{raw, closed, running, dead}
-use Rattle.rel_session.specs.Transition.{Transition, IsStopped}
+use Rattle.rel_session.specs.Transition.{Transition}
 
 -- The disk is that of a node between two commands: a read gives the bytes of the place, or whatever a crash leaves of it is the
 -- store of the place. So, where a node runs, the start record is that of the permanent release.
@@ -101,20 +101,11 @@ EndsInFull ended = Unit {0}
 EndsInFull cut_off = Unit {0}
 EndsInFull ending = ⊥
 
--- A command was followed with this reply, or stopped within.
-abbrev pub MayLeave : Source → Place → Command → Reply → Type 0
-MayLeave source p c a = Transition source p c a ⊎ IsStopped source p c a
-
--- The reply is one to this command, and these replies follow it. The last one before memory was refused may be stopped within.
-abbrev pub IsReply : Source → Place → Command → Ending → List Reply → Reply → Type 0
-IsReply source p c out_of_memory [] a = MayLeave source p c a
-IsReply source p c ending more a = Transition source p c a
-
 -- The replies to the commands, in order, over a source of files: to each command up to the end or `quit`, and so where a read
 -- failed; or only to the first of them, where an answer was not written or memory was refused.
 abbrev pub Replies : Source → Files → Place → Feed Command → Ending → List Reply → Type 0
 Replies base files p (next c commands) ending (a ∷ more) =
-    IsReply (source_of base files) p c ending more a × Replies base (files_behind files c) a.after commands ending more
+    Transition (source_of base files) p c a × Replies base (files_behind files c) a.after commands ending more
 Replies base files p commands unwritten [] = Unit {0}
 Replies base files p commands out_of_memory [] = Unit {0}
 Replies base files p commands going_on [] = Unit {0}

@@ -24,14 +24,15 @@ use Rattle.node_processes.specs.Answers.{processes_line, modules_line, peek_line
 use Rattle.node_processes.specs.Calls.{Calls, calls_line, left_by}
 use Rattle.node_processes.specs.Calls.Calls.{once, often}
 use Rattle.node_processes.specs.Processes.{Processes}
-pub use Rattle.rel_session.specs.Booting.{AnswersBoot, boot_failed, BootsBytes, FailsOnStore, BootsStore, Boots}
+pub use Rattle.rel_session.specs.Booting.{AnswersBoot, boot_line, boot_undone, BootsBytes, IsUndone, BootsStore, Boots}
 use Rattle.rel_session.specs.Booting.{store_behind}
-use Rattle.rel_session.specs.Node.{Place, releases_after, just_booted, at_rest, Reply, reply, refused, failed, nothing, done, behind}
+use Rattle.rel_handler.specs.declared.error.BootError.TheVariants as boot_error
+use Rattle.rel_session.specs.Node.{Place, releases_after, just_booted, Reply, reply, refused, failed, nothing, done, behind}
 use Rattle.rel_session.specs.Node.Place.{raw, closed, running, dead}
 use Rattle.rel_session.specs.Installation.{Installs}
 pub use Rattle.node_answer.specs.Lines.{check_line, done_line, ok_line}
 use Rattle.node_answer.specs.Refusals.{NodeRefusal, refusal_of, refusal_line, refusal_for}
-use Rattle.node_answer.specs.Refusals.NodeRefusal.{full, exists, dead as dead_node}
+use Rattle.node_answer.specs.Refusals.NodeRefusal.{full, exists, no_memory, dead as dead_node}
 
 -- what a node that runs answers by its releases and its processes
 abbrev pub reported : (Releases → Processes → List ℕ) → Place → List ℕ
@@ -143,6 +144,39 @@ ComesTo source p (relup new ups downs) does =
 ComesTo source p bad does = does ≡ answers (codes "error session 1 BadCommand\n")
 ComesTo source p quit does = ⊥
 
+-- the line that reports that memory was refused to a call of the node's handler: nothing has changed
+abbrev pub memory_line : List ℕ
+memory_line = refusal_line no_memory
+
+-- the line that reports that memory was refused to the making of a relup
+abbrev pub relup_memory_line : List ℕ
+relup_memory_line = codes "error relup 7 NoMemory\n"
+
+-- How a command reports that memory was refused to its call, where a node runs. Those that only ask have no such call.
+abbrev pub memory_report : Command → Option (List ℕ)
+memory_report (set_unpacked path) = Some memory_line
+memory_report (install vsn) = Some memory_line
+memory_report (permanent vsn) = Some memory_line
+memory_report (remove vsn) = Some memory_line
+memory_report (reboot_old vsn) = Some memory_line
+memory_report start = Some memory_line
+memory_report c = None
+
+-- The same wherever the disk stands.
+abbrev pub memory_report_at : Place → Command → Option (List ℕ)
+memory_report_at p (create path) = Some memory_line
+memory_report_at p (relup new ups downs) = Some relup_memory_line
+memory_report_at (running events extent ps) c = memory_report c
+memory_report_at p c = None
+
+-- Memory was refused to the call of a command, which comes to the answer that reports it.
+abbrev pub LacksMemory : Place → Command → Action → Type 0
+LacksMemory p c does = (line : List ℕ) × (memory_report_at p c ≡ Some line) × (does ≡ answers line)
+
+-- What a command comes to, or that memory was refused to it.
+abbrev pub ComesToOrLacks : Source → Place → Command → Action → Type 0
+ComesToOrLacks source p c does = ComesTo source p c does ⊎ LacksMemory p c does
+
 -- An event, whose record has a body of so many bytes, is committed where the list takes it, its record fits, and the device
 -- does not fail. P says what is replied then, by how far the store reaches after it.
 abbrev pub IsCommit : Events → Extent → Processes → Event → ℕ → Result Releases HandlerError → (Extent → Reply → Type 0) → Reply → Type 0
@@ -165,14 +199,19 @@ Changes events extent ps c list (Some why) taken a = a ≡ refused (refusal_for 
 Changes events extent ps c list None taken a =
     IsCommit events extent ps c.event (c.size list) taken (λ x a. a ≡ changed events x ps c list) a
 
+-- A node was made with a release, and its store reaches so far: it runs; or memory was refused to its processes, and none does.
+abbrev pub IsMadeWith : Bundle → Extent → Reply → Type 0
+IsMadeWith p extent a =
+    let events = made p ∷ booting ∷ [] in
+    (a ≡ reply (ok_line p.release.vsn) (done events) (just_booted events extent))
+    ⊎ (a ≡ reply (boot_line boot_error.NoMemory) (done events) (closed (certain events extent)))
+
 -- A node is made with a release on a disk with these bytes, and booted, unless its applications are refused or the record
 -- does not fit.
 abbrev pub MakesWith : List ℕ → Bundle → ℕ → Option FilesRefusal → Reply → Type 0
 MakesWith bytes p size (Some why) a = a ≡ refused (refusal_for why) (raw bytes)
 MakesWith bytes p size None a =
-    (HasSpace first_extent size
-    × (a ≡ reply (ok_line p.release.vsn) (done (made p ∷ booting ∷ []))
-    (just_booted (made p ∷ booting ∷ []) (extent_behind first_extent size))))
+    (HasSpace first_extent size × IsMadeWith p (extent_behind first_extent size) a)
     ⊎ ((HasSpace first_extent size → ⊥) × (a ≡ refused full (raw bytes)))
 
 -- What `create` replies on a disk with these bytes, by whether they begin as a store does: only where they don't is a node
@@ -201,11 +240,10 @@ rebooted events extent vsn = store_behind events (rebooting vsn) extent
 
 -- What a reboot to an old release replies, by whether the list takes it or refuses it. After the commit the node boots, and the
 -- boot's answer is that of the command.
-abbrev pub Reboots : (Stored → Reply → Type 0) → Events → Extent → Processes → List ℕ → Releases
-    → Result Releases HandlerError → Reply → Type 0
-Reboots Boot events extent ps vsn list taken a =
+abbrev pub Reboots : Events → Extent → Processes → List ℕ → Releases → Result Releases HandlerError → Reply → Type 0
+Reboots events extent ps vsn list taken a =
     IsCommit events extent ps (rebooting vsn) (change_size (rebooting vsn) list) taken
-    (λ x a. (b : Reply) × Boot (rebooted events x vsn) b × (a ≡ behind (rebooting vsn) b)) a
+    (λ x a. (b : Reply) × BootsStore (rebooted events x vsn) b × (a ≡ behind (rebooting vsn) b)) a
 
 -- what a node starts whose permanent release is this: the version of the runtime system, and its own
 abbrev pub start_versions : Option Release → List ℕ
@@ -218,49 +256,28 @@ ReportsStart events extent ps a =
     (a ≡ reply (ok_line (start_versions (permanent_release (releases_after events)))) nothing (running events extent ps))
     ⊎ (a ≡ failed None (dead (certain events extent)))
 
--- What the node replies to an action, where a boot that the action has after its commit replies so.
-abbrev pub ActsWith : (Stored → Reply → Type 0) → Place → Action → Reply → Type 0
-ActsWith Boot p (answers text) a = a ≡ reply text nothing p
-ActsWith Boot p (makes_node brought) a = MakesNode p brought a
-ActsWith Boot (running events extent ps) (changes_node c) a =
-    let list = releases_after events in
-    Changes events extent ps c list (c.files list) (commanded c.event list) a
-ActsWith Boot p (changes_node c) a = a ≡ refused dead_node p
-ActsWith Boot (running events extent ps) (installs vsn) a =
-    let list = releases_after events in
-    Installs Boot events extent ps vsn list (installation vsn list) a
-ActsWith Boot p (installs vsn) a = a ≡ refused dead_node p
-ActsWith Boot (running events extent ps) (reboots_node vsn) a =
-    let list = releases_after events in
-    Reboots Boot events extent ps vsn list (commanded (rebooting vsn) list) a
-ActsWith Boot p (reboots_node vsn) a = a ≡ refused dead_node p
-ActsWith Boot p boots_node a = Boots p a
-ActsWith Boot (running events extent ps) reports_start a = ReportsStart events extent ps a
-ActsWith Boot p reports_start a = a ≡ refused dead_node p
-ActsWith Boot (running events extent ps) (calls c) a = a ≡ reply (calls_line c ps) nothing (running events extent (left_by c ps))
-ActsWith Boot p (calls c) a = a ≡ refused dead_node p
-
 -- What the node replies to an action: it boots after a reboot, and after an installation with a restart.
 abbrev pub Acts : Place → Action → Reply → Type 0
-Acts p does a = ActsWith BootsStore p does a
+Acts p (answers text) a = a ≡ reply text nothing p
+Acts p (makes_node brought) a = MakesNode p brought a
+Acts (running events extent ps) (changes_node c) a =
+    let list = releases_after events in
+    Changes events extent ps c list (c.files list) (commanded c.event list) a
+Acts p (changes_node c) a = a ≡ refused dead_node p
+Acts (running events extent ps) (installs vsn) a =
+    let list = releases_after events in
+    Installs events extent ps vsn list (installation vsn list) a
+Acts p (installs vsn) a = a ≡ refused dead_node p
+Acts (running events extent ps) (reboots_node vsn) a =
+    let list = releases_after events in
+    Reboots events extent ps vsn list (commanded (rebooting vsn) list) a
+Acts p (reboots_node vsn) a = a ≡ refused dead_node p
+Acts p boots_node a = Boots p a
+Acts (running events extent ps) reports_start a = ReportsStart events extent ps a
+Acts p reports_start a = a ≡ refused dead_node p
+Acts (running events extent ps) (calls c) a = a ≡ reply (calls_line c ps) nothing (running events extent (left_by c ps))
+Acts p (calls c) a = a ≡ refused dead_node p
 
 -- The reply to a command.
 abbrev pub Transition : Source → Place → Command → Reply → Type 0
-Transition source p c a = (does : Action) × ComesTo source p c does × Acts p does a
-
--- what is left of a reply whose node is lost: all that it acknowledges is on the disk, but nothing is answered
-abbrev pub without_node : Reply → Reply
-without_node a = reply [] a.outcome (at_rest a.after)
-
--- What a boot of a store replies, or, where memory was refused to it, that nothing was done.
-abbrev pub BootsOrNot : Stored → Reply → Type 0
-BootsOrNot s a = BootsStore s a ⊎ (a ≡ reply [] nothing (closed s))
-
--- What stands in place of the reply where memory was refused after what an action has written: for the boot after its commit,
--- for the processes of its node, or for its answer.
-abbrev pub StopsWithin : Place → Action → Reply → Type 0
-StopsWithin p does a = (b : Reply) × ActsWith BootsOrNot p does b × (a ≡ without_node b)
-
--- A refusal of memory stopped a command within, and the session ends.
-abbrev pub IsStopped : Source → Place → Command → Reply → Type 0
-IsStopped source p c a = (does : Action) × ComesTo source p c does × StopsWithin p does a
+Transition source p c a = (does : Action) × ComesToOrLacks source p c does × Acts p does a

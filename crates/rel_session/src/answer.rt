@@ -1,9 +1,8 @@
 //! What a node answers.
-ghost use Rattle.std.specs.Prelude.{◌≡◌, map, string_bytes, Ok, Err, MatchResult};
-ghost use Rattle.node_command.specs.Files.{reported_files};
+ghost use Rattle.std.specs.Prelude.{◌≡◌, map, string_bytes};
 ghost use Rattle.session_input.specs.Commands.{command_of};
 ghost use Rattle.session_input.specs.Commands.Command.{relup};
-ghost use Rattle.rel_session.specs.InMemory.{IsSoundNode, IsSoundPlace, AsksNode, NeedsNode, Answers, AnswersCommand};
+ghost use Rattle.rel_session.specs.InMemory.{IsSoundNode, IsSoundPlace, AsksNode, NeedsNode, Answers, AnswersCommand, ReportsRelup};
 ghost use Rattle.rel_session.specs.Transition.{Transition};
 ghost use Rattle.rel_session.specs.declared.place.Place.TheVariants.{Made};
 
@@ -13,7 +12,9 @@ use crate::check::check_install;
 use crate::place::{Place, answer_of};
 use crate::processes::{call, flood, list_modules, list_processes, peek};
 use crate::start::start;
+use crate::unanswered::Unanswered;
 use file_source::Files;
+use node_answer::blank_line;
 use node_command::HandlerError;
 use rel_disk::Disk;
 use rel_unpack::UnpackError;
@@ -31,7 +32,7 @@ impl<D: Disk> Place<D> {
         alloc: Global,
         files: &F,
         command: &Command,
-    ) -> (Place<D>, Result<String, HandlerError>)
+    ) -> (Place<D>, Result<String, Unanswered>)
         requires sound { IsSoundPlace D.seen D.may_leave self }
         requires asked { AsksNode command.now }
         ensures sound { IsSoundPlace D.seen D.may_leave result.0 }
@@ -42,10 +43,13 @@ impl<D: Disk> Place<D> {
             Command::Create(path) => self.create(rt, alloc, files, path.as_str()),
             Command::Install(vsn) => self.install(rt, alloc, vsn.as_str()),
             Command::RebootOld(vsn) => self.reboot_old(rt, alloc, vsn.as_str()),
-            Command::Boot => {
-                let (place, line) = self.boot(rt, alloc);
-                (place, answer_of(line))
-            }
+            Command::Boot => match blank_line(alloc) {
+                Ok(line) => {
+                    let (place, answer) = self.boot(rt, alloc, line);
+                    (place, answer_of(answer))
+                }
+                Err(_) => (self, Err(Unanswered::NoMemory)),
+            },
             Command::Releases => {
                 let lines = self.releases(alloc);
                 (self, answer_of(lines))
@@ -76,7 +80,7 @@ impl<D: Disk> Place<D> {
         alloc: Global,
         files: &F,
         command: &Command,
-    ) -> (Place<D>, Result<String, HandlerError>)
+    ) -> (Place<D>, Result<String, Unanswered>)
         requires sound { IsSoundPlace D.seen D.may_leave self }
         requires asked { NeedsNode (command_of command.now) }
         ensures sound { IsSoundPlace D.seen D.may_leave result.0 }
@@ -85,7 +89,10 @@ impl<D: Disk> Place<D> {
             result.1 self result.0 }
     {
         match self {
-            Place::Idle(disk) => (Place::Idle(disk), Err(HandlerError::Dead)),
+            Place::Idle(disk) => (
+                Place::Idle(disk),
+                Err(Unanswered::Refused(HandlerError::Dead)),
+            ),
             Place::Made(mut node) => {
                 let done = done_by(rt, alloc, &mut node, files, command);
                 (Place::Made(node), done)
@@ -102,7 +109,7 @@ impl<D: Disk> Place<D> {
         new: &str,
         ups: &[String],
         downs: &[String],
-    ) -> (Place<D>, Result<String, HandlerError>)
+    ) -> (Place<D>, Result<String, Unanswered>)
         ensures place { result.0 ≡ self }
         ensures made { Answers D.Disk
             (λ p a. Transition (F.gives files.now) p (relup new.now
@@ -110,7 +117,7 @@ impl<D: Disk> Place<D> {
             result.1 self result.0 }
     {
         let made = relup_answer(alloc, files, new, ups, downs);
-        (self, answer_of_files(made))
+        (self, relup_line(alloc, made))
     }
 }
 
@@ -121,7 +128,7 @@ fn done_by<D: Disk, R: Threads + Wait + Sync, F: Files>(
     node: &mut BootedNode<D>,
     files: &F,
     command: &Command,
-) -> Result<String, HandlerError>
+) -> Result<String, Unanswered>
     requires sound { IsSoundNode D.seen D.may_leave node.old }
     requires asked { NeedsNode (command_of command.now) }
     ensures sound { IsSoundNode D.seen D.may_leave node.new }
@@ -130,7 +137,7 @@ fn done_by<D: Disk, R: Threads + Wait + Sync, F: Files>(
         result (Made node.old) (Made node.new) }
 {
     if node.handler.is_dead() {
-        return Err(HandlerError::Dead);
+        return Err(Unanswered::Refused(HandlerError::Dead));
     }
     match command {
         Command::SetUnpacked(path) => set_unpacked(alloc, node, files, path.as_str()),
@@ -157,10 +164,15 @@ fn done_by<D: Disk, R: Threads + Wait + Sync, F: Files>(
     }
 }
 
-/// What files gave, as an answer of the node.
-fn answer_of_files(made: Result<String, UnpackError>) -> Result<String, HandlerError>
-    ensures same { MatchResult made (λ text. result ≡ Ok text)
-        (λ why. result ≡ Err (reported_files why)) }
+/// What is answered to the request of a relup, which may have had no memory.
+fn relup_line(alloc: Global, made: Result<String, UnpackError>) -> Result<String, Unanswered>
+    ensures { ReportsRelup made result }
 {
-    Ok(made?)
+    match made {
+        Ok(text) => Ok(text),
+        Err(UnpackError::NoMemory) => {
+            answer_of(String::from_str(alloc, "error relup 7 NoMemory\n"))
+        }
+        Err(why) => Err(Unanswered::Refused(HandlerError::from(why))),
+    }
 }

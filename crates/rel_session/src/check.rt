@@ -7,8 +7,8 @@ ghost use Rattle.rel_session.specs.declared.place.Place.TheVariants.{Made};
 
 use crate::booted_node::BootedNode;
 use crate::place::answer_of;
+use crate::unanswered::Unanswered;
 use node_answer::{found_line, refusal_line};
-use node_command::HandlerError;
 use rel_disk::Disk;
 use std::alloc::{AllocError, Global};
 
@@ -17,7 +17,7 @@ pub(crate) fn check_install<D: Disk>(
     alloc: Global,
     node: &mut BootedNode<D>,
     vsn: &str,
-) -> Result<String, HandlerError>
+) -> Result<String, Unanswered>
     requires sound { IsSoundNode D.seen D.may_leave node.old }
     requires works { is_dead node.old.handler ≡ false }
     ensures sound { IsSoundNode D.seen D.may_leave node.new }

@@ -2,7 +2,9 @@
 //!
 //! After an installation whose script ends with a restart the node boots at once, and the answer has two lines: its own, and that
 //! of the boot.
-ghost use Rattle.std.specs.Prelude.{◌≡◌, ◌++◌, string_bytes, IfErr, IfOk, IsOkAnd};
+ghost use Rattle.std.specs.Prelude.{◌≡◌, string_bytes, IfErr, IfOk};
+ghost use Rattle.erl_term.specs.Value.{value_of};
+ghost use Rattle.node_answer.specs.Lines.{installed_text};
 ghost use Rattle.node_store.specs.Commits.{Commits};
 ghost use Rattle.rel_handler.specs.Installing.{install_event, install_size, InstallRefused};
 ghost use Rattle.node_store.specs.State.{list_in};
@@ -11,7 +13,8 @@ ghost use Rattle.rel_session.specs.Transition.Action.{installs};
 
 use crate::booted_node::BootedNode;
 use crate::place::{Place, answer_of};
-use node_answer::{broken_line, installed_line, refused_line};
+use crate::unanswered::Unanswered;
+use node_answer::{MOST_LINE, broken_line, installed_line, refused_line};
 use node_command::HandlerError;
 use node_upgrade::{InstallError, Installed};
 use rel_disk::Disk;
@@ -20,35 +23,46 @@ use std::sync::Wait;
 
 impl<D: Disk> Place<D> {
     /// Installs the release of this version by its script. The answer reports the version and the description of the script's
-    /// entry, and the stale modules. After a script that ends with a restart the node boots, and the answer of the boot follows.
+    /// entry, and the stale modules. After a script that ends with a restart the node boots, and the answer of the boot follows;
+    /// where memory is refused to the first line, it boots all the same.
     pub fn install<R: Wait>(
         self,
         rt: &R,
         alloc: Global,
         vsn: &str,
-    ) -> (Place<D>, Result<String, HandlerError>)
+    ) -> (Place<D>, Result<String, Unanswered>)
         requires { IsSoundPlace D.seen D.may_leave self }
         ensures sound { IsSoundPlace D.seen D.may_leave result.0 }
         ensures installed { AnswersAction D.Disk (installs vsn.now) result.1 self result.0 }
     {
         let mut node = match self {
-            Place::Idle(disk) => return (Place::Idle(disk), Err(HandlerError::Dead)),
+            Place::Idle(disk) => return (
+                Place::Idle(disk),
+                Err(Unanswered::Refused(HandlerError::Dead)),
+            ),
             Place::Made(node) => node,
         };
         if node.handler.is_dead() {
-            return (Place::Made(node), Err(HandlerError::Dead));
+            return (
+                Place::Made(node),
+                Err(Unanswered::Refused(HandlerError::Dead)),
+            );
         }
         let done = install_release(rt, alloc, &mut node, vsn);
         let restarts = done.is_ok() && node.handler.is_dead();
-        match installation_answer(alloc, done) {
+        let answer = installation_answer(alloc, done);
+        if !restarts {
+            return (Place::Made(node), answer);
+        }
+        match answer {
             Ok(line) => {
-                if !restarts {
-                    return (Place::Made(node), Ok(line));
-                }
-                let (place, answer) = Place::Made(node).boot(rt, alloc);
-                (place, answer_of(append_answer(line, answer)))
+                let (place, answer) = Place::Made(node).boot(rt, alloc, line);
+                (place, answer_of(answer))
             }
-            Err(why) => (Place::Made(node), Err(why)),
+            Err(why) => {
+                let (place, _unread) = Place::Made(node).boot(rt, alloc, String::new(alloc));
+                (place, Err(why))
+            }
         }
     }
 }
@@ -79,27 +93,27 @@ fn install_release<D: Disk, R: Wait>(
     )
 }
 
-/// This line, and the answer after it.
-fn append_answer(line: String, answer: Result<String, AllocError>) -> Result<String, AllocError>
-    ensures { IfOk result (λ text. IsOkAnd answer (λ b.
-        string_bytes text ≡ string_bytes line ++ string_bytes b)) }
+/// The line of a release that was installed, with room for that of a boot after it.
+fn line_before_boot(alloc: Global, installed: &Installed) -> Result<String, AllocError>
+    ensures { IfOk result (λ text. string_bytes text
+        ≡ installed_text (string_bytes installed.now.other)
+        (value_of installed.now.descr) installed.now.stale.items) }
 {
-    let answer = answer?;
-    let mut text = line;
-    text.push_str(answer.as_str())?;
-    Ok(text)
+    let mut line = installed_line(alloc, installed)?;
+    line.reserve(MOST_LINE)?;
+    Ok(line)
 }
 
 /// What an installation answers.
 fn installation_answer(
     alloc: Global,
     done: Result<Installed, InstallError>,
-) -> Result<String, HandlerError>
+) -> Result<String, Unanswered>
     ensures { ReportsInstallation done result }
 {
     match done {
-        Ok(installed) => answer_of(installed_line(alloc, &installed)),
-        Err(InstallError::Command(why)) => Err(why),
+        Ok(installed) => answer_of(line_before_boot(alloc, &installed)),
+        Err(InstallError::Command(why)) => Err(Unanswered::Refused(why)),
         Err(InstallError::Refused(failure)) => answer_of(refused_line(alloc, &failure)),
         Err(InstallError::MustReboot(failure)) => answer_of(broken_line(alloc, &failure)),
     }

@@ -14,6 +14,9 @@
 //! An answer is written before more of the input is read: where a read fails, the bytes that were taken by then hold no command but
 //! those that are answered.
 //!
+//! Out of memory is an answer: a call of the node that lacks it has changed nothing, and the session goes on. The session ends for
+//! want of memory only where it has none for a line, for a file that is given, or for the text of an answer.
+//!
 //! A session may wait for slots of its processes, and what is said of it holds where it returns. Only tested: that it does, and that
 //! it goes on where memory is there. Trusted: the toolchain, with what the crates below trust.
 #![tactic(auto)]
@@ -31,6 +34,7 @@ mod place;
 mod processes;
 mod reboot;
 mod start;
+mod unanswered;
 
 pub use answer_writer::AnswerWriter;
 pub use command_loop::session;

@@ -3,10 +3,13 @@ ghost use Rattle.std.specs.Prelude.{◌≡◌, codes, Ok, Err, Some, string_byte
 ghost use Rattle.session_input.specs.Commands.{command_of, given_of};
 ghost use Rattle.rel_session.specs.Files.{files_of, no_files, give};
 ghost use Rattle.rel_session.specs.InMemory.{IsLine, IsText};
+ghost use Rattle.rel_session.specs.Transition.{memory_line};
 ghost use Rattle.rel_session.specs.declared.place.Place.TheVariants.{Idle};
+ghost use Rattle.rel_session.specs.declared.unanswered.Unanswered.TheVariants.{Refused};
 
 use crate::given_files::{GivenFiles, SessionFiles};
 use crate::place::Place;
+use crate::unanswered::Unanswered;
 use file_source::Files;
 use node_answer::refusal_line;
 use node_command::HandlerError;
@@ -67,12 +70,18 @@ impl<D: Disk> SessionNode<D> {
             }
             Command::Quit => (SessionNode { place, files }, Ok(None)),
             command => {
+                let Ok(refusal) = memory_refusal(alloc) else {
+                    return (SessionNode { place, files }, Err(SessionError::NoMemory));
+                };
                 let source = SessionFiles {
                     given: &files,
                     base,
                 };
                 let (place, answer) = place.answer(rt, alloc, &source, &command);
-                (SessionNode { place, files }, line_of(alloc, answer))
+                (
+                    SessionNode { place, files },
+                    line_of(alloc, refusal, answer),
+                )
             }
         }
     }
@@ -94,27 +103,40 @@ fn keep(
     Ok(Some(String::from_str(alloc, "ok\n")?))
 }
 
+/// The line that reports that memory was refused to a call of the node. It is made before the call.
+fn memory_refusal(alloc: Global) -> Result<String, AllocError>
+    ensures { IfOk result (λ line. string_bytes line ≡ memory_line) }
+{
+    String::from_str(alloc, "error handler 19 NoMemory\n")
+}
+
 /// The line that reports what a command has done, or why it was refused.
 fn line_of(
     alloc: Global,
-    done: Result<String, HandlerError>,
+    refusal: String,
+    done: Result<String, Unanswered>,
 ) -> Result<Option<String>, SessionError>
-    ensures line { IfOk result (λ text. IsLine done text) }
-    ensures memory { IfErr result (λ e. e ≡ SessionError.NoMemory) }
+    requires refusal { string_bytes refusal ≡ memory_line }
+    ensures { IsLine done result }
 {
     match done {
         Ok(line) => Ok(Some(line)),
-        Err(why) => text_of_refusal(alloc, &why),
+        Err(Unanswered::Refused(why)) => text_of_refusal(alloc, refusal, &why),
+        Err(Unanswered::NoMemory) => Err(SessionError::NoMemory),
     }
 }
 
 /// The line that reports why a command was refused.
-fn text_of_refusal(alloc: Global, why: &HandlerError) -> Result<Option<String>, SessionError>
-    ensures line { IfOk result (λ text. IsLine (Err why.now) text) }
-    ensures memory { IfErr result (λ e. e ≡ SessionError.NoMemory) }
+fn text_of_refusal(
+    alloc: Global,
+    refusal: String,
+    why: &HandlerError,
+) -> Result<Option<String>, SessionError>
+    requires refusal { string_bytes refusal ≡ memory_line }
+    ensures { IsLine (Err (Refused why.now)) result }
 {
     match why {
-        HandlerError::NoMemory => Err(SessionError::NoMemory),
+        HandlerError::NoMemory => Ok(Some(refusal)),
         why => text_of(refusal_line(alloc, why)),
     }
 }

@@ -1,21 +1,23 @@
 //! Where the node of a session lives.
-ghost use Rattle.std.specs.Prelude.{◌≡◌, ◌⊎◌, false, Ok, Err, string_bytes, IfOk, IsErr, MatchResult};
+ghost use Rattle.std.specs.Prelude.{◌≡◌, ◌⊎◌, false, Ok, Err, ◌++◌, string_bytes, IfOk, MatchResult};
 ghost use Rattle.node_store.specs.State.{IsSound, is_dead, list_in};
 ghost use Rattle.node_command.specs.Files.{Brings, IsOfFiles};
 ghost use Rattle.rel_list.specs.Releases.{running};
 ghost use Rattle.rel_unpack.specs.Unpacking.{Brought};
 ghost use Rattle.session_input.specs.Commands.Command.{create};
 ghost use Rattle.node_start.specs.Booting.{HasJustStarted};
-ghost use Rattle.rel_session.specs.InMemory.{IsSoundPlace, IsNodeStarted};
+ghost use Rattle.rel_session.specs.InMemory.{IsSoundPlace, IsNodeStarted, IsStartedOrNot};
 ghost use Rattle.rel_session.specs.Node.{Place as SomePlace};
 ghost use Rattle.node_answer.specs.Lines.{ok_line};
 ghost use Rattle.rel_session.specs.Booting.{boot_line};
-ghost use Rattle.rel_session.specs.Transition.{Acts, StopsWithin, listed, version_of};
+ghost use Rattle.rel_session.specs.Transition.{Acts, listed, version_of};
 ghost use Rattle.rel_session.specs.Transition.Action.{boots_node};
+ghost use Rattle.rel_session.specs.declared.unanswered.Unanswered.TheVariants.{NoMemory};
 
 use crate::booted_node::BootedNode;
+use crate::unanswered::Unanswered;
 use file_source::Files;
-use node_answer::{ok_line, refusal_line};
+use node_answer::{append_version, blank_line, refusal_line};
 use node_command::{HandlerError, bring_release};
 use node_listing::listing;
 use node_processes::Processes;
@@ -35,7 +37,7 @@ pub enum Place<D: Disk> {
 }
 
 impl<D: Disk> Place<D> {
-    ghost use Rattle.rel_session.specs.InMemory.{disk_at, IsSoundPlace, IsAt, AnswersCommand, ReportsOrStops};
+    ghost use Rattle.rel_session.specs.InMemory.{disk_at, IsSoundPlace, IsAt, AnswersAfter, AnswersCommand};
 
     /// The disk.
     pub fn into_disk(self) -> D
@@ -54,7 +56,7 @@ impl<D: Disk> Place<D> {
         alloc: Global,
         files: &F,
         path: &str,
-    ) -> (Place<D>, Result<String, HandlerError>)
+    ) -> (Place<D>, Result<String, Unanswered>)
         requires { IsSoundPlace D.seen D.may_leave self }
         ensures sound { IsSoundPlace D.seen D.may_leave result.0 }
         ensures created { AnswersCommand D.Disk (F.gives files.now) (create path.now)
@@ -64,28 +66,37 @@ impl<D: Disk> Place<D> {
             Place::Idle(disk) => disk,
             Place::Made(node) => {
                 let why = existing(alloc, files, path);
-                return (Place::Made(node), Err(why));
+                return (Place::Made(node), Err(Unanswered::Refused(why)));
             }
+        };
+        let line = match blank_line(alloc) {
+            Ok(line) => line,
+            Err(_) => return (Place::Idle(disk), Err(Unanswered::NoMemory)),
         };
         match Handler::create(alloc, disk, files, path) {
             Ok(handler) => {
-                let (place, line) = started(rt, alloc, handler);
-                (place, answer_of(line))
+                let (place, answer) = started(rt, alloc, handler, line);
+                (place, answer_of(answer))
             }
-            Err((error, disk)) => (Place::Idle(disk), Err(error)),
+            Err((why, disk)) => (Place::Idle(disk), Err(Unanswered::Refused(why))),
         }
     }
 
-    /// Boots the node. The answer is a line.
-    pub fn boot<R: Wait>(self, rt: &R, alloc: Global) -> (Place<D>, Result<String, AllocError>)
+    /// Boots the node. The answer is a line, which stands after `text`.
+    pub fn boot<R: Wait>(
+        self,
+        rt: &R,
+        alloc: Global,
+        text: String,
+    ) -> (Place<D>, Result<String, AllocError>)
         requires { IsSoundPlace D.seen D.may_leave self }
         ensures sound { IsSoundPlace D.seen D.may_leave result.0 }
-        ensures booted { ReportsOrStops D.Disk (λ p a. Acts p boots_node a)
-            (λ p a. StopsWithin p boots_node a) result.1 self result.0 }
+        ensures booted { AnswersAfter D.Disk (string_bytes text)
+            (λ p a. Acts p boots_node a) result.1 self result.0 }
     {
         match boot(rt, alloc, self.into_disk()) {
-            Ok(node) => reported(alloc, node),
-            Err((disk, error)) => (Place::Idle(disk), boot_refusal_line(alloc, error)),
+            Ok(node) => reported(node, text),
+            Err((disk, error)) => (Place::Idle(disk), append_boot_refusal(text, error)),
         }
     }
 
@@ -104,62 +115,63 @@ impl<D: Disk> Place<D> {
     }
 }
 
-/// Starts the processes of a node that was just made. The answer reports its version. Where memory is refused, no node is left.
+/// Starts the processes of a node that was just made. The answer, after `text`, reports its version, or that memory was refused
+/// to them: no node runs then.
 fn started<D: Disk, R: Wait>(
     rt: &R,
     alloc: Global,
     handler: Handler<D>,
+    text: String,
 ) -> (Place<D>, Result<String, AllocError>)
     requires sound { IsSound D.seen D.may_leave handler }
     requires works { is_dead handler ≡ false }
     ensures sound { IsSoundPlace D.seen D.may_leave result.0 }
-    ensures started { IsNodeStarted handler result.1 result.0 }
+    ensures started { IsStartedOrNot handler (string_bytes text) result.1 result.0 }
 {
     match start_node(rt, alloc, handler) {
-        Ok(node) => reported(alloc, node),
-        Err(disk) => (Place::Idle(disk), Err(AllocError)),
+        Ok(node) => reported(node, text),
+        Err(disk) => (
+            Place::Idle(disk),
+            append_boot_refusal(text, BootError::NoMemory),
+        ),
     }
 }
 
-/// The answer to a boot: the version that runs. Where memory is refused to that, no node is left.
-fn reported<D: Disk>(alloc: Global, node: Node<D>) -> (Place<D>, Result<String, AllocError>)
+/// The node that has booted. The answer, after `text`, reports the version that runs.
+fn reported<D: Disk>(node: Node<D>, text: String) -> (Place<D>, Result<String, AllocError>)
     requires sound { IsSound D.seen D.may_leave node.handler }
     requires works { is_dead node.handler ≡ false }
     requires started { HasJustStarted node }
     ensures sound { IsSoundPlace D.seen D.may_leave result.0 }
-    ensures started { IsNodeStarted node.handler result.1 result.0 }
+    ensures started { IsNodeStarted node.handler (string_bytes text) result.1 result.0 }
 {
-    match version_line(alloc, &node.handler) {
-        Ok(line) => {
-            let Node {
-                handler,
-                table,
-                seat,
-                tree,
-                loaded,
-            } = node;
-            let processes = Processes {
-                table,
-                seat,
-                tree,
-                loaded,
-            };
-            (Place::Made(BootedNode { handler, processes }), Ok(line))
-        }
-        Err(error) => (Place::Idle(node.into_disk()), Err(error)),
-    }
+    let line = append_running(text, &node.handler);
+    let Node {
+        handler,
+        table,
+        seat,
+        tree,
+        loaded,
+    } = node;
+    let processes = Processes {
+        table,
+        seat,
+        tree,
+        loaded,
+    };
+    (Place::Made(BootedNode { handler, processes }), line)
 }
 
-/// The line that reports the version that runs.
-fn version_line<D: Disk>(alloc: Global, handler: &Handler<D>) -> Result<String, AllocError>
+/// This text, and after it the line that reports the version that runs.
+fn append_running<D: Disk>(text: String, handler: &Handler<D>) -> Result<String, AllocError>
     requires { is_dead handler.now ≡ false }
-    ensures { IfOk result (λ text. string_bytes text
-        ≡ ok_line (version_of (running (list_in handler.now)))) }
+    ensures { IfOk result (λ line. string_bytes line
+        ≡ string_bytes text ++ ok_line (version_of (running (list_in handler.now)))) }
 {
     let Ok(list) = handler.which_releases() else {
         unreachable!();
     };
-    ok_line(alloc, running_version(list))
+    append_version(text, running_version(list))
 }
 
 /// Why no node is made where there is one: its files are read first.
@@ -175,9 +187,9 @@ fn existing<F: Files>(alloc: Global, files: &F, path: &str) -> HandlerError
 }
 
 /// A line as an answer.
-pub(crate) fn answer_of(line: Result<String, AllocError>) -> Result<String, HandlerError>
+pub(crate) fn answer_of(line: Result<String, AllocError>) -> Result<String, Unanswered>
     ensures same { MatchResult line (λ text. result ≡ Ok text)
-        (λ _. result ≡ Err HandlerError.NoMemory) }
+        (λ _. result ≡ Err NoMemory) }
 {
     Ok(line?)
 }
@@ -192,16 +204,18 @@ fn running_version(list: &ReleaseList) -> &str
     }
 }
 
-/// The line that reports why a boot is refused. Out of memory is no answer.
-fn boot_refusal_line(alloc: Global, error: BootError) -> Result<String, AllocError>
-    ensures reported { IfOk result (λ text. string_bytes text ≡ boot_line error) }
-    ensures memory { error ≡ BootError.NoMemory → IsErr result }
+/// This text, and after it the line that reports why a boot is refused.
+fn append_boot_refusal(text: String, error: BootError) -> Result<String, AllocError>
+    ensures { IfOk result (λ line. string_bytes line ≡ string_bytes text ++ boot_line error) }
 {
-    match error {
-        BootError::NotAStore => String::from_str(alloc, "error boot 1 NotAStore\n"),
-        BootError::Damaged(_) => String::from_str(alloc, "error boot 2 Damaged\n"),
-        BootError::Device => String::from_str(alloc, "error boot 3 Device\n"),
-        BootError::NoMemory => Err(AllocError),
-        BootError::BadRecord(_) => String::from_str(alloc, "error boot 5 BadRecord\n"),
-    }
+    let refusal = match error {
+        BootError::NotAStore => "error boot 1 NotAStore\n",
+        BootError::Damaged(_) => "error boot 2 Damaged\n",
+        BootError::Device => "error boot 3 Device\n",
+        BootError::NoMemory => "error boot 4 NoMemory\n",
+        BootError::BadRecord(_) => "error boot 5 BadRecord\n",
+    };
+    let mut line = text;
+    line.push_str(refusal)?;
+    Ok(line)
 }

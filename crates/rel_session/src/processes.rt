@@ -13,7 +13,7 @@ ghost use Rattle.rel_session.specs.declared.place.Place.TheVariants.{Made};
 
 use crate::booted_node::BootedNode;
 use crate::place::answer_of;
-use node_command::HandlerError;
+use crate::unanswered::Unanswered;
 use rel_disk::Disk;
 use std::alloc::Global;
 use std::sync::Wait;
@@ -24,7 +24,7 @@ pub(crate) fn list_processes<D: Disk, R: Wait>(
     rt: &R,
     alloc: Global,
     node: &mut BootedNode<D>,
-) -> Result<String, HandlerError>
+) -> Result<String, Unanswered>
     requires sound { IsSoundNode D.seen D.may_leave node.old }
     requires works { is_dead node.old.handler ≡ false }
     ensures sound { IsSoundNode D.seen D.may_leave node.new }
@@ -37,7 +37,7 @@ pub(crate) fn list_processes<D: Disk, R: Wait>(
 pub(crate) fn list_modules<D: Disk>(
     alloc: Global,
     node: &mut BootedNode<D>,
-) -> Result<String, HandlerError>
+) -> Result<String, Unanswered>
     requires sound { IsSoundNode D.seen D.may_leave node.old }
     requires works { is_dead node.old.handler ≡ false }
     ensures sound { IsSoundNode D.seen D.may_leave node.new }
@@ -53,7 +53,7 @@ pub(crate) fn peek<D: Disk, R: Wait>(
     node: &mut BootedNode<D>,
     app: &str,
     id: &str,
-) -> Result<String, HandlerError>
+) -> Result<String, Unanswered>
     requires sound { IsSoundNode D.seen D.may_leave node.old }
     requires works { is_dead node.old.handler ≡ false }
     ensures sound { IsSoundNode D.seen D.may_leave node.new }
@@ -71,7 +71,7 @@ pub(crate) fn call<D: Disk, R: Wait>(
     app: &str,
     id: &str,
     input: u32,
-) -> Result<String, HandlerError>
+) -> Result<String, Unanswered>
     requires sound { IsSoundNode D.seen D.may_leave node.old }
     requires works { is_dead node.old.handler ≡ false }
     ensures sound { IsSoundNode D.seen D.may_leave node.new }
@@ -90,7 +90,7 @@ pub(crate) fn flood<D: Disk, R: Threads + Wait + Sync>(
     id: &str,
     input: u32,
     times: u32,
-) -> Result<String, HandlerError>
+) -> Result<String, Unanswered>
     requires sound { IsSoundNode D.seen D.may_leave node.old }
     requires works { is_dead node.old.handler ≡ false }
     ensures sound { IsSoundNode D.seen D.may_leave node.new }

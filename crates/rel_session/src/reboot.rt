@@ -3,6 +3,8 @@ ghost use Rattle.rel_session.specs.InMemory.{IsSoundPlace, AnswersAction};
 ghost use Rattle.rel_session.specs.Transition.Action.{reboots_node};
 
 use crate::place::{Place, answer_of};
+use crate::unanswered::Unanswered;
+use node_answer::blank_line;
 use node_command::HandlerError;
 use rel_disk::Disk;
 use std::alloc::Global;
@@ -15,24 +17,34 @@ impl<D: Disk> Place<D> {
         rt: &R,
         alloc: Global,
         vsn: &str,
-    ) -> (Place<D>, Result<String, HandlerError>)
+    ) -> (Place<D>, Result<String, Unanswered>)
         requires { IsSoundPlace D.seen D.may_leave self }
         ensures sound { IsSoundPlace D.seen D.may_leave result.0 }
         ensures rebooted { AnswersAction D.Disk (reboots_node vsn.now) result.1 self result.0 }
     {
         let mut node = match self {
-            Place::Idle(disk) => return (Place::Idle(disk), Err(HandlerError::Dead)),
+            Place::Idle(disk) => return (
+                Place::Idle(disk),
+                Err(Unanswered::Refused(HandlerError::Dead)),
+            ),
             Place::Made(node) => node,
         };
         if node.handler.is_dead() {
-            return (Place::Made(node), Err(HandlerError::Dead));
+            return (
+                Place::Made(node),
+                Err(Unanswered::Refused(HandlerError::Dead)),
+            );
         }
+        let line = match blank_line(alloc) {
+            Ok(line) => line,
+            Err(_) => return (Place::Made(node), Err(Unanswered::NoMemory)),
+        };
         match node.handler.reboot_old_release(alloc, vsn) {
             Ok(()) => {
-                let (place, line) = Place::Made(node).boot(rt, alloc);
-                (place, answer_of(line))
+                let (place, answer) = Place::Made(node).boot(rt, alloc, line);
+                (place, answer_of(answer))
             }
-            Err(error) => (Place::Made(node), Err(error)),
+            Err(why) => (Place::Made(node), Err(Unanswered::Refused(why))),
         }
     }
 }

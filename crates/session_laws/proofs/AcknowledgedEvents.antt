@@ -12,35 +12,18 @@ use Rattle.rel_unpack.specs.Source.{Source}
 use Rattle.rel_session.specs.Files.{Files, files_behind, source_of}
 use Rattle.rel_session.specs.Node.{Place, at_rest, Reply}
 use Rattle.rel_session.specs.Node.Place.{raw, closed, running, dead}
-use Rattle.rel_session.specs.Run.{EndsInFull, Starts, Holds, Moments, Executes, MayLeave, IsReply, Replies, Ending, IsReached, events_of}
+use Rattle.rel_session.specs.Run.{EndsInFull, Starts, Holds, Moments, Executes, Replies, Ending, IsReached, events_of}
 use Rattle.rel_session.specs.Run.Ending.{ended, cut_off, unread, unwritten, out_of_memory, going_on}
 use Rattle.session_laws.specs.RunLaws.{acknowledged_at, ran_at, IsKnown, MayBe, Finds, ReplyKeepsEvents, place_after, HaveAll, StandsForAll, BecomesKnown, LosesNothing, IsOfAccepted, BeginsWhereOneEnded, store_left, BeginsBehindACrash, IsHandedBack, GoesOn, Lasts, LosesNothingEver}
 use Rattle.rel_session.specs.Transition.{Transition}
 use Rattle.rel_session.proofs.Prefixes.{prefix_of, prefix_is}
 use Rattle.rel_session.proofs.DeviceLemmas.{IsDevice, weakened, joined, still}
-use Rattle.session_laws.proofs.Transitions.{may_have, each_left_keeps}
-
-pub left_by : (source : Source) (p : Place) (c : Command) (ending : Ending) (a : Reply) (more : List Reply) → IsReply source p c ending more a → MayLeave source p c a
-left_by source p c ended a more is = inl is
-left_by source p c cut_off a more is = inl is
-left_by source p c unread a more is = inl is
-left_by source p c unwritten a more is = inl is
-left_by source p c going_on a more is = inl is
-left_by source p c out_of_memory a [] is = is
-left_by source p c out_of_memory a (b ∷ more) is = inl is
-
-whole : (source : Source) (p : Place) (c : Command) (ending : Ending) (a : Reply) (more : List Reply) → EndsInFull ending → IsReply source p c ending more a → Transition source p c a
-whole source p c ended a more full is = is
-whole source p c cut_off a more full is = is
-whole source p c unread a more full is = is
-whole source p c unwritten a more full is = absurd full
-whole source p c out_of_memory a more full is = absurd full
-whole source p c going_on a more full is = absurd full
+use Rattle.session_laws.proofs.Transitions.{may_have, each_keeps}
 
 -- the first of some replies is that to the first command, and the others are those to the commands after it
 pub next_answered : (base : Source) (files : Files) (p : Place) (c : Command) (rest : Feed Command) (ending : Ending) (a : Reply) (more : List Reply) → EndsInFull ending → Replies base files p (next c rest) ending (a ∷ more)
     → Transition (source_of base files) p c a × Replies base (files_behind files c) a.after rest ending more
-next_answered base files p c rest ending a more full right = (whole (source_of base files) p c ending a more full right.0, right.1)
+next_answered base files p c rest ending a more full right = right
 
 -- where no command is left there is none
 pub none_left : (base : Source) (files : Files) (p : Place) (commands : Feed Command) (ending : Ending) (a : Reply) (more : List Reply) → (commands ≡ over) ⊎ (commands ≡ cut) → Replies base files p commands ending (a ∷ more) → ⊥
@@ -62,14 +45,14 @@ none_left base files p (next c rest) ending a more (inr none) right = cc none
 pub record Answered (base : Source) (files : Files) (p : Place) (a : Reply) (ending : Ending) (more : List Reply) : Type 0 where
   pub command : Command
   pub rest : Feed Command
-  pub is : MayLeave (source_of base files) p command a
+  pub is : Transition (source_of base files) p command a
   pub right : Replies base (files_behind files command) a.after rest ending more
 
 pub first_answered : (base : Source) (files : Files) (p : Place) (commands : Feed Command) (ending : Ending) (a : Reply) (more : List Reply) → Replies base files p commands ending (a ∷ more) → Answered base files p a ending more
 first_answered base files p over ending a more right = absurd (none_left base files p over ending a more (inl refl) right)
 first_answered base files p cut ending a more right = absurd (none_left base files p cut ending a more (inr refl) right)
 first_answered base files p (next c rest) ending a more right =
-    record { command = c; rest = rest; is = left_by (source_of base files) p c ending a more right.0; right = right.1 }
+    record { command = c; rest = rest; is = right.0; right = right.1 }
 
 -- with the one in doubt or without, the events begin with the acknowledged ones
 doubt_more : (events : Events) (doubt : Option Event) (found : Events) → (found ≡ events) ⊎ (found ≡ with_doubt events doubt) → (more : Events) × (found ≡ events ++ more)
@@ -107,7 +90,7 @@ have_all : (base : Source) (files : Files) (p : Place) (commands : Feed Command)
 have_all base files p commands ending [] rest right = refl
 have_all base files p commands ending (a ∷ first) rest right =
     let n = first_answered base files p commands ending a (first ++ rest) right in
-    let keeps = each_left_keeps (source_of base files) p n.command a n.is in
+    let keeps = each_keeps (source_of base files) p n.command a n.is in
     (keeps.found, keeps.finds, keeps.are, have_all base (files_behind files n.command) a.after n.rest ending first rest n.right)
 
 known_first : (p : Place) (replies : List Reply) → IsKnown p → BecomesKnown p replies
@@ -120,7 +103,7 @@ pub becomes_known : (base : Source) (files : Files) (p : Place) (commands : Feed
 becomes_known base files p commands ending [] rest right known = known
 becomes_known base files p commands ending (a ∷ first) rest right known =
     let n = first_answered base files p commands ending a (first ++ rest) right in
-    let keeps = each_left_keeps (source_of base files) p n.command a n.is in
+    let keeps = each_keeps (source_of base files) p n.command a n.is in
     becomes_known base (files_behind files n.command) a.after n.rest ending first rest n.right (go keeps known)
   where
     go : ReplyKeepsEvents p a → (IsKnown p ⊎ (a.outcome.acknowledged ≢ [])) ⊎ BecomesKnown a.after first → BecomesKnown a.after first
@@ -145,7 +128,7 @@ stays_known : (base : Source) (files : Files) (p : Place) (commands : Feed Comma
 stays_known base files p commands ending [] right known = (known, [], sym (append-nil (acknowledged_at p)), with_themselves (ran_at p))
 stays_known base files p commands ending (a ∷ more) right known =
     let n = first_answered base files p commands ending a more right in
-    let keeps = each_left_keeps (source_of base files) p n.command a n.is in
+    let keeps = each_keeps (source_of base files) p n.command a n.is in
     let (between, is) = keeps_more p a keeps in
     let (then, others, are, ran) = stays_known base (files_behind files n.command) a.after n.rest ending more n.right (keeps.known (inl known)) in (
       then,
@@ -215,7 +198,7 @@ module _ {D : Type 0} (v : Device D) (laws : IsDevice v) where
       weakened v old new (v.may_leave old) (StandsForAll p []) (held_images p old known holds) leaves
   session_images base files p commands ending (a ∷ more) old new right known holds (mid, happens, leads) =
       let n = first_answered base files p commands ending a more right in
-      let keeps = each_left_keeps (source_of base files) p n.command a n.is in
+      let keeps = each_keeps (source_of base files) p n.command a n.is in
       joined v old mid new (StandsForAll p (a ∷ more)) (command_images p a more old mid known happens.moments)
       (weakened v mid new (StandsForAll a.after more) (StandsForAll p (a ∷ more)) (λ c. stands_for_later p a more c keeps)
       (session_images base (files_behind files n.command) a.after n.rest ending more mid new n.right (keeps.known (inl known)) happens.holds leads))

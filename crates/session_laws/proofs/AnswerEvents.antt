@@ -10,7 +10,7 @@ use Rattle.rel_handler.specs.declared.error.BootError.{BootError}
 use Rattle.rel_handler.specs.declared.error.BootError.TheVariants as boot_error
 use Rattle.node_command.specs.declared.error.HandlerError.{HandlerError}
 use Rattle.node_command.specs.declared.error.HandlerError.TheVariants as handler_error
-use Rattle.node_store.specs.Events.{Events, Stored, certain, uncertain}
+use Rattle.node_store.specs.Events.{Events, Stored, certain, uncertain, uncertain_boot}
 use Rattle.node_store.specs.Image.{Extent, holds_a_store}
 use Rattle.node_command.specs.Files.{bundle_brought, made_size}
 use Rattle.node_command.specs.Place.{own_refusal}
@@ -32,7 +32,9 @@ use Rattle.rel_session.specs.Installation.{restarted}
 use Rattle.rel_session.specs.Node.{Place, CommandOutcome, Reply, reply, failed, nothing, done, failed_with, releases_after, behind, with_text}
 use Rattle.rel_session.specs.Node.Place.{raw, closed, running, dead}
 use Rattle.node_answer.specs.Refusals.{refusal_of, refusal_for, refusal_line}
-use Rattle.rel_session.specs.Booting.{boot_line}
+use Rattle.rel_session.specs.Booting.{Lack, boot_line, boot_undone, undone}
+use Rattle.rel_session.specs.Booting.Lack.{device_failed, memory_refused}
+use Rattle.session_laws.proofs.MemoryLines.{each_report}
 use Rattle.node_answer.specs.Refusals.NodeRefusal.{device}
 use Rattle.rel_session.specs.Transition
 use Rattle.rel_session.specs.Transition.Action.{answers, makes_node, changes_node, installs, reboots_node, boots_node, reports_start, calls}
@@ -47,23 +49,27 @@ use Rattle.rel_session.proofs.Contradiction.{never}
 use Rattle.session_laws.proofs.InstallationLemmas.{each_reply}
 use Rattle.session_laws.proofs.InstallLines.{append_left, done_or_failed, restart_first, reports_ok}
 
--- what an answer reports: that the command was done, that the device failed, within a boot or not, that a script failed after its
--- point of no return, or that nothing was done
+-- what an answer reports: that the command was done, that the device failed, within a boot or not, that memory was refused to a
+-- boot, that a script failed after its point of no return, or that nothing was done
 data Report : Type 0 where
   it_is_done : Report
   it_failed : Report
   boot_failed : Report
+  boot_lacked : Report
   script_broke : Report
   nothing_done : Report
 
+abbrev report_unless_ok : List ℕ → Report
+report_unless_ok s =
+    if bytes_eq s (refusal_line device) then it_failed
+    else if bytes_eq s (boot_line boot_error.Device) then boot_failed
+    else if bytes_eq s (boot_line boot_error.NoMemory) then boot_lacked
+    else if bytes_eq (take 16 s) (codes "error handler 15") then script_broke
+    else nothing_done
+
 abbrev report_of : List ℕ → Report
 report_of [] = nothing_done
-report_of (x ∷ s) =
-    if x == 111 then it_is_done
-    else if bytes_eq (x ∷ s) (refusal_line device) then it_failed
-    else if bytes_eq (x ∷ s) (boot_line boot_error.Device) then boot_failed
-    else if bytes_eq (take 16 (x ∷ s)) (codes "error handler 15") then script_broke
-    else nothing_done
+report_of (x ∷ s) = if x == 111 then it_is_done else report_unless_ok (x ∷ s)
 
 -- the outcome, and the kind of the place after it
 pub record Effect : Type 0 where
@@ -84,6 +90,7 @@ made_in_doubt k p why = None
 abbrev created : Kind → Bundle → Option Refusal → Report → Effect
 created k p why it_is_done = effect (done (made p ∷ booting ∷ [])) runs
 created k p why it_failed = effect (failed_with (made_in_doubt k p why)) k
+created k p why boot_lacked = effect (done (made p ∷ booting ∷ [])) at_rest
 created k p why t = effect nothing k
 
 -- a change is done on a node that runs, and refused on any other
@@ -106,7 +113,8 @@ left k = at_rest
 
 abbrev booted : Kind → Report → Effect
 booted k it_is_done = effect (done (booting ∷ [])) runs
-booted k boot_failed = effect (failed_with (Some booting)) (left k)
+booted k boot_failed = effect (undone device_failed) (left k)
+booted k boot_lacked = effect (undone memory_refused) (left k)
 booted k t = effect nothing k
 
 -- A reboot is done with its boot on a node that runs, or without it, or the device failed in its commit.
@@ -114,6 +122,7 @@ abbrev rebooted : Kind → List ℕ → Report → Effect
 rebooted runs vsn it_is_done = effect (done (reboot_old vsn ∷ booting ∷ [])) runs
 rebooted runs vsn it_failed = effect (failed_with (Some (reboot_old vsn))) fails
 rebooted runs vsn boot_failed = effect (record { acknowledged = reboot_old vsn ∷ []; in_doubt = Some booting; failed = true }) at_rest
+rebooted runs vsn boot_lacked = effect (record { acknowledged = reboot_old vsn ∷ []; in_doubt = Some booting; failed = false }) at_rest
 rebooted k vsn t = effect nothing k
 
 -- the start is reported where a node runs
@@ -194,17 +203,20 @@ changes events extent ps c l None o plain a is = commits c.event (changed runs c
 -- the boot after a commit
 boots_behind : (vsn : List ℕ) (s : Stored) (a b : Reply) → Transition.BootsStore s b → a ≡ behind (reboot_old vsn) b → HasEffect (rebooted runs vsn) a
 boots_behind vsn s a b (inl (events, extent, has, (list, after, is))) reported = effect_as (rebooted runs vsn) a _ (reported ∙ ap (behind (reboot_old vsn)) is) refl
-boots_behind vsn s a b (inr (inl is)) reported = effect_as (rebooted runs vsn) a _ (reported ∙ ap (behind (reboot_old vsn)) is) refl
-boots_behind vsn s a b (inr (inr (events, extent, has, is))) reported = effect_as (rebooted runs vsn) a _ (reported ∙ ap (behind (reboot_old vsn)) is) refl
+boots_behind vsn s a b (inr (device_failed, inl is)) reported = effect_as (rebooted runs vsn) a _ (reported ∙ ap (behind (reboot_old vsn)) is) refl
+boots_behind vsn s a b (inr (device_failed, inr (events, extent, has, is))) reported = effect_as (rebooted runs vsn) a _ (reported ∙ ap (behind (reboot_old vsn)) is) refl
+boots_behind vsn s a b (inr (memory_refused, inl is)) reported = effect_as (rebooted runs vsn) a _ (reported ∙ ap (behind (reboot_old vsn)) is) refl
+boots_behind vsn s a b (inr (memory_refused, inr (events, extent, has, is))) reported = effect_as (rebooted runs vsn) a _ (reported ∙ ap (behind (reboot_old vsn)) is) refl
 
-reboots : (events : Events) (extent : Extent) (ps : Processes) (vsn : List ℕ) (l : Releases) (o : Result Releases HandlerError) → IsPlainList o → (a : Reply) → Transition.Reboots Transition.BootsStore events extent ps vsn l o a → HasEffect (rebooted runs vsn) a
+reboots : (events : Events) (extent : Extent) (ps : Processes) (vsn : List ℕ) (l : Releases) (o : Result Releases HandlerError) → IsPlainList o → (a : Reply) → Transition.Reboots events extent ps vsn l o a → HasEffect (rebooted runs vsn) a
 reboots events extent ps vsn l o plain =
     commits (reboot_old vsn) (rebooted runs vsn) refl refl events extent ps _ o _ plain (λ x a (b, boot, is). boots_behind vsn (Transition.rebooted events x vsn) a b boot is)
 
 -- create
 makes_with : (x : List ℕ) (p : Bundle) (size : ℕ) (why : Option Refusal) (a : Reply) → Transition.MakesWith x p size why a → HasEffect (created of_bytes p why) a
 makes_with x p size (Some why) a is = effect_as (created of_bytes p (Some why)) a _ is (sym (ap (created of_bytes p (Some why)) (plain_files why)))
-makes_with x p size None a (inl (fits, is)) = effect_as (created of_bytes p None) a _ is refl
+makes_with x p size None a (inl (fits, inl is)) = effect_as (created of_bytes p None) a _ is refl
+makes_with x p size None a (inl (fits, inr is)) = effect_as (created of_bytes p None) a _ is refl
 makes_with x p size None a (inr (over_it, is)) = effect_as (created of_bytes p None) a _ is refl
 
 makes_on : (x : List ℕ) (b : Brought) (there : Bool) (a : Reply) → Transition.MakesOn x b there a → HasEffect (created of_bytes (bundle_brought b) (own_refusal b)) a
@@ -223,11 +235,16 @@ makes (closed s) b a (inr is) = effect_as (created at_rest (bundle_brought b) (o
 makes (running events extent ps) b a is = effect_as (created runs (bundle_brought b) (own_refusal b)) a _ is refl
 makes (dead s) b a is = effect_as (created fails (bundle_brought b) (own_refusal b)) a _ is refl
 
+-- a boot that was not done
+undone_effect : (k : Kind) (lack : Lack) (q : Place) → kind_of q ≡ left k → HasEffect (booted k) (boot_undone lack q)
+undone_effect k device_failed q there = ap (effect (undone device_failed)) there
+undone_effect k memory_refused q there = ap (effect (undone memory_refused)) there
+
 -- boot
 boots_store : (k : Kind) (s : Stored) (a : Reply) → left k ≡ at_rest → Transition.BootsStore s a → HasEffect (booted k) a
 boots_store k s a there (inl (events, extent, has, (list, after, is))) = effect_as (booted k) a _ is refl
-boots_store k s a there (inr (inl is)) = effect_as (booted k) a _ is (ap (effect (failed_with (Some booting))) (sym there))
-boots_store k s a there (inr (inr (events, extent, has, is))) = effect_as (booted k) a _ is (ap (effect (failed_with (Some booting))) (sym there))
+boots_store k s a there (inr (lack, inl is)) = effect_as (booted k) a _ is (undone_effect k lack (closed s) (sym there))
+boots_store k s a there (inr (lack, inr (events, extent, has, is))) = effect_as (booted k) a _ is (undone_effect k lack (closed (uncertain_boot s.known.ran events extent)) (sym there))
 
 boots_refused : (x : List ℕ) (why : BootError) → IsBootRefusal x why → HasEffect (booted of_bytes) (reply (boot_line why) nothing (raw x))
 boots_refused x boot_error.NotAStore is = refl
@@ -239,7 +256,7 @@ boots_refused x boot_error.NoMemory is = absurd is
 boots : (p : Place) (a : Reply) → Transition.Boots p a → HasEffect (booted (kind_of p)) a
 boots (raw x) a (inl (events, list, extent, after, image, (list_then, after_then, is))) = effect_as (booted of_bytes) a _ is refl
 boots (raw x) a (inr (inl (why, refusal, is))) = effect_as (booted of_bytes) a _ is (boots_refused x why refusal)
-boots (raw x) a (inr (inr (torn, is))) = effect_as (booted of_bytes) a _ is refl
+boots (raw x) a (inr (inr (lack, torn, left_there, is))) = effect_as (booted of_bytes) a _ is (undone_effect of_bytes lack (raw torn) refl)
 boots (closed s) a is = boots_store at_rest s a refl is
 boots (running events extent ps) a is = boots_store runs (certain events extent) a refl is
 boots (dead s) a is = boots_store fails s a refl is
@@ -292,6 +309,13 @@ same_install k vsn a b (without_restart has none) (restart_in_doubt has_too repo
 same_install k vsn a b (with_restart line x whole ok has is) (without_restart has_too none_too) alike same = never (sym none_too ∙ sym alike ∙ restarts_with a x vsn line is)
 same_install k vsn a b (restart_in_doubt has reported one) (without_restart has_too none_too) alike same = never (sym none_too ∙ sym alike ∙ one)
 
+-- What reports that something was done is no report that nothing was.
+not_done : {T : Type 0} (answer : List ℕ) → report_of answer ≡ nothing_done → reports_ok answer ≡ true → T
+not_done [] none ok = never ok
+not_done (x ∷ s) none ok =
+    let lost : it_is_done ≡ nothing_done = ap (λ (b : Bool). if b then it_is_done else report_unless_ok (x ∷ s)) (sym ok) ∙ none in
+    absurd cc
+
 -- one that does nothing
 idle : (a b x y : Reply) → a ≡ x → b ≡ y → effect_of x ≡ effect_of y → effect_of a ≡ effect_of b
 idle a b x y is also same = ap effect_of is ∙ same ∙ sym (ap effect_of also)
@@ -319,7 +343,7 @@ acts (raw x) (changes_node c) a is = effect_as (changed of_bytes c) a _ is refl
 acts (closed s) (changes_node c) a is = effect_as (changed at_rest c) a _ is refl
 acts (dead s) (changes_node c) a is = effect_as (changed fails c) a _ is refl
 acts (running events extent ps) (installs vsn) a is =
-    each_reply Transition.BootsStore (HasInstallEffect runs vsn) events extent ps vsn (releases_after events) (record {
+    each_reply (HasInstallEffect runs vsn) events extent ps vsn (releases_after events) (record {
       listed = λ why. without_restart (sym (ap (installing runs vsn) (plain_listed why))) refl;
       unmatched = without_restart refl refl;
       not_run = λ f. without_restart refl refl;
@@ -360,9 +384,39 @@ same_effects k boots_node a b is also alike same = same_effect (acted k boots_no
 same_effects k reports_start a b is also alike same = same_effect (acted k reports_start) a b is also same
 same_effects k (calls c) a b is also alike same = same_effect (acted k (calls c)) a b is also same
 
+-- The line that reports that memory was refused to a call reports that nothing was done.
+report_nothing : (p : Place) (c : Command) (line : List ℕ) → Transition.memory_report_at p c ≡ Some line → report_of line ≡ nothing_done
+report_nothing = each_report (λ line. report_of line ≡ nothing_done) refl refl
+
+-- A reply with that answer has done nothing, whatever its action.
+did_nothing : (k : Kind) (does : Transition.Action) (a : Reply) → HasEffectOf k does a → report_of a.answer ≡ nothing_done → effect_of a ≡ effect nothing k
+did_nothing k (answers text) a is none = is
+did_nothing k (makes_node b) a is none = is ∙ ap (created k (bundle_brought b) (own_refusal b)) none
+did_nothing of_bytes (changes_node c) a is none = is ∙ ap (changed of_bytes c) none
+did_nothing at_rest (changes_node c) a is none = is ∙ ap (changed at_rest c) none
+did_nothing runs (changes_node c) a is none = is ∙ ap (changed runs c) none
+did_nothing fails (changes_node c) a is none = is ∙ ap (changed fails c) none
+did_nothing of_bytes (installs vsn) a (without_restart is plain) none = is ∙ ap (installing of_bytes vsn) none
+did_nothing at_rest (installs vsn) a (without_restart is plain) none = is ∙ ap (installing at_rest vsn) none
+did_nothing runs (installs vsn) a (without_restart is plain) none = is ∙ ap (installing runs vsn) none
+did_nothing fails (installs vsn) a (without_restart is plain) none = is ∙ ap (installing fails vsn) none
+did_nothing k (installs vsn) a (with_restart line b whole ok has is) none =
+    not_done a.answer none (ap (λ (r : Reply). reports_ok r.answer) is ∙ ok b.answer)
+did_nothing k (installs vsn) a (restart_in_doubt has reported one) none = let lost : it_failed ≡ nothing_done = ap report_of (sym reported) ∙ none in absurd cc
+did_nothing of_bytes (reboots_node vsn) a is none = is ∙ ap (rebooted of_bytes vsn) none
+did_nothing at_rest (reboots_node vsn) a is none = is ∙ ap (rebooted at_rest vsn) none
+did_nothing runs (reboots_node vsn) a is none = is ∙ ap (rebooted runs vsn) none
+did_nothing fails (reboots_node vsn) a is none = is ∙ ap (rebooted fails vsn) none
+did_nothing k boots_node a is none = is ∙ ap (booted k) none
+did_nothing of_bytes reports_start a is none = is ∙ ap (reports of_bytes) none
+did_nothing at_rest reports_start a is none = is ∙ ap (reports at_rest) none
+did_nothing runs reports_start a is none = is ∙ ap (reports runs) none
+did_nothing fails reports_start a is none = is ∙ ap (reports fails) none
+did_nothing k (calls c) a is none = is
+
 pub one_effect : (source : Source) → GivesOne source → (p q : Place) (c : Command) (a b : Reply) → kind_of p ≡ kind_of q → have_restart (events_of a.outcome) ≡ have_restart (events_of b.outcome) → a.answer ≡ b.answer
     → Transition.Transition source p c a → Transition.Transition source q c b → effect_of a ≡ effect_of b
-one_effect source one p q c a b kinds alike same (x, comes, is) (y, comes_too, also) = go (one_action source one p q c x y (ap runs_node kinds) comes comes_too)
+one_effect source one p q c a b kinds alike same (x, inl comes, is) (y, inl comes_too, also) = go (one_action source one p q c x y (ap runs_node kinds) comes comes_too)
   where
     go : (x ≡ y) ⊎ AreReported p q x y → effect_of a ≡ effect_of b
     go (inl one) =
@@ -370,3 +424,11 @@ one_effect source one p q c a b kinds alike same (x, comes, is) (y, comes_too, a
         (subst (λ k. HasEffectOf k x b) (sym kinds) (subst (λ z. HasEffectOf (kind_of q) z b) (sym one) (acts q y b also))) alike same
     go (inr (says, here, here_too)) =
         idle a b _ _ (subst (λ z. Transition.Acts p z a) here is) (subst (λ z. Transition.Acts q z b) here_too also) (ap (effect nothing) kinds)
+one_effect source one p q c a b kinds alike same (x, inr (line, reports_it, answered), is) (y, comes_too, also) =
+    let here = subst (λ z. Transition.Acts p z a) answered is in
+    let none = ap report_of (sym same ∙ ap (λ (r : Reply). r.answer) here) ∙ report_nothing p c line reports_it in
+    ap effect_of here ∙ ap (effect nothing) kinds ∙ sym (did_nothing (kind_of q) y b (acts q y b also) none)
+one_effect source one p q c a b kinds alike same (x, inl comes, is) (y, inr (line, reports_it, answered), also) =
+    let there = subst (λ z. Transition.Acts q z b) answered also in
+    let none = ap report_of (same ∙ ap (λ (r : Reply). r.answer) there) ∙ report_nothing q c line reports_it in
+    did_nothing (kind_of p) x a (acts p x a is) none ∙ ap (effect nothing) kinds ∙ sym (ap effect_of there)

@@ -1,5 +1,5 @@
 -- A text determines the events of the answers that stand whole in it, wherever its session broke off.
-use Rattle.std.proofs.Common.{◌≡◌, ◌≢◌, ◌⊎◌, inl, inr, ⊎_elim, ℕ, List, [], ◌∷◌, ◌++◌, refl, sym, ap, ◌∙◌, subst, append-nil, append_assoc}
+use Rattle.std.proofs.Common.{◌≡◌, ◌≢◌, inl, inr, ℕ, List, [], ◌∷◌, ◌++◌, refl, sym, ap, ◌∙◌, subst, append-nil, append_assoc}
 use Rattle.node_answer.specs.Refusals.{refusal_line}
 use Rattle.node_answer.specs.Refusals.NodeRefusal.{device}
 use Rattle.rel_unpack.specs.Source.{Source, GivesOne}
@@ -8,12 +8,12 @@ use Rattle.session_input.specs.Feed.{Feed}
 use Rattle.session_input.specs.Feed.Feed.{over, cut, next}
 use Rattle.rel_session.specs.Files.{Files, files_behind, source_of}
 use Rattle.rel_session.specs.Node.{Place, Reply}
-use Rattle.rel_session.specs.Run.{IsReply, IsTextOf, Replies, Ending, answers_of, events_of}
+use Rattle.rel_session.specs.Run.{IsTextOf, Replies, Ending, answers_of, events_of}
 use Rattle.rel_session.specs.Run.Ending.{ended, cut_off, unread, unwritten, out_of_memory, going_on}
-use Rattle.rel_session.specs.Transition.{Action, ComesTo, IsStopped, Transition}
+use Rattle.rel_session.specs.Transition.{Action, Acts, ComesToOrLacks, Transition}
 use Rattle.rel_session.specs.Transition.Action.{answers, makes_node, changes_node, installs, reboots_node, boots_node, reports_start, calls}
 use Rattle.session_laws.specs.AnswerLaws.{AreSame, HaveLinePaths, HasLinePath, HasModuleVersionsAt, HasVersionsAt, IsOneOrNone, RestartAlike, Shows, ShowsOneRun, EachTextShows, have_restart}
-use Rattle.session_laws.proofs.AcknowledgedEvents.{left_by, none_left}
+use Rattle.session_laws.proofs.AcknowledgedEvents.{none_left}
 use Rattle.session_laws.proofs.ActionLemmas.{kind_of}
 use Rattle.session_laws.proofs.AnswerEvents.{Effect, one_effect}
 use Rattle.session_laws.proofs.AnswerLines as lines
@@ -25,72 +25,23 @@ use Rattle.session_laws.proofs.ProcessVersions.{keeps_versions_of_modules}
 use Rattle.session_laws.proofs.SourceLemmas.{gives_one}
 use Rattle.session_laws.proofs.Versions.{LinesOf, each_good}
 
--- Each of these replies is one to a command that was followed to its end.
+-- each of these replies is one to its command
 abbrev AreTransitions : Source → Files → Place → List Reply → Feed Command → Type 0
 AreTransitions base files p [] commands = Unit {0}
 AreTransitions base files p (a ∷ more) (next c rest) = Transition (source_of base files) p c a × AreTransitions base (files_behind files c) a.after more rest
 AreTransitions base files p (a ∷ more) commands = ⊥
 
--- A session that was not refused memory has followed each command to its end.
-abbrev HadMemory : Ending → Type 0
-HadMemory out_of_memory = ⊥
-HadMemory ending = Unit {0}
-
-to_its_end : (source : Source) (p : Place) (c : Command) (ending : Ending) (more : List Reply) (a : Reply) → HadMemory ending → IsReply source p c ending more a → Transition source p c a
-to_its_end source p c ended more a had is = is
-to_its_end source p c cut_off more a had is = is
-to_its_end source p c unread more a had is = is
-to_its_end source p c unwritten more a had is = is
-to_its_end source p c going_on more a had is = is
-to_its_end source p c out_of_memory more a had is = absurd had
-
-all_right : (base : Source) (files : Files) (p : Place) (commands : Feed Command) (ending : Ending) (replies : List Reply) → HadMemory ending → Replies base files p commands ending replies → AreTransitions base files p replies commands
-all_right base files p commands ending [] had right = tt
-all_right base files p over ending (a ∷ more) had right = absurd (none_left base files p over ending a more (inl refl) right)
-all_right base files p cut ending (a ∷ more) had right = absurd (none_left base files p cut ending a more (inr refl) right)
-all_right base files p (next c rest) ending (a ∷ more) had right =
-    (to_its_end (source_of base files) p c ending more a had right.0, all_right base (files_behind files c) a.after rest ending more had right.1)
-
--- Whatever ended the session, each command but the last was followed to its end.
-followed : (source : Source) (p : Place) (c : Command) (ending : Ending) (first : List Reply) (last a : Reply) → IsReply source p c ending (first ++ last ∷ []) a → Transition source p c a
-followed source p c ended first last a is = is
-followed source p c cut_off first last a is = is
-followed source p c unread first last a is = is
-followed source p c unwritten first last a is = is
-followed source p c going_on first last a is = is
-followed source p c out_of_memory [] last a is = is
-followed source p c out_of_memory (b ∷ first) last a is = is
+all_right : (base : Source) (files : Files) (p : Place) (commands : Feed Command) (ending : Ending) (replies : List Reply) → Replies base files p commands ending replies → AreTransitions base files p replies commands
+all_right base files p commands ending [] right = tt
+all_right base files p over ending (a ∷ more) right = absurd (none_left base files p over ending a more (inl refl) right)
+all_right base files p cut ending (a ∷ more) right = absurd (none_left base files p cut ending a more (inr refl) right)
+all_right base files p (next c rest) ending (a ∷ more) right = (right.0, all_right base (files_behind files c) a.after rest ending more right.1)
 
 first_right : (base : Source) (files : Files) (p : Place) (commands : Feed Command) (ending : Ending) (first : List Reply) (last : Reply) → Replies base files p commands ending (first ++ last ∷ []) → AreTransitions base files p first commands
 first_right base files p commands ending [] last right = tt
 first_right base files p over ending (a ∷ first) last right = absurd (none_left base files p over ending a (first ++ last ∷ []) (inl refl) right)
 first_right base files p cut ending (a ∷ first) last right = absurd (none_left base files p cut ending a (first ++ last ∷ []) (inr refl) right)
-first_right base files p (next c rest) ending (a ∷ first) last right =
-    (followed (source_of base files) p c ending first last a right.0, first_right base (files_behind files c) a.after rest ending first last right.1)
-
--- A command that was stopped within has no answer.
-no_answer : (source : Source) (p : Place) (c : Command) (a : Reply) → IsStopped source p c a → a.answer ≡ []
-no_answer source p c a (does, comes, (b, is, lost)) = ap (λ (r : Reply). r.answer) lost
-
--- Where memory was refused, each command was followed to its end, or all but the last, which was stopped within.
-record StopsLast (base : Source) (files : Files) (p : Place) (commands : Feed Command) (replies : List Reply) : Type 0 where
-  first : List Reply
-  last : Reply
-  are : replies ≡ first ++ last ∷ []
-  right : AreTransitions base files p first commands
-  silent : last.answer ≡ []
-
-stops_last : (base : Source) (files : Files) (p : Place) (commands : Feed Command) (replies : List Reply) → Replies base files p commands out_of_memory replies
-    → AreTransitions base files p replies commands ⊎ StopsLast base files p commands replies
-stops_last base files p commands [] right = inl tt
-stops_last base files p over (a ∷ more) right = absurd (none_left base files p over out_of_memory a more (inl refl) right)
-stops_last base files p cut (a ∷ more) right = absurd (none_left base files p cut out_of_memory a more (inr refl) right)
-stops_last base files p (next c rest) (a ∷ []) right =
-    ⊎_elim (λ is. inl (is, tt)) (λ stopped. inr (record { first = []; last = a; are = refl; right = tt; silent = no_answer (source_of base files) p c a stopped })) right.0
-stops_last base files p (next c rest) (a ∷ b ∷ more) right =
-    ⊎_elim (λ are. inl (right.0, are))
-    (λ (s : StopsLast base (files_behind files c) a.after rest (b ∷ more)). inr (record { first = a ∷ s.first; last = s.last; are = ap (λ (l : List Reply). a ∷ l) s.are; right = (right.0, s.right); silent = s.silent }))
-    (stops_last base (files_behind files c) a.after rest (b ∷ more) right.1)
+first_right base files p (next c rest) ending (a ∷ first) last right = (right.0, first_right base (files_behind files c) a.after rest ending first last right.1)
 
 answers-append : (first more : List Reply) → answers_of (first ++ more) ≡ answers_of first ++ answers_of more
 answers-append [] more = refl
@@ -129,25 +80,19 @@ shows_but_last text replies first last part left are answer is broke = record {
 
 is_shown : (base : Source) (files : Files) (p : Place) (commands : Feed Command) (ending : Ending) (text : List ℕ) (replies : List Reply) → Replies base files p commands ending replies → IsTextOf ending replies text
     → IsShown base files p commands text replies
-is_shown base files p commands ended text replies right is = record { shows = shows_all text replies is; right = all_right base files p commands ended replies tt right }
-is_shown base files p commands cut_off text replies right is = record { shows = shows_all text replies is; right = all_right base files p commands cut_off replies tt right }
-is_shown base files p commands unread text replies right is = record { shows = shows_all text replies is; right = all_right base files p commands unread replies tt right }
-is_shown base files p commands going_on text replies right is = record { shows = shows_all text replies is; right = all_right base files p commands going_on replies tt right }
+is_shown base files p commands ended text replies right is = record { shows = shows_all text replies is; right = all_right base files p commands ended replies right }
+is_shown base files p commands cut_off text replies right is = record { shows = shows_all text replies is; right = all_right base files p commands cut_off replies right }
+is_shown base files p commands unread text replies right is = record { shows = shows_all text replies is; right = all_right base files p commands unread replies right }
+is_shown base files p commands going_on text replies right is = record { shows = shows_all text replies is; right = all_right base files p commands going_on replies right }
 is_shown base files p commands unwritten text replies right (first, last, part, [], are, parts, is) =
     let all : text ≡ answers_of replies =
     is ∙ ap (λ t. answers_of first ++ t) (sym (append-nil part) ∙ parts ∙ sym (append-nil last.answer)) ∙ sym (answers-append first (last ∷ [])) ∙ ap answers_of (sym are) in
-    record { shows = shows_all text replies all; right = all_right base files p commands unwritten replies tt right }
+    record { shows = shows_all text replies all; right = all_right base files p commands unwritten replies right }
 is_shown base files p commands unwritten text replies right (first, last, part, x ∷ left, are, parts, is) = record {
   shows = shows_but_last text replies first last part (x ∷ left) are (sym parts) is (λ none. absurd cc);
   right = first_right base files p commands unwritten first last (subst (Replies base files p commands unwritten) are right);
 }
-is_shown base files p commands out_of_memory text replies right (inl is) = go (stops_last base files p commands replies right)
-  where
-    go : AreTransitions base files p replies commands ⊎ StopsLast base files p commands replies → IsShown base files p commands text replies
-    go (inl all) = record { shows = shows_all text replies is; right = all }
-    go (inr s) =
-        let but_last : text ≡ answers_of s.first ++ [] = is ∙ ap answers_of s.are ∙ answers-append s.first (s.last ∷ []) ∙ ap (λ t. answers_of s.first ++ (t ++ [])) s.silent in
-        record { shows = shows_but_last text replies s.first s.last [] [] s.are s.silent but_last (λ none. refl); right = s.right }
+is_shown base files p commands out_of_memory text replies right (inl is) = record { shows = shows_all text replies is; right = all_right base files p commands out_of_memory replies right }
 is_shown base files p commands out_of_memory text replies right (inr (first, last, are, is)) = record {
   shows = shows_but_last text replies first last [] last.answer are refl (is ∙ sym (append-nil (answers_of first))) (λ none. refl);
   right = first_right base files p commands out_of_memory first last (subst (Replies base files p commands out_of_memory) are right);
@@ -208,23 +153,20 @@ as_second (r ∷ broken) s more alike = sym alike.0
 -- Where the whole answer to a command stands in a text, no run that wrote the text broke off within that command.
 module _ (base : Source) (single : GivesOne base) (files : Files) (p q : Place) (kinds : kind_of p ≡ kind_of q) (all : HasVersionsAt p) (reports : HasModuleVersionsAt p) (c : Command) (line : HasLinePath c) where
   never_broken : (rest : Feed Command) (ending : Ending) (broken : List Reply) (part : List ℕ) (s : Reply) (tail : List ℕ) (again : Action) → Replies base files p (next c rest) ending broken → IsCut broken part
-      → ComesTo (source_of base files) q c again → LinesOf again s → RestartsAs broken s → part ≡ s.answer ++ tail → ⊥
-  never_broken rest ending [] part s tail again right broke comes of alike is =
+      → ComesToOrLacks (source_of base files) q c again → Acts q again s → LinesOf again s → RestartsAs broken s → part ≡ s.answer ++ tail → ⊥
+  never_broken rest ending [] part s tail again right broke comes acts_there of alike is =
       let none : [] ≡ s.answer ++ (tail ++ broke.left) = broke.answer ∙ ap (λ t. t ++ broke.left) is ∙ append_assoc s.answer tail broke.left in
       not_empty again s of (front_of_none s.answer (tail ++ broke.left) none)
-  never_broken rest ending (r ∷ more) part s tail again right broke comes of alike is =
-      ⊎_elim by_transition (λ stopped. empty (sym (ap (λ t. t ++ []) (no_answer (source_of base files) p c r stopped)) ∙ joined)) (left_by (source_of base files) p c ending r more right.0)
+  never_broken rest ending (r ∷ more) part s tail again right broke comes acts_there of alike is =
+      by_transition right.0
     where
-      empty : [] ≡ s.answer ++ (tail ++ broke.left) → ⊥
-      empty none = not_empty again s of (front_of_none s.answer (tail ++ broke.left) none)
-
       joined : r.answer ++ [] ≡ s.answer ++ (tail ++ broke.left)
       joined = ap (λ (l : List Reply). r.answer ++ answers_of l) (sym broke.one) ∙ broke.answer ∙ ap (λ t. t ++ broke.left) is ∙ append_assoc s.answer tail broke.left
 
       by_transition : Transition (source_of base files) p c r → ⊥
       by_transition (does, comes_here, acts) =
           let good = each_good (source_of base files) p c does line all reports comes_here r acts in
-          let same = one_answer (source_of base files) (gives_one base files single) p q c does again r s kinds comes_here comes good.0 of alike [] (tail ++ broke.left) joined in
+          let same = one_answer (source_of base files) (gives_one base files single) p q c does again r s kinds comes_here comes acts acts_there good.0 of alike [] (tail ++ broke.left) joined in
           let none = append_left s.answer [] (tail ++ broke.left) (ap (λ t. t ++ []) (sym same) ∙ joined) in
           not_empty again s of (front_of_none s.answer tail (sym (broke.not_whole (back_of_none tail broke.left none)) ∙ is))
 
@@ -238,14 +180,14 @@ same_shown base single files p q cut a b [] broken (s ∷ second) torn part rest
 same_shown base single files p q (next c later) a b [] broken (s ∷ second) torn part rest kinds all all_too reports reports_too paths restarts right right_too are are_too broke broke_too same =
     let (again, comes, acts) = are_too.0 in
     let good = each_good (source_of base files) q c again paths.0 all_too reports_too comes s acts in
-    absurd (never_broken base single files p q kinds all reports c paths.0 later a broken part s (answers_of second ++ rest) again right broke comes good.0 (as_first broken s (second ++ torn) restarts)
+    absurd (never_broken base single files p q kinds all reports c paths.0 later a broken part s (answers_of second ++ rest) again right broke comes acts good.0 (as_first broken s (second ++ torn) restarts)
     (same ∙ append_assoc s.answer (answers_of second) rest))
 same_shown base single files p q over a b (r ∷ first) broken [] torn part rest kinds all all_too reports reports_too paths restarts right right_too are are_too broke broke_too same = absurd are
 same_shown base single files p q cut a b (r ∷ first) broken [] torn part rest kinds all all_too reports reports_too paths restarts right right_too are are_too broke broke_too same = absurd are
 same_shown base single files p q (next c later) a b (r ∷ first) broken [] torn part rest kinds all all_too reports reports_too paths restarts right right_too are are_too broke broke_too same =
     let (does, comes, acts) = are.0 in
     let good = each_good (source_of base files) p c does paths.0 all reports comes r acts in
-    absurd (never_broken base single files q p (sym kinds) all_too reports_too c paths.0 later b torn rest r (answers_of first ++ part) does right_too broke_too comes good.0 (as_second torn r (first ++ broken) restarts)
+    absurd (never_broken base single files q p (sym kinds) all_too reports_too c paths.0 later b torn rest r (answers_of first ++ part) does right_too broke_too comes acts good.0 (as_second torn r (first ++ broken) restarts)
     (sym same ∙ append_assoc r.answer (answers_of first) part))
 same_shown base single files p q over a b (r ∷ first) broken (s ∷ second) torn part rest kinds all all_too reports reports_too paths restarts right right_too are are_too broke broke_too same = absurd are
 same_shown base single files p q cut a b (r ∷ first) broken (s ∷ second) torn part rest kinds all all_too reports reports_too paths restarts right right_too are are_too broke broke_too same = absurd are
@@ -256,7 +198,7 @@ same_shown base single files p q (next c later) a b (r ∷ first) broken (s ∷ 
     let (of, versions) = each_good source p c does paths.0 all reports comes r acts in
     let (of_too, versions_too) = each_good source q c again paths.0 all_too reports_too comes_too s acts_too in
     let joined : r.answer ++ (answers_of first ++ part) ≡ s.answer ++ (answers_of second ++ rest) = sym (append_assoc r.answer (answers_of first) part) ∙ same ∙ append_assoc s.answer (answers_of second) rest in
-    let answer = one_answer source (gives_one base files single) p q c does again r s kinds comes comes_too of of_too restarts.0 (answers_of first ++ part) (answers_of second ++ rest) joined in
+    let answer = one_answer source (gives_one base files single) p q c does again r s kinds comes comes_too acts acts_too of of_too restarts.0 (answers_of first ++ part) (answers_of second ++ rest) joined in
     let effect = one_effect source (gives_one base files single) p q c r s kinds restarts.0 answer are.0 are_too.0 in
     let left = append_left s.answer (answers_of first ++ part) (answers_of second ++ rest) (ap (λ t. t ++ (answers_of first ++ part)) (sym answer) ∙ joined) in (
       answer,

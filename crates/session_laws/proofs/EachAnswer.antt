@@ -129,7 +129,7 @@ makes_with x p size (Some why) = reported_reply _ _ _ refl (of_raw x)
 makes_with x p size None = go (fits_or_not first_extent size)
   where
     go : HasSpace first_extent size ⊎ (HasSpace first_extent size → ⊥) → Has (Transition.MakesWith x p size None)
-    go (inl fits) = fair_reply _ _ (inl (fits, refl)) refl (runs (made p ∷ booting ∷ []) (extent_behind first_extent size) (fresh_processes (entry p Permanent ∷ [])) (entry p Permanent ∷ []) refl) (λ r. refl)
+    go (inl fits) = fair_reply _ _ (inl (fits, inl refl)) refl (runs (made p ∷ booting ∷ []) (extent_behind first_extent size) (fresh_processes (entry p Permanent ∷ [])) (entry p Permanent ∷ []) refl) (λ r. refl)
     go (inr over_it) = reported_reply _ _ _ (inr (over_it, refl)) (of_raw x)
 
 makes_on : (x : List ℕ) (b : Brought) (there : Bool) → Has (Transition.MakesOn x b there)
@@ -172,7 +172,7 @@ booted_compact events x list none after compact =
     subst (λ y. y ≡ compacted y (releases_after (events ++ booting ∷ []))) (sym (extent_of_none x list free)) (compact ∙ sym (booted_reach x events none))
 
 reboots : (events : Events) (extent : Extent) (ps : Processes) (list : Releases) (vsn : List ℕ) → list_after events ≡ Some list
-    → Has (Transition.Reboots BootsStore events extent ps vsn (releases_after events) (commanded (rebooting vsn) (releases_after events)))
+    → Has (Transition.Reboots events extent ps vsn (releases_after events) (commanded (rebooting vsn) (releases_after events)))
 reboots events extent ps list vsn after =
     let e = rebooting vsn in
     let size = change_size e (releases_after events) in
@@ -205,18 +205,18 @@ restart_compact events x compact b (list, after, is) = by_one_shot (has_one_shot
 
 -- an installation
 installs_there : (events : Events) (extent : Extent) (ps : Processes) (list : Releases) (vsn : List ℕ) → list_after events ≡ Some list
-    → Has (Installs BootsStore events extent ps vsn (releases_after events) (installation vsn (releases_after events)))
+    → Has (Installs events extent ps vsn (releases_after events) (installation vsn (releases_after events)))
 installs_there events extent ps list vsn after = by_found (installation vsn (releases_after events)) refl
   where
     by_restart : (f : FoundForm) (r : Run) → installation vsn (releases_after events) ≡ Ok f → (size : ℕ) (restarts : Bool)
-        → Has (IsInstallationReply BootsStore restarts events (reach events extent (installation_event restarts vsn) size) vsn (releases_after events) f (behind_run r))
+        → Has (IsInstallationReply restarts events (reach events extent (installation_event restarts vsn) size) vsn (releases_after events) f (behind_run r))
     by_restart f r found size restarts = go restarts (list_after-push events (installation_event restarts vsn) list allowed.0 after (commanded_step (installation_event restarts vsn) list allowed.0 allowed.1))
       where
         allowed : (next : Releases) × (commanded (installation_event restarts vsn) list ≡ Ok next)
         allowed = installation_is_commanded restarts vsn list f (subst (λ l. installation vsn l ≡ Ok f) (ap list_or_none after) found)
 
         go : (b : Bool) → list_after (events ++ installation_event b vsn ∷ []) ≡ Some allowed.0
-            → Has (IsInstallationReply BootsStore b events (reach events extent (installation_event b vsn) size) vsn (releases_after events) f (behind_run r))
+            → Has (IsInstallationReply b events (reach events extent (installation_event b vsn) size) vsn (releases_after events) f (behind_run r))
         go false then = fair_reply _ _ refl refl (runs (events ++ installed vsn ∷ []) _ _ allowed.0 then) (λ r. stays_compact events extent (installed vsn) size)
         go true then =
             let e = restart_installed vsn in
@@ -225,23 +225,23 @@ installs_there events extent ps list vsn after = by_found (installation vsn (rel
             fair_reply _ (restarted_reply vsn (releases_after events) f (behind_run r) booted.given) (booted.given, inl (events ++ e ∷ [], x, (with_themselves (events ++ e ∷ []), inl (refl, refl)), booted.is), refl) booted.works booted.fair
             (restart_compact (events ++ e ∷ []) x (stays_compact events extent e size) booted.given booted.is)
 
-    by_outcome : (f : FoundForm) → installation vsn (releases_after events) ≡ Ok f → (o : script.Outcome) → Has (RepliesTo BootsStore events extent ps vsn (releases_after events) f o)
+    by_outcome : (f : FoundForm) → installation vsn (releases_after events) ≡ Ok f → (o : script.Outcome) → Has (RepliesTo events extent ps vsn (releases_after events) f o)
     by_outcome f found (script.Outcome.refuses n c) = reported_reply _ _ _ refl (runs events extent ps list after)
     by_outcome f found (script.Outcome.breaks n c) = reported_reply _ _ _ refl (died events events extent list (with_themselves events) after)
     by_outcome f found (script.Outcome.ends r) =
         let size = install_size vsn (releases_after events) in
         let x = reach events extent (installation_event (needs_restart vsn (releases_after events)) vsn) size in
-        mapped _ (RepliesTo BootsStore events extent ps vsn (releases_after events) f (script.Outcome.ends r)) (λ a is. inl (x, inl refl, is)) (by_restart f r found size (needs_restart vsn (releases_after events)))
+        mapped _ (RepliesTo events extent ps vsn (releases_after events) f (script.Outcome.ends r)) (λ a is. inl (x, inl refl, is)) (by_restart f r found size (needs_restart vsn (releases_after events)))
 
-    by_room : (f : FoundForm) → installation vsn (releases_after events) ≡ Ok f → HasSpace extent (install_room vsn (releases_after events)) ⊎ (HasSpace extent (install_room vsn (releases_after events)) → ⊥) → Has (RunsUnless BootsStore events extent ps vsn (releases_after events) f None)
-    by_room f found (inl fits) = mapped _ (RunsUnless BootsStore events extent ps vsn (releases_after events) f None) (λ a is. inl (fits, is)) (by_outcome f found (upgrade_outcome vsn (releases_after events) f ps))
+    by_room : (f : FoundForm) → installation vsn (releases_after events) ≡ Ok f → HasSpace extent (install_room vsn (releases_after events)) ⊎ (HasSpace extent (install_room vsn (releases_after events)) → ⊥) → Has (RunsUnless events extent ps vsn (releases_after events) f None)
+    by_room f found (inl fits) = mapped _ (RunsUnless events extent ps vsn (releases_after events) f None) (λ a is. inl (fits, inl is)) (by_outcome f found (upgrade_outcome vsn (releases_after events) f ps))
     by_room f found (inr over_it) = reported_reply _ _ _ (inr (over_it, refl)) (runs events extent ps list after)
 
-    by_failure : (f : FoundForm) → installation vsn (releases_after events) ≡ Ok f → (o : Option Failure) → Has (RunsUnless BootsStore events extent ps vsn (releases_after events) f o)
+    by_failure : (f : FoundForm) → installation vsn (releases_after events) ≡ Ok f → (o : Option Failure) → Has (RunsUnless events extent ps vsn (releases_after events) f o)
     by_failure f found (Some why) = reported_reply _ _ _ refl (runs events extent ps list after)
     by_failure f found None = by_room f found (fits_or_not extent (install_room vsn (releases_after events)))
 
-    by_found : (o : Result FoundForm HandlerError) → installation vsn (releases_after events) ≡ o → Has (Installs BootsStore events extent ps vsn (releases_after events) o)
+    by_found : (o : Result FoundForm HandlerError) → installation vsn (releases_after events) ≡ o → Has (Installs events extent ps vsn (releases_after events) o)
     by_found (Err why) found = reported_reply _ _ _ refl (runs events extent ps list after)
     by_found (Ok f) found = by_failure f found (script_failure vsn (releases_after events) f)
 
@@ -293,7 +293,7 @@ each laws base some files p (next c rest) fair = by_action (some_action (source_
     by_action (inl is) behind = record { ending = ended; whole = tt; replies = []; works = tt; compact = tt; right = (is, refl) }
     by_action (inr (does, comes)) behind =
         let has = acts laws p does fair in
-        one_more base files p c rest has.given (does, comes, has.is) has.works has.compact (behind (files_behind files c) has.given.after has.fair)
+        one_more base files p c rest has.given (does, inl comes, has.is) has.works has.compact (behind (files_behind files c) has.given.after has.fair)
 
 fair_place : (p : Place) → IsCertain p → HasList p → IsFair p
 fair_place (raw x) sure has = of_raw x

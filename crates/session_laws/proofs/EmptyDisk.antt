@@ -12,16 +12,15 @@ use Rattle.rel_unpack.specs.Refusal.{Refusal}
 use Rattle.rel_unpack.specs.Unpacking.{Brought}
 use Rattle.rel_unpack.specs.Source.{Source}
 use Rattle.rel_session.specs.Files.{Files, files_behind, source_of}
-use Rattle.rel_session.specs.Node.{Place, at_rest, Reply}
+use Rattle.rel_session.specs.Node.{Place, Reply}
 use Rattle.rel_session.specs.Node.Place.{raw}
-use Rattle.rel_session.specs.Run.{Executes, MayLeave, Replies, Ending}
+use Rattle.rel_session.specs.Run.{Executes, Replies, Ending}
 use Rattle.session_laws.specs.RunLaws.{known_at, BecomesKnown, NoneFails, NoneAcknowledged, BeginsWithAMaking}
 use Rattle.rel_session.specs.Transition
 use Rattle.rel_session.specs.Transition.Action.{answers, makes_node, changes_node, installs, reboots_node, boots_node, reports_start, calls}
 use Rattle.session_laws.proofs.AcknowledgedEvents.{first_answered, loses_nothing}
 use Rattle.rel_session.proofs.DeviceLemmas.{IsDevice}
-use Rattle.rel_session.proofs.StoppedReplies.{or_not}
-use Rattle.session_laws.proofs.Transitions.{rest_known}
+use Rattle.rel_session.specs.Booting.Lack.{device_failed, memory_refused}
 
 -- A reply on an empty disk leaves it empty, or the device failed, or a release was made.
 pub record IsMade (a : Reply) : Type 0 where
@@ -37,7 +36,8 @@ on_empty_as a b is of = subst OnEmpty (sym is) of
 
 makes_with : (p : Bundle) (size : ℕ) (why : Option Refusal) (a : Reply) → Transition.MakesWith [] p size why a → OnEmpty a
 makes_with p size (Some why) a is = on_empty_as a _ is (inl (refl, inl refl))
-makes_with p size None a (inl (fits, is)) = on_empty_as a _ is (inr (record { bundle = p; acknowledged = refl; after = refl }))
+makes_with p size None a (inl (fits, inl is)) = on_empty_as a _ is (inr (record { bundle = p; acknowledged = refl; after = refl }))
+makes_with p size None a (inl (fits, inr is)) = on_empty_as a _ is (inr (record { bundle = p; acknowledged = refl; after = refl }))
 makes_with p size None a (inr (over_it, is)) = on_empty_as a _ is (inl (refl, inl refl))
 
 makes_fails : (p : Bundle) (why : Option Refusal) (a : Reply) → Transition.FailsToMake [] p why a → OnEmpty a
@@ -51,9 +51,11 @@ makes b a (inr is) = makes_fails (bundle_brought b) (own_refusal b) a is
 boots : (a : Reply) → Transition.BootsBytes [] a → OnEmpty a
 boots a (inl (events, list, extent, after, image, is)) = cc image.image_of.store
 boots a (inr (inl (why, reported, is))) = on_empty_as a _ is (inl (refl, inl refl))
-boots a (inr (inr (torn, is))) = on_empty_as a _ is (inl (refl, inr refl))
+boots a (inr (inr (device_failed, torn, left, is))) = on_empty_as a _ is (inl (refl, inr refl))
+boots a (inr (inr (memory_refused, torn, inl same, is))) = on_empty_as a _ is (inl (refl, inl (ap (λ bytes. raw bytes) same)))
+boots a (inr (inr (memory_refused, torn, inr left, is))) = cc left.was.store
 
-acts : (does : Transition.Action) (a : Reply) → Transition.ActsWith Transition.BootsOrNot (raw []) does a → OnEmpty a
+acts : (does : Transition.Action) (a : Reply) → Transition.Acts (raw []) does a → OnEmpty a
 acts (answers text) a is = on_empty_as a _ is (inl (refl, inl refl))
 acts (makes_node found) a is = makes found a is
 acts (changes_node change) a is = on_empty_as a _ is (inl (refl, inl refl))
@@ -63,18 +65,8 @@ acts boots_node a is = boots a is
 acts reports_start a is = on_empty_as a _ is (inl (refl, inl refl))
 acts (calls c) a is = on_empty_as a _ is (inl (refl, inl refl))
 
--- where its node is lost too
-without_node : (b : Reply) → OnEmpty b → OnEmpty (Transition.without_node b)
-without_node b (inl (none, inl there)) = inl (none, inl (ap at_rest there))
-without_node b (inl (none, inr failed)) = inl (none, inr failed)
-without_node b (inr of) = inr (record { bundle = of.bundle; acknowledged = of.acknowledged; after = rest_known b.after ∙ of.after })
-
-stops : (does : Transition.Action) (a : Reply) → Transition.StopsWithin (raw []) does a → OnEmpty a
-stops does a (b, is, lost) = on_empty_as a _ lost (without_node b (acts does b is))
-
-left_on_empty : (source : Source) (p : Place) (c : Command) (a : Reply) → p ≡ raw [] → MayLeave source p c a → OnEmpty a
-left_on_empty source p c a empty (inl (does, comes, is)) = acts does a (or_not (raw []) does a (subst (λ q. Transition.Acts q does a) empty is))
-left_on_empty source p c a empty (inr (does, comes, stopped)) = stops does a (subst (λ q. Transition.StopsWithin q does a) empty stopped)
+left_on_empty : (source : Source) (p : Place) (c : Command) (a : Reply) → p ≡ raw [] → Transition.Transition source p c a → OnEmpty a
+left_on_empty source p c a empty (does, comes, is) = acts does a (subst (λ q. Transition.Acts q does a) empty is)
 
 -- where it was left empty
 still_empty : (a : Reply) → OnEmpty a → a.outcome.failed ≡ false → a.outcome.acknowledged ≡ [] → a.after ≡ raw []

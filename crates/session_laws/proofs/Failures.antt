@@ -1,10 +1,13 @@
 -- What a failure of the device is reported as, and that nothing else leaves a doubt.
-use Rattle.std.proofs.Common.{◌≡◌, ◌⊎◌, inl, inr, ℕ, ◌≤◌, Bool, true, false, List, [], ◌∷◌, Option, Some, None, Result, Ok, Err, refl, sym, ap, ◌∙◌, subst, arith}
+use Rattle.std.proofs.Common.{◌≡◌, ◌⊎◌, inl, inr, ℕ, ◌≤◌, Bool, true, false, List, [], ◌∷◌, Option, Some, None, Result, Ok, Err, refl, sym, ◌∙◌, subst, arith}
 use Rattle.rel_list.specs.Releases.{Releases, libraries_at}
 use Rattle.rel_list.specs.Event.{Event}
-use Rattle.rel_list.specs.Event.Event.{reboot_old as rebooting}
+use Rattle.rel_list.specs.Event.Event.{boot as booting, reboot_old as rebooting}
 use Rattle.node_command.specs.declared.error.HandlerError.{HandlerError}
-use Rattle.node_store.specs.Events.{Events, Stored, certain}
+use Rattle.rel_handler.specs.declared.error.BootError.TheVariants as boot_error
+use Rattle.rel_session.specs.Booting.{Lack, boot_undone}
+use Rattle.rel_session.specs.Booting.Lack.{device_failed, memory_refused}
+use Rattle.node_store.specs.Events.{Events, Stored, certain, uncertain_boot}
 use Rattle.node_store.specs.Image.{Extent, holds_a_store}
 use Rattle.node_command.specs.Files.{bundle_brought, made_size}
 use Rattle.node_command.specs.Place.{own_refusal}
@@ -23,18 +26,18 @@ use Rattle.relup_file.specs.Search.{FoundForm}
 use Rattle.rel_session.specs.Installation.{restarted, restarted_reply}
 use Rattle.rel_session.specs.Node.{Place, Reply, releases_after}
 use Rattle.rel_session.specs.Node.Place.{raw, closed, running, dead}
-use Rattle.rel_session.specs.Run.{Executes, MayLeave}
-use Rattle.session_laws.specs.AnswerLaws.{FailsOnlyWithTheDevice, ReportsDoubt, ReportsFailure}
+use Rattle.rel_session.specs.Run.{Executes}
+use Rattle.session_laws.specs.AnswerLaws.{DoubtsBoot, FailsOnlyWithTheDevice, ReportsBoot, ReportsDoubt, ReportsFailure}
 use Rattle.rel_session.specs.Transition
 use Rattle.rel_session.specs.Transition.Action.{answers, makes_node, changes_node, installs, reboots_node, boots_node, reports_start, calls}
 use Rattle.session_laws.proofs.AcknowledgedEvents.{first_answered}
 use Rattle.rel_session.proofs.DeviceLemmas.{failed_first, failed_behind}
 use Rattle.session_laws.proofs.InstallationLemmas.{each_reply}
-use Rattle.rel_session.proofs.StoppedReplies.{or_not}
 
--- Nothing is in doubt, or the device failed and that is reported.
+-- Nothing is in doubt, or the device failed and that is reported; or a boot is, which had no memory and reports that.
 abbrev IsPlain : Reply → Type 0
-IsPlain a = (a.outcome.in_doubt ≡ None) ⊎ ((a.outcome.failed ≡ true) × ReportsFailure a.answer)
+IsPlain a =
+    (a.outcome.in_doubt ≡ None) ⊎ (((a.outcome.failed ≡ true) × ReportsFailure a.answer) ⊎ ((a.outcome.failed ≡ false) × DoubtsBoot a))
 
 plain : (a b : Reply) → a ≡ b → IsPlain b → IsPlain a
 plain a b is of = subst IsPlain (sym is) of
@@ -42,7 +45,7 @@ plain a b is of = subst IsPlain (sym is) of
 commits : (events : Events) (extent : Extent) (ps : Processes) (e : Event) (size : ℕ) (o : Result Releases HandlerError) (P : Extent → Reply → Type 0) → ((x : Extent) (a : Reply) → P x a → IsPlain a) → (a : Reply) → Transition.IsCommit events extent ps e size o P a → IsPlain a
 commits events extent ps e size (Err why) P done a is = plain a _ is (inl refl)
 commits events extent ps e size (Ok list) P done a (inl (fits, inl (x, reach, is))) = done x a is
-commits events extent ps e size (Ok list) P done a (inl (fits, inr is)) = plain a _ is (inr (refl, inl refl))
+commits events extent ps e size (Ok list) P done a (inl (fits, inr is)) = plain a _ is (inr (inl (refl, inl refl)))
 commits events extent ps e size (Ok list) P done a (inr (over, is)) = plain a _ is (inl refl)
 
 changes : (events : Events) (extent : Extent) (ps : Processes) (c : Transition.Change) (l : Releases) (f : Option Refusal) (o : Result Releases HandlerError) (a : Reply) → Transition.Changes events extent ps c l f o a → IsPlain a
@@ -51,7 +54,8 @@ changes events extent ps c l None o a is = commits events extent ps c.event (c.s
 
 makes_with : (bytes : List ℕ) (p : Bundle) (size : ℕ) (why : Option Refusal) (a : Reply) → Transition.MakesWith bytes p size why a → IsPlain a
 makes_with bytes p size (Some why) a is = plain a _ is (inl refl)
-makes_with bytes p size None a (inl (fits, is)) = plain a _ is (inl refl)
+makes_with bytes p size None a (inl (fits, inl is)) = plain a _ is (inl refl)
+makes_with bytes p size None a (inl (fits, inr is)) = plain a _ is (inl refl)
 makes_with bytes p size None a (inr (over, is)) = plain a _ is (inl refl)
 
 makes_on : (bytes : List ℕ) (b : Brought) (there : Bool) (a : Reply) → Transition.MakesOn bytes b there a → IsPlain a
@@ -60,7 +64,7 @@ makes_on bytes b false a is = makes_with bytes (bundle_brought b) (made_size b) 
 
 makes_fails : (bytes : List ℕ) (p : Bundle) (why : Option Refusal) (a : Reply) → Transition.FailsToMake bytes p why a → IsPlain a
 makes_fails bytes p (Some why) a is = plain a _ is (inl refl)
-makes_fails bytes p None a (torn, kept, is) = plain a _ is (inr (refl, inl refl))
+makes_fails bytes p None a (torn, kept, is) = plain a _ is (inr (inl (refl, inl refl)))
 
 makes : (p : Place) (found : Brought) (a : Reply) → Transition.MakesNode p found a → IsPlain a
 makes (raw bytes) found a (inl is) = makes_on bytes found (holds_a_store bytes) a is
@@ -70,37 +74,39 @@ makes (closed s) found a (inr is) = plain a _ is (inl refl)
 makes (running events extent ps) found a is = plain a _ is (inl refl)
 makes (dead s) found a is = plain a _ is (inl refl)
 
+-- a boot that was not done
+undone_plain : (lack : Lack) (q : Place) → IsPlain (boot_undone lack q)
+undone_plain device_failed q = inr (inl (refl, inr (inl refl)))
+undone_plain memory_refused q = inr (inr (refl, (refl, inl refl)))
+
 boots_store : (s : Stored) (a : Reply) → Transition.BootsStore s a → IsPlain a
 boots_store s a (inl (events, extent, has, (list, after, is))) = plain a _ is (inl refl)
-boots_store s a (inr (inl is)) = plain a _ is (inr (refl, inr (inl refl)))
-boots_store s a (inr (inr (events, extent, has, is))) = plain a _ is (inr (refl, inr (inl refl)))
-
--- a boot after a commit
-boots_or_not : (s : Stored) (a : Reply) → Transition.BootsOrNot s a → IsPlain a
-boots_or_not s a (inl boot) = boots_store s a boot
-boots_or_not s a (inr is) = plain a _ is (inl refl)
+boots_store s a (inr (lack, inl is)) = plain a _ is (undone_plain lack (closed s))
+boots_store s a (inr (lack, inr (events, extent, has, is))) = plain a _ is (undone_plain lack (closed (uncertain_boot s.known.ran events extent)))
 
 -- a boot after an installation
-restarts : (vsn : List ℕ) (list : Releases) (f : FoundForm) (ps : Processes) (s : Stored) (b : Reply) → Transition.BootsOrNot s b → IsPlain (restarted_reply vsn list f ps b)
-restarts vsn list f ps s b (inl (inl (events, extent, has, (then, after, is)))) = subst (λ (t : Reply). IsPlain (restarted_reply vsn list f ps t)) (sym is) (inl refl)
-restarts vsn list f ps s b (inl (inr (inl is))) =
-    subst (λ (t : Reply). IsPlain (restarted_reply vsn list f ps t)) (sym is) (inr (refl, inr (inr (f.other, f.descr, stale_modules ps.modules (libraries_at vsn list), refl))))
-restarts vsn list f ps s b (inl (inr (inr (events, extent, has, is)))) =
-    subst (λ (t : Reply). IsPlain (restarted_reply vsn list f ps t)) (sym is) (inr (refl, inr (inr (f.other, f.descr, stale_modules ps.modules (libraries_at vsn list), refl))))
-restarts vsn list f ps s b (inr is) = subst (λ (t : Reply). IsPlain (restarted_reply vsn list f ps t)) (sym is) (inl refl)
+undone_behind : (vsn : List ℕ) (list : Releases) (f : FoundForm) (ps : Processes) (lack : Lack) (q : Place) → IsPlain (restarted_reply vsn list f ps (boot_undone lack q))
+undone_behind vsn list f ps device_failed q = inr (inl (refl, inr (inr (f.other, f.descr, stale_modules ps.modules (libraries_at vsn list), refl))))
+undone_behind vsn list f ps memory_refused q = inr (inr (refl, (refl, inr (f.other, f.descr, stale_modules ps.modules (libraries_at vsn list), refl))))
 
-reboots : (events : Events) (extent : Extent) (ps : Processes) (vsn : List ℕ) (l : Releases) (o : Result Releases HandlerError) (a : Reply) → Transition.Reboots Transition.BootsOrNot events extent ps vsn l o a → IsPlain a
-reboots events extent ps vsn l o = commits events extent ps (rebooting vsn) _ o _ (λ x a (b, boot, is). plain a _ is (boots_or_not (Transition.rebooted events x vsn) b boot))
+restarts : (vsn : List ℕ) (list : Releases) (f : FoundForm) (ps : Processes) (s : Stored) (b : Reply) → Transition.BootsStore s b → IsPlain (restarted_reply vsn list f ps b)
+restarts vsn list f ps s b (inl (events, extent, has, (then, after, is))) = subst (λ (t : Reply). IsPlain (restarted_reply vsn list f ps t)) (sym is) (inl refl)
+restarts vsn list f ps s b (inr (lack, inl is)) = subst (λ (t : Reply). IsPlain (restarted_reply vsn list f ps t)) (sym is) (undone_behind vsn list f ps lack (closed s))
+restarts vsn list f ps s b (inr (lack, inr (events, extent, has, is))) =
+    subst (λ (t : Reply). IsPlain (restarted_reply vsn list f ps t)) (sym is) (undone_behind vsn list f ps lack (closed (uncertain_boot s.known.ran events extent)))
+
+reboots : (events : Events) (extent : Extent) (ps : Processes) (vsn : List ℕ) (l : Releases) (o : Result Releases HandlerError) (a : Reply) → Transition.Reboots events extent ps vsn l o a → IsPlain a
+reboots events extent ps vsn l o = commits events extent ps (rebooting vsn) _ o _ (λ x a (b, boot, is). plain a _ is (boots_store (Transition.rebooted events x vsn) b boot))
 
 boots : (p : Place) (a : Reply) → Transition.Boots p a → IsPlain a
 boots (raw bytes) a (inl (events, list, extent, after, image, (list_then, after_then, is))) = plain a _ is (inl refl)
 boots (raw bytes) a (inr (inl (why, reported, is))) = plain a _ is (inl refl)
-boots (raw bytes) a (inr (inr (torn, is))) = plain a _ is (inr (refl, inr (inl refl)))
+boots (raw bytes) a (inr (inr (lack, torn, left, is))) = plain a _ is (undone_plain lack (raw torn))
 boots (closed s) a is = boots_store s a is
 boots (running events extent ps) a is = boots_store (certain events extent) a is
 boots (dead s) a is = boots_store s a is
 
-acts : (p : Place) (does : Transition.Action) (a : Reply) → Transition.ActsWith Transition.BootsOrNot p does a → IsPlain a
+acts : (p : Place) (does : Transition.Action) (a : Reply) → Transition.Acts p does a → IsPlain a
 acts p (answers text) a is = plain a _ is (inl refl)
 acts p (makes_node found) a is = makes p found a is
 acts (raw bytes) (changes_node c) a is = plain a _ is (inl refl)
@@ -108,7 +114,7 @@ acts (closed s) (changes_node c) a is = plain a _ is (inl refl)
 acts (running events extent ps) (changes_node c) a is = changes events extent ps c (releases_after events) (c.files (releases_after events)) (commanded c.event (releases_after events)) a is
 acts (dead s) (changes_node c) a is = plain a _ is (inl refl)
 acts (running events extent ps) (installs vsn) a is =
-    each_reply Transition.BootsOrNot IsPlain events extent ps vsn (releases_after events) (record {
+    each_reply IsPlain events extent ps vsn (releases_after events) (record {
       listed = λ why. inl refl;
       unmatched = inl refl;
       not_run = λ f. inl refl;
@@ -116,7 +122,7 @@ acts (running events extent ps) (installs vsn) a is =
       broken = λ f. inl refl;
       done_so = λ f r reach found comes. inl refl;
       restarted_so = λ f r reach b found comes boot. restarts vsn (releases_after events) f (behind_run r) (restarted events reach vsn) b boot;
-      doubted_so = λ f restart found. inr (refl, inl refl);
+      doubted_so = λ f restart found. inr (inl (refl, inl refl));
     }) a is
 acts (raw bytes) (installs vsn) a is = plain a _ is (inl refl)
 acts (closed s) (installs vsn) a is = plain a _ is (inl refl)
@@ -137,27 +143,27 @@ acts (closed s) (calls c) a is = plain a _ is (inl refl)
 acts (dead s) (calls c) a is = plain a _ is (inl refl)
 
 is_plain : (source : Source) (p : Place) (c : Command) (a : Reply) → Transition.Transition source p c a → IsPlain a
-is_plain source p c a (does, comes, is) = acts p does a (or_not p does a is)
+is_plain source p c a (does, comes, is) = acts p does a is
+
+same_event : (e f : Event) → Some e ≡ Some f → e ≡ f
+same_event e f is = cc is
 
 pub reports_doubt : (source : Source) → ReportsDoubt source
 reports_doubt source p c a e is doubt = go (is_plain source p c a is)
   where
-    go : IsPlain a → (a.outcome.failed ≡ true) × ReportsFailure a.answer
+    go : IsPlain a → ((a.outcome.failed ≡ true) × ReportsFailure a.answer) ⊎ ((e ≡ booting) × (a.outcome.failed ≡ false) × ReportsBoot boot_error.NoMemory a.answer)
     go (inl none) = let lost : Some e ≡ None = sym doubt ∙ none in absurd cc
-    go (inr reported) = reported
+    go (inr (inl reported)) = inl reported
+    go (inr (inr (works, (own, reported)))) = inr (same_event e booting (sym doubt ∙ own), works, reported)
 
--- a reply in which the device does not fail leaves nothing in doubt
-sure : (a : Reply) → IsPlain a → a.outcome.failed ≡ false → a.outcome.in_doubt ≡ None
-sure a (inl none) works = none
-sure a (inr (failed, reported)) works = let lost : true ≡ false = sym failed ∙ works in absurd cc
-
-stopped_sure : (p : Place) (does : Transition.Action) (a : Reply) → Transition.StopsWithin p does a → a.outcome.failed ≡ false → a.outcome.in_doubt ≡ None
-stopped_sure p does a (b, is, lost) works =
-    ap (λ (r : Reply). r.outcome.in_doubt) lost ∙ sure b (acts p does b is) (ap (λ (r : Reply). r.outcome.failed) (sym lost) ∙ works)
-
-pub no_doubt : (source : Source) (p : Place) (c : Command) (a : Reply) → MayLeave source p c a → a.outcome.failed ≡ false → a.outcome.in_doubt ≡ None
-no_doubt source p c a (inl is) works = sure a (is_plain source p c a is) works
-no_doubt source p c a (inr (does, comes, stopped)) works = stopped_sure p does a stopped works
+-- a reply in which the device does not fail leaves nothing in doubt but a boot that had no memory
+pub no_doubt : (source : Source) (p : Place) (c : Command) (a : Reply) → Transition.Transition source p c a → a.outcome.failed ≡ false → (a.outcome.in_doubt ≡ None) ⊎ DoubtsBoot a
+no_doubt source p c a is works = go (is_plain source p c a is)
+  where
+    go : IsPlain a → (a.outcome.in_doubt ≡ None) ⊎ DoubtsBoot a
+    go (inl none) = inl none
+    go (inr (inl (failed, reported))) = let lost : true ≡ false = sym failed ∙ works in absurd cc
+    go (inr (inr (plainly, lacks))) = inr lacks
 
 -- the device failed in it or not
 works : (b : Bool) (P : Type 0) → (b ≡ true → P) → (P → ⊥) → b ≡ false

@@ -1,5 +1,5 @@
 -- What a boot finds where no node runs, and what is replied there.
-use Rattle.std.proofs.Common.{◌≡◌, inl, inr, ℕ, Bool, true, false, List, [], ◌∷◌, ◌++◌, Option, None, Some, refl, sym, ap, ◌∙◌, subst}
+use Rattle.std.proofs.Common.{◌≡◌, ◌≢◌, inl, inr, ℕ, Bool, true, false, List, [], ◌∷◌, ◌++◌, Option, None, Some, refl, sym, ap, ◌∙◌, subst}
 use Rattle.std.specs.Option.{option_map}
 use Rattle.rel_list.specs.Releases.{Bundle, Releases, running as running_release}
 use Rattle.rel_list.specs.Event.{booted, list_after}
@@ -16,7 +16,8 @@ use Rattle.node_answer.specs.Refusals.NodeRefusal.{exists, dead as dead_node}
 use Rattle.node_processes.specs.Processes.{Processes}
 use Rattle.node_store.specs.Events.{Events, Stored, MayHave, at_rest_since, booted_or_same}
 use Rattle.node_store.specs.Image.{Extent, booted_extent, extent_of, holds_a_store, IsImageOf}
-use Rattle.rel_session.specs.Booting.{boot_line}
+use Rattle.rel_session.specs.Booting.{Lack, IsUndone, boot_line, boot_undone}
+use Rattle.rel_session.specs.Booting.Lack.{device_failed, memory_refused}
 use Rattle.session_laws.specs.LawsBelow.{BootLaws}
 use Rattle.rel_session.specs.Node.{Place, Reply, reply, refused, nothing, done, just_booted, list_or_none}
 use Rattle.rel_session.specs.Node.Place.{raw, closed, running, dead}
@@ -47,13 +48,26 @@ IsFound (raw bytes) (unlisted begun line) = (holds_a_store bytes ≡ begun) × (
 IsFound (closed s) f = IsFoundIn s f
 IsFound (dead s) f = IsFoundIn s f
 
--- no reply in which the device did not fail
-pub failure : {T : Type 0} (a x : Reply) → a ≡ x → x.outcome.failed ≡ true → a.outcome.failed ≡ false → T
-failure a x is failed works = let lost : true ≡ false = sym failed ∙ ap (λ (r : Reply). r.outcome.failed) (sym is) ∙ works in absurd cc
+-- The device did not fail in this reply, and it isn't that memory was refused to a boot.
+abbrev pub Works : Reply → Type 0
+Works a = (a.outcome.failed ≡ false) × (a.answer ≢ boot_line boot_error.NoMemory)
 
-pub boot_failure : {T : Type 0} (a : Reply) (s : Stored) → Transition.FailsOnStore s a → a.outcome.failed ≡ false → T
-boot_failure a s (inl is) works = failure a _ is refl works
-boot_failure a s (inr (events, extent, has, is)) works = failure a _ is refl works
+-- no reply in which the device did not fail
+pub failure : {T : Type 0} (a x : Reply) → a ≡ x → x.outcome.failed ≡ true → Works a → T
+failure a x is failed works = let lost : true ≡ false = sym failed ∙ ap (λ (r : Reply). r.outcome.failed) (sym is) ∙ works.0 in absurd cc
+
+-- nor one that isn't a want of memory
+pub wanting : {T : Type 0} (a x : Reply) → a ≡ x → x.answer ≡ boot_line boot_error.NoMemory → Works a → T
+wanting a x is lacks works = absurd (works.1 (ap (λ (r : Reply). r.answer) is ∙ lacks))
+
+-- nor a boot that was not done
+pub undone_boot : {T : Type 0} (a : Reply) (lack : Lack) (q : Place) → a ≡ boot_undone lack q → Works a → T
+undone_boot a device_failed q is works = failure a _ is refl works
+undone_boot a memory_refused q is works = wanting a _ is refl works
+
+pub boot_failure : {T : Type 0} (a : Reply) (s : Stored) (lack : Lack) → IsUndone s lack a → Works a → T
+boot_failure a s lack (inl is) works = undone_boot a lack _ is works
+boot_failure a s lack (inr (events, extent, has, is)) works = undone_boot a lack _ is works
 
 -- A boot has led to this list, in a store that reaches so far.
 abbrev pub IsBooted : Option Releases → Extent → Reply → Type 0
@@ -69,22 +83,22 @@ booted_as : (list then : Option Releases) (x y : Extent) (a : Reply) → list �
 booted_as list then x y a same near is = subst (λ o. IsBooted o y a) same (subst (λ z. IsBooted list z a) near is)
 
 -- The boot of a store has led to the list that was found.
-pub boots_store : (s : Stored) (list : Option Releases) (x : Extent) (a : Reply) → a.outcome.failed ≡ false → IsFoundIn s (listed list x) → Transition.BootsStore s a → IsBooted list x a
+pub boots_store : (s : Stored) (list : Option Releases) (x : Extent) (a : Reply) → Works a → IsFoundIn s (listed list x) → Transition.BootsStore s a → IsBooted list x a
 boots_store s list x a works (still, leads, reaches) (inl (es, n, has, is)) =
     let (same, near) = has_only s.known.ran s.known.acknowledged es s.extent n (subst (λ (t : Stored). MayHave t es n) still has) in
     let there : booted_or_same n (list_after es) ≡ booted_or_same s.extent (list_after s.known.acknowledged) = λ k. booted_or_same (near k) (list_after (same k)) in
     booted_as (option_map booted (list_after es)) list (booted_or_same n (list_after es)) x a (ap (λ (l : Events). option_map booted (list_after l)) same ∙ leads) (there ∙ reaches) (answered es n a is)
-boots_store s list x a works found (inr broke) = boot_failure a s broke works
+boots_store s list x a works found (inr (lack, undone)) = boot_failure a s lack undone works
 
 -- The boot of bytes has led to the list that was found in them.
-boots_listed : BootLaws → (bytes : List ℕ) (list : Option Releases) (x : Extent) (a : Reply) → a.outcome.failed ≡ false → IsFound (raw bytes) (listed list x) → Transition.BootsBytes bytes a → IsBooted list x a
+boots_listed : BootLaws → (bytes : List ℕ) (list : Option Releases) (x : Extent) (a : Reply) → Works a → IsFound (raw bytes) (listed list x) → Transition.BootsBytes bytes a → IsBooted list x a
 boots_listed laws bytes list x a works (es, image, leads, reaches) (inl (events, before, extent, after, at, is)) =
     let one = laws.one bytes before es at.image_of image in
     let lists : option_map booted (list_after events) ≡ list = ap (option_map booted) after ∙ (ap (λ l. Some l) one.booted ∙ leads) in
     let there : booted_or_same extent (list_after events) ≡ x = ap (booted_or_same extent) after ∙ (one.extents extent ∙ (ap (λ n. booted_extent n es) (sym at.reaches) ∙ reaches)) in
     booted_as (option_map booted (list_after events)) list (booted_or_same extent (list_after events)) x a lists there (answered events extent a is)
 boots_listed laws bytes list x a works (es, image, leads, reaches) (inr (inl (why, reported, is))) = absurd (laws.never_both bytes es why image reported)
-boots_listed laws bytes list x a works found (inr (inr (torn, is))) = failure a _ is refl works
+boots_listed laws bytes list x a works found (inr (inr (lack, torn, left, is))) = undone_boot a lack (raw torn) is works
 
 -- or one line says what is wrong with them.
 refused_once : (x : List ℕ) (why other : BootError) → IsBootRefusal x why → IsBootRefusal x other → boot_line why ≡ boot_line other
@@ -102,18 +116,18 @@ refused_once x boot_error.NoMemory other p q = absurd p
 refused_once x why boot_error.Device p q = absurd q
 refused_once x why boot_error.NoMemory p q = absurd q
 
-boots_unlisted : BootLaws → (bytes : List ℕ) (begun : Bool) (line : List ℕ) (a : Reply) → a.outcome.failed ≡ false → IsFound (raw bytes) (unlisted begun line) → Transition.BootsBytes bytes a → a ≡ reply line nothing (raw bytes)
+boots_unlisted : BootLaws → (bytes : List ℕ) (begun : Bool) (line : List ℕ) (a : Reply) → Works a → IsFound (raw bytes) (unlisted begun line) → Transition.BootsBytes bytes a → a ≡ reply line nothing (raw bytes)
 boots_unlisted laws bytes begun line a works (held, (why, refuses, says)) (inl (events, list, extent, after, at, is)) = absurd (laws.never_both bytes list why at.image_of refuses)
 boots_unlisted laws bytes begun line a works (held, (why, refuses, says)) (inr (inl (other, reported, is))) =
     is ∙ ap (λ l. reply l nothing (raw bytes)) (refused_once bytes other why reported refuses ∙ says)
-boots_unlisted laws bytes begun line a works found (inr (inr (torn, is))) = failure a _ is refl works
+boots_unlisted laws bytes begun line a works found (inr (inr (lack, torn, left, is))) = undone_boot a lack (raw torn) is works
 
 -- a boot there has led to what is found
 abbrev pub BootsAs : Place → Found → Reply → Type 0
 BootsAs p (listed list x) a = IsBooted list x a
 BootsAs p (unlisted begun line) a = a ≡ reply line nothing p
 
-pub boots_as : BootLaws → (p : Place) (f : Found) (a : Reply) → a.outcome.failed ≡ false → IsFound p f → Transition.Boots p a → BootsAs p f a
+pub boots_as : BootLaws → (p : Place) (f : Found) (a : Reply) → Works a → IsFound p f → Transition.Boots p a → BootsAs p f a
 boots_as laws (running events extent ps) f a works found is = absurd found
 boots_as laws (raw bytes) (listed list x) a works found is = boots_listed laws bytes list x a works found is
 boots_as laws (raw bytes) (unlisted begun line) a works found is = boots_unlisted laws bytes begun line a works found is
@@ -127,11 +141,11 @@ abbrev pub MakesAs : Place → Found → Brought → Reply → Type 0
 MakesAs p (listed list x) b a = a ≡ refused exists p
 MakesAs p (unlisted begun line) b a = (bytes : List ℕ) × (p ≡ raw bytes) × Transition.MakesOn bytes b begun a
 
-makes_fails : {T : Type 0} (bytes : List ℕ) (p : Bundle) (why : Option Refusal) (a : Reply) → Transition.FailsToMake bytes p why a → a.outcome.failed ≡ false → T
+makes_fails : {T : Type 0} (bytes : List ℕ) (p : Bundle) (why : Option Refusal) (a : Reply) → Transition.FailsToMake bytes p why a → Works a → T
 makes_fails bytes p (Some why) a is works = failure a _ is refl works
 makes_fails bytes p None a (torn, kept, is) works = failure a _ is refl works
 
-pub makes_as : BootLaws → (p : Place) (f : Found) (b : Brought) (a : Reply) → a.outcome.failed ≡ false → IsFound p f → Transition.MakesNode p b a → MakesAs p f b a
+pub makes_as : BootLaws → (p : Place) (f : Found) (b : Brought) (a : Reply) → Works a → IsFound p f → Transition.MakesNode p b a → MakesAs p f b a
 makes_as laws (running events extent ps) f b a works found is = absurd found
 makes_as laws (raw bytes) (listed list x) b a works (es, image, leads, reaches) (inl is) = subst (λ m. Transition.MakesOn bytes b m a) (laws.stores bytes es image) is
 makes_as laws (raw bytes) (unlisted begun line) b a works (held, why) (inl is) = (bytes, refl, subst (λ m. Transition.MakesOn bytes b m a) held is)

@@ -22,7 +22,7 @@ use Rattle.rel_session.proofs.Prefixes.{prefix_of, prefix_is, reached, reached_s
 use Rattle.session_laws.specs.AnswerLaws.{IsOneOrNone, Shows, TellsEvents, broken_events}
 use Rattle.session_laws.specs.RunLaws.{known_at, acknowledged_at, IsKnown, Finds, ReplyKeepsEvents, place_after}
 use Rattle.session_laws.specs.KeptEvents.{IsKnownAfter, IsKnownAfterAll, KeepsAcknowledged, IsUnderWay, store_after_crash, GoesOnAfterCrash, KeepsEvents, SessionsKeepEvents, AnswersKeepEvents, KeepsEventsOnceMade, SessionsKeepEventsOnceMade, MayBegin, KeepEventsOver}
-use Rattle.session_laws.proofs.Transitions.{each_left_keeps}
+use Rattle.session_laws.proofs.Transitions.{each_keeps}
 use Rattle.session_laws.proofs.AcknowledgedEvents.{first_answered, becomes_known, parts, rest_right, starts_at_rest}
 use Rattle.session_laws.proofs.EmptyDisk.{first_event, becomes_known as once_acknowledged}
 
@@ -202,7 +202,7 @@ module _ {D : Type 0} (v : Device D) (laws : IsDevice v) where
         )
     keeps_events base files p commands ending (a ∷ more) old new right known holds (mid, happens, leads) =
         let n = first_answered base files p commands ending a more right in
-        let keeps = each_left_keeps (source_of base files) p n.command a n.is in
+        let keeps = each_keeps (source_of base files) p n.command a n.is in
         let known_then = keeps.known (inl known) in
         let (list, after) = list_at a.after mid known_then happens.holds in
         let next_known = known_after p a list known after keeps in

@@ -4,6 +4,7 @@ pub mod Failures
 pub mod EmptyDisk
 pub mod KeptEvents
 pub mod AnswerLines
+pub mod MemoryLines
 pub mod ProcessLines
 pub mod SourceLemmas
 pub mod ActionLemmas

@@ -34,14 +34,15 @@ use Rattle.rel_session.specs.Node.Place.{raw, closed, running, dead}
 use Rattle.rel_session.specs.Booting.{BootsStore, boot_line}
 use Rattle.rel_session.specs.Run.{EndsInFull, Replies, Ending}
 use Rattle.rel_session.specs.Run.Ending.{ended, cut_off}
-use Rattle.session_laws.specs.AnswerLaws.{AreSame, HaveOneAnswer, IsCertain, IsCompact, LeaveCompactStores, LeavesCompactStore, RunsOneShot}
+use Rattle.session_laws.specs.AnswerLaws.{AreSame, HaveOneAnswer, IsCertain, IsCompact, IsMemoryLine, LeaveCompactStores, LeavesCompactStore, NoneLacksMemory, ReportsNoMemory, RunsOneShot}
 use Rattle.session_laws.specs.RunLaws.{NoneFails}
 use Rattle.rel_session.specs.Transition
 use Rattle.rel_session.specs.Transition.Action.{answers, makes_node, changes_node, installs, reboots_node, boots_node, reports_start, calls}
 use Rattle.session_laws.proofs.AcknowledgedEvents.{next_answered, none_left}
 use Rattle.session_laws.proofs.SourceLemmas.{gives_one}
 use Rattle.session_laws.proofs.ActionLemmas.{AreReported, has_record, HasRecordOf, kind_of, one_action, runs_node}
-use Rattle.session_laws.proofs.IdlePlaces.{Found, IsFound, IsBooted, BootsAs, MakesAs, IsOfNode, boot_failure, boots_as, boots_store, failure, makes_as, no_node, none_reports, none_runs}
+use Rattle.session_laws.proofs.IdlePlaces.{Found, IsFound, IsBooted, BootsAs, MakesAs, IsOfNode, Works, boot_failure, boots_as, boots_store, failure, makes_as, no_node, none_reports, none_runs, wanting}
+use Rattle.session_laws.proofs.MemoryLines.{report_is}
 use Rattle.session_laws.proofs.IdlePlaces.Found.{listed, unlisted}
 use Rattle.rel_session.proofs.ExtentLemmas.{booted_reach, has_only, none_rebooted, one_reach, reach_beside_one_shot, releases-booted}
 use Rattle.node_command.specs.Installing.{installation}
@@ -55,7 +56,7 @@ use Rattle.rel_list.specs.Releases.{libraries_at}
 use Rattle.node_answer.specs.Lines.{installed_line}
 use Rattle.node_answer.specs.Refusals.{refusal_line}
 use Rattle.node_answer.specs.Refusals.NodeRefusal.{full}
-use Rattle.rel_session.specs.Installation.{RunsUnless, Installs, IsInstallationReply, RepliesTo, restarted, restarted_reply, upgrade_outcome}
+use Rattle.rel_session.specs.Installation.{BreaksForMemory, RunsUnless, Installs, IsInstallationReply, RepliesTo, restarted, restarted_reply, upgrade_outcome}
 use Rattle.rel_handler.specs.Installing.{install_room, install_size, installation_event, needs_restart}
 use Rattle.rel_session.proofs.ListLemmas.{current-booted, same_list}
 
@@ -117,15 +118,21 @@ IsSmall a = LeavesCompactStore a.outcome.acknowledged a.after
 
 -- what is asked of a reply
 abbrev pub Asks : Bool → Reply → Type 0
-Asks exact a = (exact ≡ true → LeavesCompactStore a.outcome.acknowledged a.after) × (exact ≡ false → a.answer ≢ refusal_line full)
+Asks exact a =
+    (exact ≡ true → LeavesCompactStore a.outcome.acknowledged a.after) × (exact ≡ false → a.answer ≢ refusal_line full)
+    × (ReportsNoMemory a.answer → ⊥)
 
--- Replies in which the device does not fail.
+-- Replies in which the device does not fail, and no memory is refused to a boot.
 abbrev Fine : Reply → Reply → Type 0
-Fine a b = (a.outcome.failed ≡ false) × (b.outcome.failed ≡ false)
+Fine a b = Works a × Works b
 
 -- And of which the rest is so.
 abbrev Both : Bool → Reply → Reply → Type 0
-Both exact a b = (a.outcome.failed ≡ false) × (b.outcome.failed ≡ false) × Asks exact a × Asks exact b
+Both exact a b = Works a × Works b × Asks exact a × Asks exact b
+
+-- a reply in which the device does not fail, and that reports no want of memory
+works_so : (a : Reply) → a.outcome.failed ≡ false → (ReportsNoMemory a.answer → ⊥) → Works a
+works_so a fine had = (fine, λ is. had (inl (inr (inr (inl is)))))
 
 small_as : (a x : Reply) → a ≡ x → IsSmall a → IsSmall x
 small_as a x is small = subst IsSmall is small
@@ -178,11 +185,13 @@ module _ (exact : Bool) (a b : Reply) (both : Both exact a b) where
 
   makes_with : (x y : List ℕ) (p : Bundle) (size : ℕ) (why : Option Refusal) → Alike exact (raw x) (raw y) → Transition.MakesWith x p size why a → Transition.MakesWith y p size why b → Same exact a b
   makes_with x y p size (Some why) alike is also = as_these exact a b _ _ is also (refl, refl, alike)
-  makes_with x y p size None alike (inl (fits, is)) (inl (fits_too, also)) =
+  makes_with x y p size None alike (inl (fits, inr is)) other = wanting a _ is refl both.0
+  makes_with x y p size None alike (inl (fits, inl is)) (inl (fits_too, inr also)) = wanting b _ also refl both.1
+  makes_with x y p size None alike (inl (fits, inl is)) (inl (fits_too, inl also)) =
       let events = made p ∷ booting ∷ [] in
       let reach = extent_behind first_extent size in
       as_these exact a b _ _ is also (refl, refl, both_run events events reach reach (fresh_processes (releases_after events)) (fresh_processes (releases_after events)) refl (λ sure. refl) refl)
-  makes_with x y p size None alike (inl (fits, is)) (inr (over_it, also)) = absurd (over_it fits)
+  makes_with x y p size None alike (inl (fits, inl is)) (inr (over_it, also)) = absurd (over_it fits)
   makes_with x y p size None alike (inr (over_it, is)) (inl (fits, also)) = absurd (over_it fits)
   makes_with x y p size None alike (inr (over_it, is)) (inr (over_too, also)) = as_these exact a b _ _ is also (refl, refl, alike)
 
@@ -239,7 +248,7 @@ with_text_same : (exact : Bool) (line : List ℕ) (x y : Reply) → Same exact x
 with_text_same exact line x y (reported, outcomes, then) = (ap (λ t. line ++ t) reported, outcomes, then)
 
 -- A store that boots to one as short as a compaction leaves it, where the list has no one-shot, was as short before.
-rests : (events : Events) (x : Extent) (r : Reply) → has_one_shot (releases_after events) ≡ false → r.outcome.failed ≡ false → IsCompact r.after → Transition.BootsStore (certain events x) r → x ≡ compacted x (releases_after events)
+rests : (events : Events) (x : Extent) (r : Reply) → has_one_shot (releases_after events) ≡ false → Works r → IsCompact r.after → Transition.BootsStore (certain events x) r → x ≡ compacted x (releases_after events)
 rests events x r free fine small (inl (es, n, has, (list, after, reported))) =
     let only = has_only events events es x n has in
     let none : has_one_shot (releases_after es) ≡ false = subst (λ l. has_one_shot (releases_after l) ≡ false) (sym only.0) free in
@@ -247,27 +256,34 @@ rests events x r free fine small (inl (es, n, has, (list, after, reported))) =
     let compact : n ≡ compacted n (releases_after (es ++ booting ∷ [])) =
     subst (λ y. y ≡ compacted y (releases_after (es ++ booting ∷ []))) (extent_of_none n list plain) (subst (λ (t : Reply). IsCompact t.after) reported small) in
     subst (λ l. x ≡ compacted x (releases_after l)) only.0 (subst (λ y. y ≡ compacted y (releases_after es)) only.1 (compact ∙ booted_reach n es none))
-rests events x r free fine small (inr fails) = boot_failure r _ fails fine
+rests events x r free fine small (inr (lack, undone)) = boot_failure r _ lack undone fine
 
 -- After a boot that starts no one-shot none is current.
-none_runs_once : (events : Events) (x : Extent) (r : Reply) → has_one_shot (releases_after events) ≡ false → r.outcome.failed ≡ false → Transition.BootsStore (certain events x) r → RunsOneShot r.after → ⊥
+none_runs_once : (events : Events) (x : Extent) (r : Reply) → has_one_shot (releases_after events) ≡ false → Works r → Transition.BootsStore (certain events x) r → RunsOneShot r.after → ⊥
 none_runs_once events x r free fine (inl (es, n, has, (list, after, reported))) once =
     let only = has_only events events es x n has in
     let none : has_one_shot (releases_after es) ≡ false = subst (λ l. has_one_shot (releases_after l) ≡ false) (sym only.0) free in
     let here : has_current (releases_after (es ++ booting ∷ [])) ≡ true = subst (λ (t : Reply). RunsOneShot t.after) reported once in
     let lost : true ≡ false = sym here ∙ ap has_current (releases-booted es) ∙ current-booted (releases_after es) ∙ none in cc
-none_runs_once events x r free fine (inr fails) once = boot_failure r _ fails fine
+none_runs_once events x r free fine (inr (lack, undone)) once = boot_failure r _ lack undone fine
+
+-- The boot after an installation works where that does.
+works_behind : (r s : Reply) (vsn : List ℕ) (l : Releases) (f : FoundForm) (ps : Processes) → Works r → (ReportsNoMemory r.answer → ⊥) → r ≡ restarted_reply vsn l f ps s → Works s
+works_behind r s vsn l f ps fine had is = (
+  ap (λ (t : Reply). t.outcome.failed) (sym is) ∙ fine.0,
+  λ lacks. had (inr (f.other, f.descr, stale_modules ps.modules (libraries_at vsn l), ap (λ (t : Reply). t.answer) is ∙ ap (λ t. installed_line f (stale_modules ps.modules (libraries_at vsn l)) ++ t) lacks)),
+)
 
 -- how far the store reaches after an installation with a restart, by the boot after it
-restarted_reach : (r s : Reply) (events : Events) (base x : Extent) (vsn : List ℕ) (l : Releases) (f : FoundForm) (ps : Processes) → r.outcome.failed ≡ false → IsSmall r → MayReach base (releases_after (events ++ restart_installed vsn ∷ [])) x
+restarted_reach : (r s : Reply) (events : Events) (base x : Extent) (vsn : List ℕ) (l : Releases) (f : FoundForm) (ps : Processes) → Works r → (ReportsNoMemory r.answer → ⊥) → IsSmall r → MayReach base (releases_after (events ++ restart_installed vsn ∷ [])) x
     → Transition.BootsStore (restarted events x vsn) s → r ≡ restarted_reply vsn l f ps s → x ≡ compacted base (releases_after (events ++ restart_installed vsn ∷ []))
-restarted_reach r s events base x vsn l f ps fine small reach boot is = by_one_shot (has_one_shot (releases_after all)) refl
+restarted_reach r s events base x vsn l f ps fine had small reach boot is = by_one_shot (has_one_shot (releases_after all)) refl
   where
     all : Events
     all = events ++ restart_installed vsn ∷ []
 
-    works : s.outcome.failed ≡ false
-    works = ap (λ (t : Reply). t.outcome.failed) (sym is) ∙ fine
+    works : Works s
+    works = works_behind r s vsn l f ps fine had is
 
     by_store : has_one_shot (releases_after all) ≡ false → RunsOneShot s.after ⊎ IsCompact s.after → x ≡ compacted base (releases_after all)
     by_store none (inl once) = absurd (none_runs_once all x s none works boot once)
@@ -279,7 +295,7 @@ restarted_reach r s events base x vsn l f ps fine small reach boot is = by_one_s
 
 module _ (exact : Bool) (a b : Reply) (both : Both exact a b) where
   reboots : (events others : Events) (extent stop : Extent) (ps qs : Processes) (vsn : List ℕ) (l : Releases) (o : Result Releases HandlerError) → list_after events ≡ list_after others → (exact ≡ true → extent ≡ stop) → ps ≡ qs
-      → Transition.Reboots BootsStore events extent ps vsn l o a → Transition.Reboots BootsStore others stop qs vsn l o b → Same exact a b
+      → Transition.Reboots events extent ps vsn l o a → Transition.Reboots others stop qs vsn l o b → Same exact a b
   reboots events others extent stop ps qs vsn l o same near one =
       let e = rebooting vsn in
       commits exact a b both events others extent stop ps qs e _ o (Rebooted events) (Rebooted others) same near
@@ -288,13 +304,13 @@ module _ (exact : Bool) (a b : Reply) (both : Both exact a b) where
       as_these exact a b _ _ is also (behind_same exact e s t (stores_alike exact s t (works a s is both.0, works b t also both.1) (events ++ e ∷ []) (others ++ e ∷ []) x y (same_list events others e same) close boot boot_too)))
       (both_run events others extent stop ps qs same near one)
     where
-      works : (r x : Reply) → r ≡ behind (rebooting vsn) x → r.outcome.failed ≡ false → x.outcome.failed ≡ false
-      works r x is fine = ap (λ (s : Reply). s.outcome.failed) (sym is) ∙ fine
+      works : (r x : Reply) → r ≡ behind (rebooting vsn) x → Works r → Works x
+      works r x is fine = (ap (λ (s : Reply). s.outcome.failed) (sym is) ∙ fine.0, λ lacks. fine.1 (ap (λ (s : Reply). s.answer) is ∙ lacks))
 
       Rebooted : Events → Extent → Reply → Type 0
       Rebooted events x r = (b : Reply) × Transition.BootsStore (Transition.rebooted events x vsn) b × (r ≡ behind (rebooting vsn) b)
 
-      rests_so : (events : Events) (x : Extent) (r : Reply) → r.outcome.failed ≡ false → IsSmall r → Rebooted events x r → x ≡ compacted x (releases_after (events ++ rebooting vsn ∷ []))
+      rests_so : (events : Events) (x : Extent) (r : Reply) → Works r → IsSmall r → Rebooted events x r → x ≡ compacted x (releases_after (events ++ rebooting vsn ∷ []))
       rests_so events x r fine small (s, boot, is) = rests (events ++ rebooting vsn ∷ []) x s (none_rebooted events vsn) (works r s is fine) (small_as r _ is small tt) boot
 
   -- where no node runs, none is asked
@@ -313,12 +329,12 @@ module _ (exact : Bool) (a b : Reply) (both : Both exact a b) where
   rebooted p q vsn (both_run events others extent stop ps qs same near one) is also =
       let then : releases_after others ≡ releases_after events = ap list_or_none (sym same) in
       reboots events others extent stop ps qs vsn (releases_after events) (commanded (rebooting vsn) (releases_after events)) same near one is
-      (subst (λ l. Transition.Reboots BootsStore others stop qs vsn l (commanded (rebooting vsn) l) b) then also)
+      (subst (λ l. Transition.Reboots others stop qs vsn l (commanded (rebooting vsn) l) b) then also)
 
   -- an installation that was committed
   installed_same : (events others : Events) (base other x y : Extent) (vsn : List ℕ) (l : Releases) (f : FoundForm) (ps : Processes) (restarts : Bool) → list_after events ≡ list_after others → (exact ≡ true → base ≡ other)
       → MayReach base (releases_after (events ++ installation_event restarts vsn ∷ [])) x → MayReach other (releases_after (others ++ installation_event restarts vsn ∷ [])) y
-      → IsInstallationReply BootsStore restarts events x vsn l f ps a → IsInstallationReply BootsStore restarts others y vsn l f ps b → Same exact a b
+      → IsInstallationReply restarts events x vsn l f ps a → IsInstallationReply restarts others y vsn l f ps b → Same exact a b
   installed_same events others base other x y vsn l f ps false same near reach reach_too is also =
       let e = installed vsn in
       let first = releases_after (events ++ e ∷ []) in
@@ -329,16 +345,16 @@ module _ (exact : Bool) (a b : Reply) (both : Both exact a b) where
   installed_same events others base other x y vsn l f ps true same near reach reach_too (s, boot, is) (t, boot_too, also) =
       let e = restart_installed vsn in
       let close : exact ≡ true → x ≡ y = λ sure. reach_alike base other x y (releases_after (events ++ e ∷ [])) (releases_after (others ++ e ∷ [])) (near sure) (ap list_or_none (same_list events others e same))
-      (restarted_reach a s events base x vsn l f ps both.0 (both.2.0 sure) reach boot is) (restarted_reach b t others other y vsn l f ps both.1 (both.3.0 sure) reach_too boot_too also) in
+      (restarted_reach a s events base x vsn l f ps both.0 both.2.2 (both.2.0 sure) reach boot is) (restarted_reach b t others other y vsn l f ps both.1 both.3.2 (both.3.0 sure) reach_too boot_too also) in
       let line = installed_line f (stale_modules ps.modules (libraries_at vsn l)) in
-      let fine : s.outcome.failed ≡ false = ap (λ (r : Reply). r.outcome.failed) (sym is) ∙ both.0 in
-      let fine_too : t.outcome.failed ≡ false = ap (λ (r : Reply). r.outcome.failed) (sym also) ∙ both.1 in
+      let fine = works_behind a s vsn l f ps both.0 both.2.2 is in
+      let fine_too = works_behind b t vsn l f ps both.1 both.3.2 also in
       as_these exact a b _ _ is also (with_text_same exact line (behind e s) (behind e t) (behind_same exact e s t
       (stores_alike exact s t (fine, fine_too) (events ++ e ∷ []) (others ++ e ∷ []) x y (same_list events others e same) close boot boot_too)))
 
   -- an installation
   leads : (events others : Events) (extent stop : Extent) (ps qs : Processes) (vsn : List ℕ) (l : Releases) (f : FoundForm) (o : script.Outcome) → list_after events ≡ list_after others → (exact ≡ true → extent ≡ stop) → ps ≡ qs
-      → RepliesTo BootsStore events extent ps vsn l f o a → RepliesTo BootsStore others stop qs vsn l f o b → Same exact a b
+      → RepliesTo events extent ps vsn l f o a → RepliesTo others stop qs vsn l f o b → Same exact a b
   leads events others extent stop ps qs vsn l f (script.Outcome.refuses n c) same near one is also = as_these exact a b _ _ is also (refl, refl, both_run events others extent stop ps qs same near one)
   leads events others extent stop ps qs vsn l f (script.Outcome.breaks n c) same near one is also =
       as_these exact a b _ _ is also (
@@ -354,18 +370,24 @@ module _ (exact : Bool) (a b : Reply) (both : Both exact a b) where
   leads events others extent stop ps qs vsn l f (script.Outcome.ends r) same near one (inl is) (inr also) = failure b _ also refl both.1
   leads events others extent stop ps qs vsn l f (script.Outcome.ends r) same near one (inr is) other = failure a _ is refl both.0
 
+  -- no script that memory stopped after its point of no return
+  broken_for_memory : {T : Type 0} (r : Reply) (x : Extent) (es : Events) (f : FoundForm) → Asks exact r → BreaksForMemory es x f r → T
+  broken_for_memory r x es f asks (n, late, is) = absurd (asks.2 (inl (inr (inr (inr (n, ap (λ (t : Reply). t.answer) is))))))
+
   begins : (events others : Events) (extent stop : Extent) (ps qs : Processes) (vsn : List ℕ) (l : Releases) (f : FoundForm) (o : Option Failure) → list_after events ≡ list_after others → (exact ≡ true → extent ≡ stop) → ps ≡ qs
-      → RunsUnless BootsStore events extent ps vsn l f o a → RunsUnless BootsStore others stop qs vsn l f o b → Same exact a b
+      → RunsUnless events extent ps vsn l f o a → RunsUnless others stop qs vsn l f o b → Same exact a b
   begins events others extent stop ps qs vsn l f (Some why) same near one is also = as_these exact a b _ _ is also (refl, refl, both_run events others extent stop ps qs same near one)
-  begins events others extent stop ps qs vsn l f None same near one (inl (fits, is)) (inl (fits_too, also)) =
-      leads events others extent stop ps qs vsn l f (upgrade_outcome vsn l f ps) same near one is (subst (λ o. RepliesTo BootsStore others stop qs vsn l f o b) (ap (upgrade_outcome vsn l f) (sym one)) also)
-  begins events others extent stop ps qs vsn l f None same near one (inl (fits, is)) (inr (over_it, also)) = one_fits exact extent stop (install_room vsn l) b near both.3 fits over_it (ap (λ (r : Reply). r.answer) also)
+  begins events others extent stop ps qs vsn l f None same near one (inl (fits, inr broke)) other = broken_for_memory a extent events f both.2 broke
+  begins events others extent stop ps qs vsn l f None same near one (inl (fits, inl is)) (inl (fits_too, inr broke)) = broken_for_memory b stop others f both.3 broke
+  begins events others extent stop ps qs vsn l f None same near one (inl (fits, inl is)) (inl (fits_too, inl also)) =
+      leads events others extent stop ps qs vsn l f (upgrade_outcome vsn l f ps) same near one is (subst (λ o. RepliesTo others stop qs vsn l f o b) (ap (upgrade_outcome vsn l f) (sym one)) also)
+  begins events others extent stop ps qs vsn l f None same near one (inl (fits, inl is)) (inr (over_it, also)) = one_fits exact extent stop (install_room vsn l) b near both.3 fits over_it (ap (λ (r : Reply). r.answer) also)
   begins events others extent stop ps qs vsn l f None same near one (inr (over_it, is)) (inl (fits, also)) =
       one_fits exact stop extent (install_room vsn l) a (λ sure. sym (near sure)) both.2 fits over_it (ap (λ (r : Reply). r.answer) is)
   begins events others extent stop ps qs vsn l f None same near one (inr (over_it, is)) (inr (over_too, also)) = as_these exact a b _ _ is also (refl, refl, both_run events others extent stop ps qs same near one)
 
   installs_so : (events others : Events) (extent stop : Extent) (ps qs : Processes) (vsn : List ℕ) (l : Releases) (o : Result FoundForm HandlerError) → list_after events ≡ list_after others → (exact ≡ true → extent ≡ stop) → ps ≡ qs
-      → Installs BootsStore events extent ps vsn l o a → Installs BootsStore others stop qs vsn l o b → Same exact a b
+      → Installs events extent ps vsn l o a → Installs others stop qs vsn l o b → Same exact a b
   installs_so events others extent stop ps qs vsn l (Err why) same near one is also = as_these exact a b _ _ is also (refl, refl, both_run events others extent stop ps qs same near one)
   installs_so events others extent stop ps qs vsn l (Ok f) same near one is also = begins events others extent stop ps qs vsn l f (script_failure vsn l f) same near one is also
 
@@ -373,7 +395,7 @@ module _ (exact : Bool) (a b : Reply) (both : Both exact a b) where
   installed_alike p q vsn (both_idle r s f g here there near) is also = none_asked r s f g (installs vsn) tt here there near is also
   installed_alike p q vsn (both_run events others extent stop ps qs same near one) is also =
       let then : releases_after others ≡ releases_after events = ap list_or_none (sym same) in
-      installs_so events others extent stop ps qs vsn (releases_after events) (installation vsn (releases_after events)) same near one is (subst (λ l. Installs BootsStore others stop qs vsn l (installation vsn l) b) then also)
+      installs_so events others extent stop ps qs vsn (releases_after events) (installation vsn (releases_after events)) same near one is (subst (λ l. Installs others stop qs vsn l (installation vsn l) b) then also)
 
   reported : (p q : Place) → Alike exact p q → Transition.Acts p reports_start a → Transition.Acts q reports_start b → Same exact a b
   reported p q (both_idle r s f g here there near) is also = none_asked r s f g reports_start tt here there near is also
@@ -397,8 +419,16 @@ module _ (exact : Bool) (a b : Reply) (both : Both exact a b) where
   acts laws p q reports_start has alike is also = reported p q alike is also
   acts laws p q (calls c) has alike is also = called_alike p q c alike is also
 
+  -- no reply that memory was refused
+  lacking : {T : Type 0} (r : Reply) (p : Place) (c : Command) (does : Transition.Action) → Asks exact r → Transition.LacksMemory p c does → Transition.Acts p does r → T
+  lacking r p c does asks (line, reports, is) acts_so =
+      let answer = ap (λ (t : Reply). t.answer) (subst (λ d. Transition.Acts p d r) is acts_so) in
+      absurd (asks.2 (inl (subst IsMemoryLine (sym answer) (report_is p c line reports))))
+
   one_reply : BootLaws → (source : Source) → GivesOne source → (p q : Place) (c : Command) → Alike exact p q → Transition.Transition source p c a → Transition.Transition source q c b → Same exact a b
-  one_reply laws source single p q c alike (does, comes, is) (again, comes_too, also) =
+  one_reply laws source single p q c alike (does, inr lacks, is) other = lacking a p c does both.2 lacks is
+  one_reply laws source single p q c alike (does, inl comes, is) (again, inr lacks, also) = lacking b q c again both.3 lacks also
+  one_reply laws source single p q c alike (does, inl comes, is) (again, inl comes_too, also) =
       let one = same_action exact source single p q c does again alike comes comes_too in
       acts laws p q does (has_record source p c does comes) alike is (subst (λ d. Transition.Acts q d b) (sym one) also)
 
@@ -422,12 +452,22 @@ one_end over a b p q = p ∙ sym q
 one_end cut a b p q = p ∙ sym q
 one_end (next c rest) a b p q = p.1 ∙ sym q.1
 
+never_reports : (p : Place) (line : List ℕ) → Transition.memory_report_at p quit ≡ Some line → ⊥
+never_reports (raw bytes) line is = cc is
+never_reports (closed s) line is = cc is
+never_reports (running events extent ps) line is = cc is
+never_reports (dead s) line is = cc is
+
 -- a session that ends does not go on
 pub never_goes_on : (base : Source) (files : Files) (p : Place) (commands : Feed Command) (a b : Ending) (r : Reply) (more : List Reply) → EndsInFull b → Ends commands a → Replies base files p commands b (r ∷ more) → ⊥
 never_goes_on base files p over a b r more whole end right = none_left base files p over b r more (inl refl) right
 never_goes_on base files p cut a b r more whole end right = none_left base files p cut b r more (inr refl) right
 never_goes_on base files p (next c rest) a b r more whole (quitting, end) right =
-    let (does, comes, is) = subst (λ d. Transition.Transition (source_of base files) p d r) quitting (next_answered base files p c rest b r more whole right).0 in comes
+    go (subst (λ d. Transition.Transition (source_of base files) p d r) quitting (next_answered base files p c rest b r more whole right).0)
+  where
+    go : Transition.Transition (source_of base files) p quit r → ⊥
+    go (does, inl comes, is) = comes
+    go (does, inr (line, reports, same), is) = never_reports p line reports
 
 -- it is asked of each reply
 abbrev pub AreAsked : Bool → List Reply → Type 0
@@ -444,15 +484,15 @@ one_run laws exact base single files p q cut a b (r ∷ first) (s ∷ second) al
 one_run laws exact base single files p q (next c rest) a b (r ∷ first) (s ∷ second) alike not_a not_b (works, all) (works_too, all_too) (asked, others) (asked_too, others_too) right right_too =
     let (is, behind) = next_answered base files p c rest a r first not_a right in
     let (also, behind_too) = next_answered base files q c rest b s second not_b right_too in
-    let (reported, outcomes, then) = one_reply exact r s (works, works_too, asked, asked_too) laws (source_of base files) (gives_one base files single) p q c alike is also in
+    let (reported, outcomes, then) = one_reply exact r s (works_so r works asked.2, works_so s works_too asked_too.2, asked, asked_too) laws (source_of base files) (gives_one base files single) p q c alike is also in
     let (end, same) = one_run laws exact base single (files_behind files c) r.after s.after rest a b first second then not_a not_b all all_too others others_too behind behind_too in
     (end, (reported, outcomes, same))
 
 -- so it is where memory is refused to no compaction
-asked_compact : (replies : List Reply) → LeaveCompactStores replies → AreAsked true replies
-asked_compact [] small = tt
-asked_compact (a ∷ more) (small, rest) = ((λ sure. small, λ (never : true ≡ false). absurd cc), asked_compact more rest)
+asked_compact : (replies : List Reply) → LeaveCompactStores replies → NoneLacksMemory replies → AreAsked true replies
+asked_compact [] small had = tt
+asked_compact (a ∷ more) (small, rest) (here, later) = ((λ sure. small, (λ (never : true ≡ false). absurd cc), here), asked_compact more rest later)
 
 pub have_one_answer : BootLaws → (base : Source) → HaveOneAnswer base
-have_one_answer laws base single files p commands a b first second sure not_a not_b works works_too small small_too =
-    one_run laws true base single files p p commands a b first second (alike_itself laws true p sure) not_a not_b works works_too (asked_compact first small) (asked_compact second small_too)
+have_one_answer laws base single files p commands a b first second sure not_a not_b works works_too had had_too small small_too =
+    one_run laws true base single files p p commands a b first second (alike_itself laws true p sure) not_a not_b works works_too (asked_compact first small had) (asked_compact second small_too had_too)

@@ -1,5 +1,5 @@
 -- The list of a disk decides what a session answers, where the device does not fail and no answer is that a record does not fit.
-use Rattle.std.proofs.Common.{◌≡◌, inl, inr, false, true, List, [], ◌∷◌, ◌++◌, Some, refl, sym, ap, ◌∙◌, subst, append_assoc}
+use Rattle.std.proofs.Common.{◌≡◌, ◌≢◌, inl, inr, ℕ, false, true, List, [], ◌∷◌, ◌++◌, Some, refl, sym, ap, ◌∙◌, subst, append_assoc}
 use Rattle.std.specs.Option.{option_map}
 use Rattle.rel_list.specs.Releases.{Releases}
 use Rattle.rel_list.specs.Event.{booted, list_after}
@@ -8,7 +8,7 @@ use Rattle.node_store.specs.Image.{Extent, booted_extent, extent_of, holds_a_sto
 use Rattle.rel_unpack.specs.Source.{Source}
 use Rattle.node_answer.specs.Refusals.{refusal_line}
 use Rattle.node_answer.specs.Refusals.NodeRefusal.{full}
-use Rattle.session_laws.specs.AnswerLaws.{AreRefusedAlike, BootsTo, HaveOneList, HasNoFull, ListDecidesAnswers, ListDecidesText, NoneIsFull, StoreBootsTo}
+use Rattle.session_laws.specs.AnswerLaws.{AreRefusedAlike, BootsTo, HaveOneList, HasNoLackLine, ListDecidesAnswers, ListDecidesText, NoneIsFull, NoneLacksMemory, StoreBootsTo}
 use Rattle.rel_session.specs.Booting.{boot_line}
 use Rattle.rel_session.specs.Device.{Device}
 use Rattle.session_laws.specs.LawsBelow.{BootLaws}
@@ -20,7 +20,7 @@ use Rattle.session_laws.proofs.IdlePlaces.{IsFound, IsFoundIn}
 use Rattle.session_laws.proofs.IdlePlaces.Found.{listed, unlisted}
 use Rattle.session_laws.proofs.OneAnswer.{Alike, AreAsked, one_run}
 use Rattle.session_laws.proofs.OneAnswer.Alike.{both_idle}
-use Rattle.session_laws.proofs.OneText.{same_text, whole_text}
+use Rattle.session_laws.proofs.OneText.{none_lacks, same_text, whole_text}
 
 -- a boot finds the list that it leads to
 found_in : (s : Stored) (list : Releases) → StoreBootsTo s list → (x : Extent) × IsFoundIn s (listed (Some list) x)
@@ -46,16 +46,16 @@ alike_lists p q (inl (list, there, there_too)) =
 alike_lists p q (inr refused) = alike_refused p q refused
 
 -- how far a store reaches is not asked
-asked_none_full : (replies : List Reply) → NoneIsFull replies → AreAsked false replies
-asked_none_full [] free = tt
-asked_none_full (a ∷ more) (free, rest) = ((λ (never : false ≡ true). absurd cc, λ sure. free), asked_none_full more rest)
+asked_none_full : (replies : List Reply) → NoneIsFull replies → NoneLacksMemory replies → AreAsked false replies
+asked_none_full [] free had = tt
+asked_none_full (a ∷ more) (free, rest) (here, later) = (((λ (never : false ≡ true). absurd cc), (λ sure. free), here), asked_none_full more rest later)
 
 pub list_decides_answers : BootLaws → (base : Source) → ListDecidesAnswers base
-list_decides_answers laws base single files p q commands a b first second alike not_a not_b works works_too free free_too =
-    one_run laws false base single files p q commands a b first second (alike_lists p q alike) not_a not_b works works_too (asked_none_full first free) (asked_none_full second free_too)
+list_decides_answers laws base single files p q commands a b first second alike not_a not_b works works_too free free_too had had_too =
+    one_run laws false base single files p q commands a b first second (alike_lists p q alike) not_a not_b works works_too (asked_none_full first free had) (asked_none_full second free_too had_too)
 
 -- an answer stands in the text
-none_is_full : (replies : List Reply) → HasNoFull (answers_of replies) → NoneIsFull replies
+none_is_full : (replies : List Reply) → ((front back : List ℕ) → answers_of replies ≢ front ++ (refusal_line full ++ back)) → NoneIsFull replies
 none_is_full [] free = tt
 none_is_full (a ∷ more) free = (
   λ is. free [] (answers_of more) (ap (λ t. t ++ answers_of more) is),
@@ -69,5 +69,6 @@ list_decides_text laws v w base single files p q commands a b old new other late
     let is = whole_text a one.replies text not_a one.written in
     let also = whole_text b two.replies written not_b two.written in
     let (ending, same) = list_decides_answers laws base single files p q commands a b one.replies two.replies alike not_a not_b fine.0 fine_too.0
-    (none_is_full one.replies (subst HasNoFull is free)) (none_is_full two.replies (subst HasNoFull also free_too)) one.right two.right in
+    (none_is_full one.replies (subst HasNoLackLine is free).0) (none_is_full two.replies (subst HasNoLackLine also free_too).0)
+    (none_lacks one.replies (subst HasNoLackLine is free).1) (none_lacks two.replies (subst HasNoLackLine also free_too).1) one.right two.right in
     (ending, is ∙ same_text one.replies two.replies same ∙ sym also)

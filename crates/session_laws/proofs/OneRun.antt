@@ -8,7 +8,7 @@ use Rattle.rel_session.specs.Files.{Files, files_behind, source_of}
 use Rattle.rel_session.specs.Node.{Place, Reply}
 use Rattle.rel_session.specs.Run.{EndsInFull, Replies, Ending, answers_of, events_of}
 use Rattle.session_laws.specs.AnswerLaws.{HaveLinePaths, HasVersionsAt, HasModuleVersionsAt, AreSame, RestartAlike, DeterminesOneRun, have_restart}
-use Rattle.rel_session.specs.Transition.{Action, ComesTo}
+use Rattle.rel_session.specs.Transition.{Action, Acts, ComesToOrLacks}
 use Rattle.rel_session.specs.Transition.Action.{answers, makes_node, changes_node, installs, reboots_node, boots_node, reports_start, calls}
 use Rattle.session_laws.proofs.AcknowledgedEvents.{next_answered, none_left}
 use Rattle.session_laws.proofs.OneAnswer.{ends, one_end, never_goes_on}
@@ -17,7 +17,7 @@ use Rattle.session_laws.proofs.ActionLemmas.{AreReported, kind_of, one_action, r
 use Rattle.session_laws.proofs.AnswerEvents.{Effect, one_effect}
 use Rattle.session_laws.proofs.ProcessVersions.{keeps_versions_of_modules}
 use Rattle.session_laws.proofs.InstallLines.{append_left, same_front}
-use Rattle.session_laws.proofs.Versions.{LinesOf, each_good}
+use Rattle.session_laws.proofs.Versions.{LinesOf, each_good, lines_of_idle}
 use Rattle.session_laws.proofs.AnswerLines.{one_front}
 
 -- Two replies to one action answer the same in front of the same text.
@@ -32,13 +32,19 @@ same_answer reports_start r s of of_too alike x y same = one_front r.answer s.an
 same_answer (calls c) r s of of_too alike x y same = one_front r.answer s.answer of of_too x y same
 
 -- Two replies to one command, from places of one kind, answer the same in front of the same text.
-pub one_answer : (source : Source) → GivesOne source → (p q : Place) (c : Command) (does again : Action) (r s : Reply) → kind_of p ≡ kind_of q → ComesTo source p c does → ComesTo source q c again → LinesOf does r → LinesOf again s
+pub one_answer : (source : Source) → GivesOne source → (p q : Place) (c : Command) (does again : Action) (r s : Reply) → kind_of p ≡ kind_of q → ComesToOrLacks source p c does → ComesToOrLacks source q c again → Acts p does r → Acts q again s → LinesOf does r → LinesOf again s
     → have_restart (events_of r.outcome) ≡ have_restart (events_of s.outcome) → (x y : List ℕ) → r.answer ++ x ≡ s.answer ++ y → r.answer ≡ s.answer
-one_answer source single p q c does again r s kinds comes comes_too of of_too alike x y same = go (one_action source single p q c does again (ap runs_node kinds) comes comes_too)
+one_answer source single p q c does again r s kinds (inl comes) (inl comes_too) acts acts_too of of_too alike x y same = go (one_action source single p q c does again (ap runs_node kinds) comes comes_too)
   where
     go : (does ≡ again) ⊎ AreReported p q does again → r.answer ≡ s.answer
     go (inl one) = same_answer again r s (subst (λ d. LinesOf d r) one of) of_too alike x y same
     go (inr (says, here, here_too)) = one_front r.answer s.answer (subst (λ d. LinesOf d r) here of) (subst (λ d. LinesOf d s) here_too of_too) x y same
+one_answer source single p q c does again r s kinds (inr (line, told, answered)) comes_too acts acts_too of of_too alike x y same =
+    let idle = ap (λ (t : Reply). t.outcome) (subst (λ d. Acts p d r) answered acts) in
+    same_answer again r s (lines_of_idle again r (subst (λ d. LinesOf d r) answered of) idle) of_too alike x y same
+one_answer source single p q c does again r s kinds (inl comes) (inr (line, told, answered)) acts acts_too of of_too alike x y same =
+    let idle = ap (λ (t : Reply). t.outcome) (subst (λ d. Acts q d s) answered acts_too) in
+    same_answer does r s of (lines_of_idle does s (subst (λ d. LinesOf d s) answered of_too) idle) alike x y same
 
 one_run : (base : Source) → GivesOne base → (files : Files) (p q : Place) (commands : Feed Command) (a b : Ending) (first second : List Reply) → kind_of p ≡ kind_of q → HasVersionsAt p → HasVersionsAt q → HasModuleVersionsAt p → HasModuleVersionsAt q → HaveLinePaths commands
     → EndsInFull a → EndsInFull b → RestartAlike first second → Replies base files p commands a first → Replies base files q commands b second → answers_of first ≡ answers_of second → (a ≡ b) × AreSame first second
@@ -56,7 +62,7 @@ one_run base single files p q (next c rest) a b (r ∷ first) (s ∷ second) kin
     let (again, comes_too, acts_too) = also in
     let (of, versions) = each_good (source_of base files) p c does line all reports comes r acts in
     let (of_too, versions_too) = each_good (source_of base files) q c again line all_too reports_too comes_too s acts_too in
-    let answer = one_answer (source_of base files) (gives_one base files single) p q c does again r s kinds comes comes_too of of_too alike (answers_of first) (answers_of second) same in
+    let answer = one_answer (source_of base files) (gives_one base files single) p q c does again r s kinds comes comes_too acts acts_too of of_too alike (answers_of first) (answers_of second) same in
     let effect = one_effect (source_of base files) (gives_one base files single) p q c r s kinds alike answer is also in
     let left = append_left s.answer (answers_of first) (answers_of second) (ap (λ t. t ++ answers_of first) (sym answer) ∙ same) in
     let (end, rest_same) = one_run base single (files_behind files c) r.after s.after rest a b first second (ap (λ (e : Effect). e.kind) effect) versions versions_too

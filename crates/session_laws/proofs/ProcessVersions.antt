@@ -57,15 +57,15 @@ boots_to events extent all a (list, after, is) =
 
 boots_store : (s : Stored) → HasVersionsAt (closed s) → (a : Reply) → Transition.BootsStore s a → KeepsVersions a
 boots_store s all a (inl (events, extent, has, is)) = boots_to events extent (stored_versions s all events extent has) a is
-boots_store s all a (inr (inl is)) = versions_as a _ is tt
-boots_store s all a (inr (inr (events, extent, has, is))) = versions_as a _ is tt
+boots_store s all a (inr (lack, inl is)) = versions_as a _ is tt
+boots_store s all a (inr (lack, inr (events, extent, has, is))) = versions_as a _ is tt
 
 boots : (p : Place) → HasVersionsAt p → (a : Reply) → Transition.Boots p a → KeepsVersions a
 boots (raw x) all a (inl (events, list, extent, after, image, is)) =
     let of = of_image x list image.image_of in
     boots_to events extent (λ l e. let same : list ≡ l = cc in subst AreFromFiles same of) a is
 boots (raw x) all a (inr (inl (why, refusal, is))) = versions_as a _ is tt
-boots (raw x) all a (inr (inr (torn, is))) = versions_as a _ is tt
+boots (raw x) all a (inr (inr (lack, torn, left, is))) = versions_as a _ is tt
 boots (closed s) all a is = boots_store s all a is
 boots (running events extent ps) all a is = boots_store (certain events extent) (certain_versions events extent all) a is
 boots (dead s) all a is = boots_store s all a is
@@ -84,7 +84,7 @@ changes events extent ps c list (Some why) o versions a is = versions_as a _ is 
 changes events extent ps c list None o versions a is = commits events extent ps c.event (c.size list) o _ (λ x a is. versions_as a _ is versions) versions a is
 
 reboots : (events : Events) (extent : Extent) (ps : Processes) (vsn : List ℕ) (list : Releases) (o : Result Releases HandlerError) → OfList events → HaveModuleVersions ps → (a : Reply)
-    → Transition.Reboots Transition.BootsStore events extent ps vsn list o a → KeepsVersions a
+    → Transition.Reboots events extent ps vsn list o a → KeepsVersions a
 reboots events extent ps vsn list o all versions =
     let e = rebooting vsn in
     commits events extent ps e _ o _ (λ x a (b, done, is). versions_as a _ is (boots_store (Transition.rebooted events x vsn) (certain_versions (events ++ e ∷ []) x (list_versions events e tt all)) b done)) versions
@@ -95,7 +95,8 @@ BringsLibraries b = own_refusal b ≡ None → AllByRecursion IsLibrary b.librar
 
 makes_with : (x : List ℕ) (p : Bundle) (size : ℕ) (why : Option Refusal) → (why ≡ None → AllByRecursion IsLibrary p.libraries) → (a : Reply) → Transition.MakesWith x p size why a → KeepsVersions a
 makes_with x p size (Some why) of a is = versions_as a _ is tt
-makes_with x p size None of a (inl (fits, is)) = versions_as a _ is (fresh_versions (entry p Permanent ∷ []) (of refl, tt))
+makes_with x p size None of a (inl (fits, inr is)) = versions_as a _ is tt
+makes_with x p size None of a (inl (fits, inl is)) = versions_as a _ is (fresh_versions (entry p Permanent ∷ []) (of refl, tt))
 makes_with x p size None of a (inr (over_it, is)) = versions_as a _ is tt
 
 makes_on : (x : List ℕ) (b : Brought) (there : Bool) → BringsLibraries b → (a : Reply) → Transition.MakesOn x b there a → KeepsVersions a
@@ -167,7 +168,7 @@ acts (closed s) (changes_node c) of all versions a is = versions_as a _ is tt
 acts (dead s) (changes_node c) of all versions a is = versions_as a _ is tt
 acts (running events extent ps) (installs vsn) of all versions a is =
     let list = releases_after events in
-    each_reply Transition.BootsStore KeepsVersions events extent ps vsn list (record {
+    each_reply KeepsVersions events extent ps vsn list (record {
       listed = λ why. versions;
       unmatched = versions;
       not_run = λ f. versions;
@@ -198,4 +199,5 @@ acts (closed s) (calls c) of all versions a is = versions_as a _ is tt
 acts (dead s) (calls c) of all versions a is = versions_as a _ is tt
 
 pub keeps_versions_of_modules : (source : Source) (p : Place) (c : Command) (a : Reply) → HasVersionsAt p → HasModuleVersionsAt p → Transition.Transition source p c a → HasModuleVersionsAt a.after
-keeps_versions_of_modules source p c a all versions (does, comes, is) = acts p does (comes_of source p c does comes) all versions a is
+keeps_versions_of_modules source p c a all versions (does, inl comes, is) = acts p does (comes_of source p c does comes) all versions a is
+keeps_versions_of_modules source p c a all versions (does, inr (line, told, answered), is) = acts p does (of_as does _ answered tt) all versions a is

@@ -21,14 +21,13 @@ use Rattle.node_upgrade.specs.Stale.{stale_modules}
 use Rattle.relup_file.specs.Search.{FoundForm}
 use Rattle.node_answer.specs.Lines.{installed_line}
 use Rattle.rel_session.specs.Installation.{restarted, restarted_reply}
-use Rattle.rel_session.specs.Node.{Place, at_rest, Reply, reply, nothing, releases_after, behind, with_text}
+use Rattle.rel_session.specs.Node.{Place, Reply, reply, nothing, releases_after, behind, with_text}
 use Rattle.rel_session.specs.Node.Place.{raw, closed, running, dead}
-use Rattle.rel_session.specs.Run.{MayLeave}
+use Rattle.rel_session.specs.Booting.{is_failure}
 use Rattle.session_laws.specs.RunLaws.{MayBe, known_at, acknowledged_at, ran_at, IsKnown, IsSettled, Finds, ReplyKeepsEvents}
 use Rattle.rel_session.specs.Transition
 use Rattle.rel_session.specs.Transition.Action.{answers, makes_node, changes_node, installs, reboots_node, boots_node, reports_start, calls}
 use Rattle.session_laws.proofs.InstallationLemmas.{each_reply}
-use Rattle.rel_session.proofs.StoppedReplies.{or_not}
 
 same_known : (p : Place) (es : Events) → es ≡ [] → IsKnown p ⊎ (es ≢ []) → IsKnown p
 same_known p es none (inl known) = known
@@ -82,16 +81,17 @@ changes events extent ps c l None o a is = commits events extent ps c.event (c.s
 
 makes_with : (bytes : List ℕ) (p : Bundle) (size : ℕ) (why : Option Refusal) (a : Reply) → Transition.MakesWith bytes p size why a → ReplyKeepsEvents (raw bytes) a
 makes_with bytes p size (Some why) a is = still_as (raw bytes) _ a is
-makes_with bytes p size None a (inl (fits, is)) = keeps_as (raw bytes) a _ is (keeps_known (raw bytes) _ [] (inl refl) refl tt (inl refl) (_, refl) refl)
+makes_with bytes p size None a (inl (fits, inr is)) = keeps_as (raw bytes) a _ is (keeps_known (raw bytes) _ [] (inl refl) refl tt (inl refl) (_, refl) refl)
+makes_with bytes p size None a (inl (fits, inl is)) = keeps_as (raw bytes) a _ is (keeps_known (raw bytes) _ [] (inl refl) refl tt (inl refl) (_, refl) refl)
 makes_with bytes p size None a (inr (over, is)) = still_as (raw bytes) _ a is
 
 makes_on : (bytes : List ℕ) (b : Brought) (there : Bool) (a : Reply) → Transition.MakesOn bytes b there a → ReplyKeepsEvents (raw bytes) a
 makes_on bytes b true a is = still_as (raw bytes) _ a is
 makes_on bytes b false a is = makes_with bytes (bundle_brought b) (made_size b) (own_refusal b) a is
 
--- a failure leaves other bytes, and nothing is known as before
-torn_as : (bytes torn answer : List ℕ) (doubt : Option Event) (a : Reply) → a ≡ reply answer (record { acknowledged = []; in_doubt = doubt; failed = true }) (raw torn) → ReplyKeepsEvents (raw bytes) a
-torn_as bytes torn answer doubt a is = keeps_as (raw bytes) a _ is (record {
+-- What is not done leaves other bytes, and nothing is known as before.
+torn_as : (bytes torn answer : List ℕ) (doubt : Option Event) (fails : Bool) (a : Reply) → a ≡ reply answer (record { acknowledged = []; in_doubt = doubt; failed = fails }) (raw torn) → ReplyKeepsEvents (raw bytes) a
+torn_as bytes torn answer doubt fails a is = keeps_as (raw bytes) a _ is (record {
   found = [];
   finds = inl refl;
   are = refl;
@@ -101,10 +101,10 @@ torn_as bytes torn answer doubt a is = keeps_as (raw bytes) a _ is (record {
   right = λ k. refl;
 })
 
--- A failure leaves a store without a node: as it was known, or with an event of the command in doubt.
-failed_as : (s : Stored) (answer : List ℕ) (doubt : Option Event) (p : Place) (a : Reply) → Finds p s.known.acknowledged → (s.known ≡ known_at p) ⊎ (s.known.in_doubt ≡ doubt) → BeginWith (ran_at p) s.known.ran
-    → (IsSettled p → s.known.ran ≡ s.known.acknowledged) → a ≡ reply answer (record { acknowledged = []; in_doubt = doubt; failed = true }) (closed s) → ReplyKeepsEvents p a
-failed_as s answer doubt p a finds known ran right is = keeps_as p a _ is (record {
+-- What is not done leaves a store without a node: as it was known, or with an event of the command in doubt.
+failed_as : (s : Stored) (answer : List ℕ) (doubt : Option Event) (fails : Bool) (p : Place) (a : Reply) → Finds p s.known.acknowledged → (s.known ≡ known_at p) ⊎ (s.known.in_doubt ≡ doubt) → BeginWith (ran_at p) s.known.ran
+    → (IsSettled p → s.known.ran ≡ s.known.acknowledged) → a ≡ reply answer (record { acknowledged = []; in_doubt = doubt; failed = fails }) (closed s) → ReplyKeepsEvents p a
+failed_as s answer doubt fails p a finds known ran right is = keeps_as p a _ is (record {
   found = s.known.acknowledged;
   finds = finds;
   are = sym (append-nil s.known.acknowledged);
@@ -115,14 +115,14 @@ failed_as s answer doubt p a finds known ran right is = keeps_as p a _ is (recor
 })
 
 makes_fails : (bytes : List ℕ) (p : Bundle) (why : Option Refusal) (a : Reply) → Transition.FailsToMake bytes p why a → ReplyKeepsEvents (raw bytes) a
-makes_fails bytes p (Some why) a is = torn_as bytes bytes _ _ a is
-makes_fails bytes p None a (torn, kept, is) = torn_as bytes torn _ _ a is
+makes_fails bytes p (Some why) a is = torn_as bytes bytes _ _ true a is
+makes_fails bytes p None a (torn, kept, is) = torn_as bytes torn _ _ true a is
 
 makes : (p : Place) (found : Brought) (a : Reply) → Transition.MakesNode p found a → ReplyKeepsEvents p a
 makes (raw bytes) found a (inl is) = makes_on bytes found (holds_a_store bytes) a is
 makes (raw bytes) found a (inr is) = makes_fails bytes (bundle_brought found) (own_refusal found) a is
 makes (closed s) found a (inl is) = still_as (closed s) _ a is
-makes (closed s) found a (inr is) = failed_as s _ _ (closed s) a (inl refl) (inl refl) (with_themselves s.known.ran) (right_there (closed s)) is
+makes (closed s) found a (inr is) = failed_as s _ _ true (closed s) a (inl refl) (inl refl) (with_themselves s.known.ran) (right_there (closed s)) is
 makes (running events extent ps) found a is = still_as (running events extent ps) _ a is
 makes (dead s) found a is = still_as (dead s) _ a is
 
@@ -142,10 +142,10 @@ right_after s events acknowledged settled (inr is) = ap (λ (k : Known). k.ran) 
 boots_store : (p : Place) (s : Stored) (a : Reply) → s.known ≡ known_at p → ((events : Events) (extent : Extent) → MayHave s events extent → Finds p events) → Finds p s.known.acknowledged → BeginWith (ran_at p) s.known.ran
     → Transition.BootsStore s a → ReplyKeepsEvents p a
 boots_store p s a same finds here ran (inl (events, extent, has, is)) = booted p events extent a (finds events extent has) (with_first (ran_at p) s.known.ran events ran has.0) is
-boots_store p s a same finds here ran (inr (inl is)) =
-    failed_as s _ (Some booting) p a here (inl same) ran (λ settled. right_after s s.known.acknowledged (acknowledged_at p) (same ∙ settled) (inl refl)) is
-boots_store p s a same finds here ran (inr (inr (events, extent, has, is))) =
-    failed_as (uncertain_boot s.known.ran events extent) _ (Some booting) p a (finds events extent has) (inr refl) ran
+boots_store p s a same finds here ran (inr (lack, inl is)) =
+    failed_as s _ (Some booting) (is_failure lack) p a here (inl same) ran (λ settled. right_after s s.known.acknowledged (acknowledged_at p) (same ∙ settled) (inl refl)) is
+boots_store p s a same finds here ran (inr (lack, inr (events, extent, has, is))) =
+    failed_as (uncertain_boot s.known.ran events extent) _ (Some booting) (is_failure lack) p a (finds events extent has) (inr refl) ran
     (λ settled. right_after s events (acknowledged_at p) (same ∙ settled) (may_have s events extent has)) is
 
 -- after an event that was committed
@@ -172,28 +172,27 @@ keeps_text p text a keeps = record {
 boots : (p : Place) (a : Reply) → Transition.Boots p a → ReplyKeepsEvents p a
 boots (raw bytes) a (inl (events, list, extent, after, image, is)) = booted (raw bytes) events extent a (inr (list, after, image.image_of)) (events, refl) is
 boots (raw bytes) a (inr (inl (why, reported, is))) = still_as (raw bytes) _ a is
-boots (raw bytes) a (inr (inr (torn, is))) = torn_as bytes torn _ (Some booting) a is
+boots (raw bytes) a (inr (inr (lack, torn, left, is))) = torn_as bytes torn _ (Some booting) (is_failure lack) a is
 boots (closed s) a is = boots_store (closed s) s a refl (may_have s) (inl refl) (with_themselves s.known.ran) is
 boots (running events extent ps) a is = boots_store (running events extent ps) (certain events extent) a refl (λ es n has. ⊎_elim (λ e. e) (λ e. e) (may_have (certain events extent) es n has)) refl (with_themselves events) is
 boots (dead s) a is = boots_store (dead s) s a refl (may_have s) (inl refl) (with_themselves s.known.ran) is
 
--- so does a boot after a commit, which had no memory or replies
-boots_or_not : (s : Stored) (b : Reply) → Transition.BootsOrNot s b → ReplyKeepsEvents (closed s) b
-boots_or_not s b (inl boot) = boots_store (closed s) s b refl (may_have s) (inl refl) (with_themselves s.known.ran) boot
-boots_or_not s b (inr is) = still_as (closed s) [] b is
+-- a boot after a commit keeps them
+boots_rest : (s : Stored) (b : Reply) → Transition.BootsStore s b → ReplyKeepsEvents (closed s) b
+boots_rest s b boot = boots_store (closed s) s b refl (may_have s) (inl refl) (with_themselves s.known.ran) boot
 
-reboots : (events : Events) (extent : Extent) (ps : Processes) (vsn : List ℕ) (l : Releases) (o : Result Releases HandlerError) (a : Reply) → Transition.Reboots Transition.BootsOrNot events extent ps vsn l o a → ReplyKeepsEvents (running events extent ps) a
+reboots : (events : Events) (extent : Extent) (ps : Processes) (vsn : List ℕ) (l : Releases) (o : Result Releases HandlerError) (a : Reply) → Transition.Reboots events extent ps vsn l o a → ReplyKeepsEvents (running events extent ps) a
 reboots events extent ps vsn l o =
     commits events extent ps (rebooting vsn) _ o _ (λ x a (b, boot, is).
-    keeps_as (running events extent ps) a _ is (keeps_behind events extent ps x (rebooting vsn) b (boots_or_not (Transition.rebooted events x vsn) b boot)))
+    keeps_as (running events extent ps) a _ is (keeps_behind events extent ps x (rebooting vsn) b (boots_rest (Transition.rebooted events x vsn) b boot)))
 
-restarts : (events : Events) (extent : Extent) (ps : Processes) (x : Extent) (vsn : List ℕ) (l : Releases) (f : FoundForm) (qs : Processes) (b : Reply) → Transition.BootsOrNot (restarted events x vsn) b
+restarts : (events : Events) (extent : Extent) (ps : Processes) (x : Extent) (vsn : List ℕ) (l : Releases) (f : FoundForm) (qs : Processes) (b : Reply) → Transition.BootsStore (restarted events x vsn) b
     → ReplyKeepsEvents (running events extent ps) (restarted_reply vsn l f qs b)
 restarts events extent ps x vsn l f qs b boot =
     keeps_text (running events extent ps) (installed_line f (stale_modules qs.modules (libraries_at vsn l))) (behind (restart_installed vsn) b)
-    (keeps_behind events extent ps x (restart_installed vsn) b (boots_or_not (restarted events x vsn) b boot))
+    (keeps_behind events extent ps x (restart_installed vsn) b (boots_rest (restarted events x vsn) b boot))
 
-acts : (p : Place) (does : Transition.Action) (a : Reply) → Transition.ActsWith Transition.BootsOrNot p does a → ReplyKeepsEvents p a
+acts : (p : Place) (does : Transition.Action) (a : Reply) → Transition.Acts p does a → ReplyKeepsEvents p a
 acts p (answers text) a is = still_as p _ a is
 acts p (makes_node found) a is = makes p found a is
 acts (raw bytes) (changes_node c) a is = still_as (raw bytes) _ a is
@@ -202,7 +201,7 @@ acts (running events extent ps) (changes_node c) a is = changes events extent ps
 acts (dead s) (changes_node c) a is = still_as (dead s) _ a is
 acts (running events extent ps) (installs vsn) a is =
     let here = running events extent ps in
-    each_reply Transition.BootsOrNot (ReplyKeepsEvents here) events extent ps vsn (releases_after events) (record {
+    each_reply (ReplyKeepsEvents here) events extent ps vsn (releases_after events) (record {
       listed = λ why. still_as here _ _ refl;
       unmatched = still_as here _ _ refl;
       not_run = λ f. still_as here _ _ refl;
@@ -231,42 +230,4 @@ acts (closed s) (calls c) a is = still_as (closed s) _ a is
 acts (dead s) (calls c) a is = still_as (dead s) _ a is
 
 pub each_keeps : (source : Source) (p : Place) (c : Command) (a : Reply) → Transition.Transition source p c a → ReplyKeepsEvents p a
-each_keeps source p c a (does, comes, is) = acts p does a (or_not p does a is)
-
--- of a place at rest the same is known
-pub rest_known : (p : Place) → known_at (at_rest p) ≡ known_at p
-rest_known (raw bytes) = refl
-rest_known (closed s) = refl
-rest_known (running events extent ps) = refl
-rest_known (dead s) = refl
-
-pub rest_acknowledged : (p : Place) → acknowledged_at (at_rest p) ≡ acknowledged_at p
-rest_acknowledged p = ap (λ (k : Known). k.acknowledged) (rest_known p)
-
-still_known : (p : Place) → IsKnown p → IsKnown (at_rest p)
-still_known (raw bytes) known = known
-still_known (closed s) known = tt
-still_known (running events extent ps) known = tt
-still_known (dead s) known = tt
-
--- so a reply whose node is lost keeps them
-keeps_without_node : (p : Place) (b : Reply) → ReplyKeepsEvents p b → ReplyKeepsEvents p (Transition.without_node b)
-keeps_without_node p b keeps =
-    let same = rest_known b.after in
-    record {
-      found = keeps.found;
-      finds = keeps.finds;
-      are = rest_acknowledged b.after ∙ keeps.are;
-      known = λ k. still_known b.after (keeps.known k);
-      doubt = subst (λ (k : Known). ((b.outcome.acknowledged ≡ []) × (k ≡ known_at p)) ⊎ ((k.in_doubt ≡ None) ⊎ (k.in_doubt ≡ b.outcome.in_doubt))) (sym same) keeps.doubt;
-      ran = subst (λ (k : Known). BeginWith (ran_at p) k.ran) (sym same) keeps.ran;
-      right = λ k. subst (λ (k : Known). k.ran ≡ k.acknowledged) (sym same) (keeps.right k);
-    }
-
-stops : (p : Place) (does : Transition.Action) (a : Reply) → Transition.StopsWithin p does a → ReplyKeepsEvents p a
-stops p does a (b, is, lost) = keeps_as p a _ lost (keeps_without_node p b (acts p does b is))
-
--- and so it does where memory is refused within a command
-pub each_left_keeps : (source : Source) (p : Place) (c : Command) (a : Reply) → MayLeave source p c a → ReplyKeepsEvents p a
-each_left_keeps source p c a (inl is) = each_keeps source p c a is
-each_left_keeps source p c a (inr (does, comes, stopped)) = stops p does a stopped
+each_keeps source p c a (does, comes, is) = acts p does a is

@@ -27,18 +27,22 @@ use Rattle.rel_handler.proofs.RepairLemmas.{permanent_versions}
 use Rattle.node_command.specs.declared.error.HandlerError.{HandlerError}
 use Rattle.node_command.specs.declared.error.HandlerError.TheVariants as handler_error
 use Rattle.node_store.specs.Events.{Events, Stored, MayHave, certain, uncertain, uncertain_boot}
-use Rattle.node_store.specs.Image.{Extent, holds_a_store, IsImageOf}
+use Rattle.node_store.specs.Image.{Extent, extent_behind, first_extent, holds_a_store, IsImageOf}
 use Rattle.node_processes.specs.Processes.{Processes}
 use Rattle.node_command.specs.Taking.{commanded}
 use Rattle.session_input.specs.Commands.{Command}
 use Rattle.rel_unpack.specs.Refusal.{Refusal}
 use Rattle.rel_unpack.specs.Unpacking.{Brought}
 use Rattle.rel_unpack.specs.Source.{Source}
-use Rattle.rel_session.specs.Node.{Place, Reply, refused, failed, releases_after, list_or_none}
+use Rattle.rel_session.specs.Node.{Place, Reply, nothing, refused, failed, releases_after, list_or_none}
 use Rattle.rel_session.specs.Node.Place.{raw, closed, running, dead}
 use Rattle.node_answer.specs.Refusals.{refusal_of, refusal_for, refusal_line}
 use Rattle.node_answer.specs.Refusals.NodeRefusal.{device, bad_status, script_refused, must_reboot, dead as no_node}
-use Rattle.session_laws.specs.AnswerLaws.{HasLinePath, IsFromFiles, AreFromFiles, HasVersionsAt, HasModuleVersionsAt}
+use Rattle.rel_handler.specs.declared.error.BootError.TheVariants as boot_error
+use Rattle.rel_session.specs.Booting.{lack_error}
+use Rattle.rel_session.specs.Run.{events_of}
+use Rattle.session_laws.specs.AnswerLaws.{HasLinePath, IsFromFiles, AreFromFiles, HasVersionsAt, HasModuleVersionsAt, have_restart}
+use Rattle.session_laws.proofs.MemoryLines.{report_whole}
 use Rattle.rel_session.specs.Transition
 use Rattle.rel_session.specs.Transition.Action.{answers, makes_node, changes_node, installs, reboots_node, boots_node, reports_start, calls}
 use Rattle.session_laws.proofs.ActionLemmas.{OfEvent, ReportsFilesLine, IsGoodAction, good_action}
@@ -183,9 +187,20 @@ changes events extent ps c list None o plain of reported line all a is =
     commits events extent ps c.event (c.size list) o _ plain (λ next x a taken is. good_as a _ is (done_whole (c.details list) line, list_versions events c.event (of next refl taken) all))
     (λ next taken. of next refl taken) all a is
 
+-- a store with nothing in doubt
+pub certain_versions : (events : Events) (extent : Extent) → OfList events → HasVersionsAt (closed (certain events extent))
+certain_versions events extent all es l (inl same) after = all l (ap list_after (sym same) ∙ after)
+certain_versions events extent all es l (inr same) after = all l (ap list_after (sym same) ∙ after)
+
+-- the list of a node that was made and booted
+made_versions : (p : Bundle) → IsFromFiles p → OfList (made p ∷ booting ∷ [])
+made_versions p of = list_versions (made p ∷ []) booting tt (list_versions [] (made p) of (λ l e. let same : [] ≡ l = cc in subst AreFromFiles same tt))
+
 makes_with : (x : List ℕ) (p : Bundle) (size : ℕ) (why : Option Refusal) → (why ≡ None → IsFromFiles p) → ReportsFilesLine why → (a : Reply) → Transition.MakesWith x p size why a → IsGood a
 makes_with x p size (Some why) of reported a is = good_as a _ is (refusal_whole (refusal_for why) reported, tt)
-makes_with x p size None of reported a (inl (fits, is)) = good_as a _ is (ok_whole p.release.vsn (version_line p.release.vsn (of refl).0.own), list_versions (made p ∷ []) booting tt (list_versions [] (made p) (of refl) (λ l e. let same : [] ≡ l = cc in subst AreFromFiles same tt)))
+makes_with x p size None of reported a (inl (fits, inl is)) = good_as a _ is (ok_whole p.release.vsn (version_line p.release.vsn (of refl).0.own), made_versions p (of refl))
+makes_with x p size None of reported a (inl (fits, inr is)) =
+    good_as a _ is (boot_line_whole boot_error.NoMemory, certain_versions (made p ∷ booting ∷ []) (extent_behind first_extent size) (made_versions p (of refl)))
 makes_with x p size None of reported a (inr (over_it, is)) = good_as a _ is ((λ behind. refl), tt)
 
 makes_on : (x : List ℕ) (b : Brought) (there : Bool) → IsGoodAction (makes_node b) → (a : Reply) → Transition.MakesOn x b there a → IsGood a
@@ -217,15 +232,10 @@ uncertain_boot_versions ran events extent all es l (inr same) after = list_versi
 
 boots_store : (s : Stored) → HasVersionsAt (closed s) → (a : Reply) → Transition.BootsStore s a → IsGood a
 boots_store s all a (inl (events, extent, has, is)) = boots_to events extent (stored_versions s all events extent has) a is
-boots_store s all a (inr (inl is)) = good_as a _ is ((λ behind. refl), all)
-boots_store s all a (inr (inr (events, extent, has, is))) = good_as a _ is ((λ behind. refl), uncertain_boot_versions s.known.ran events extent (stored_versions s all events extent has))
+boots_store s all a (inr (lack, inl is)) = good_as a _ is (boot_line_whole (lack_error lack), all)
+boots_store s all a (inr (lack, inr (events, extent, has, is))) = good_as a _ is (boot_line_whole (lack_error lack), uncertain_boot_versions s.known.ran events extent (stored_versions s all events extent has))
 
--- a store with nothing in doubt
-pub certain_versions : (events : Events) (extent : Extent) → OfList events → HasVersionsAt (closed (certain events extent))
-certain_versions events extent all es l (inl same) after = all l (ap list_after (sym same) ∙ after)
-certain_versions events extent all es l (inr same) after = all l (ap list_after (sym same) ∙ after)
-
-reboots : (events : Events) (extent : Extent) (ps : Processes) (vsn : List ℕ) (list : Releases) (o : Result Releases HandlerError) → IsListAnswer o → OfList events → (a : Reply) → Transition.Reboots Transition.BootsStore events extent ps vsn list o a → IsGood a
+reboots : (events : Events) (extent : Extent) (ps : Processes) (vsn : List ℕ) (list : Releases) (o : Result Releases HandlerError) → IsListAnswer o → OfList events → (a : Reply) → Transition.Reboots events extent ps vsn list o a → IsGood a
 reboots events extent ps vsn list o plain all =
     let e = reboot_old vsn in
     commits events extent ps e _ o _ plain (λ next x a taken (b, boot, is).
@@ -244,7 +254,7 @@ boots (raw x) all a (inl (events, list, extent, after, image, is)) =
     let versions = of_image x list image.image_of in
     boots_to events extent (λ l e. let same : list ≡ l = cc in subst AreFromFiles same versions) a is
 boots (raw x) all a (inr (inl (why, refusal, is))) = good_as a _ is (boot_line_whole why, tt)
-boots (raw x) all a (inr (inr (torn, is))) = good_as a _ is ((λ behind. refl), tt)
+boots (raw x) all a (inr (inr (lack, torn, left, is))) = good_as a _ is (boot_line_whole (lack_error lack), tt)
 boots (closed s) all a is = boots_store s all a is
 boots (running events extent ps) all a is = boots_store (certain events extent) (certain_versions events extent all) a is
 boots (dead s) all a is = boots_store s all a is
@@ -307,7 +317,7 @@ acts (closed s) (changes_node c) good all a is = good_as a _ is ((λ behind. ref
 acts (dead s) (changes_node c) good all a is = good_as a _ is ((λ behind. refl), all)
 acts (running events extent ps) (installs vsn) good all a is =
     let e = installed vsn in
-    each_reply Transition.BootsStore IsGoodInstall events extent ps vsn (releases_after events) (record {
+    each_reply IsGoodInstall events extent ps vsn (releases_after events) (record {
       listed = λ why. (one_line (listed_whole why) refl, all);
       unmatched = (one_line (λ behind. refl) refl, all);
       not_run = λ f. (one_line (refusal_whole (script_refused f) tt) refl, all);
@@ -337,6 +347,18 @@ acts (closed s) (calls c) good all a is = good_as a _ is ((λ behind. refl), all
 acts (dead s) (calls c) good all a is = good_as a _ is ((λ behind. refl), all)
 
 -- Each reply to what a command comes to consists of lines, and has only versions of files after it.
-pub each_good : (source : Source) (p : Place) (c : Command) (does : Transition.Action) → HasLinePath c → HasVersionsAt p → HasModuleVersionsAt p → Transition.ComesTo source p c does → (a : Reply)
+pub each_good : (source : Source) (p : Place) (c : Command) (does : Transition.Action) → HasLinePath c → HasVersionsAt p → HasModuleVersionsAt p → Transition.ComesToOrLacks source p c does → (a : Reply)
     → Transition.Acts p does a → LinesOf does a × HasVersionsAt a.after
-each_good source p c does line all reports comes a is = acts p does (good_action source p c does line reports comes) all a is
+each_good source p c does line all reports (inl comes) a is = acts p does (good_action source p c does line reports comes) all a is
+each_good source p c does line all reports (inr (text, told, answered)) a is = acts p does (subst IsGoodAction (sym answered) (report_whole p c text told)) all a is
+
+-- A reply that does nothing is so for every action, where its answer is whole.
+pub lines_of_idle : (does : Transition.Action) (a : Reply) → IsWhole a.answer → a.outcome ≡ nothing → LinesOf does a
+lines_of_idle (answers text) a whole none = whole
+lines_of_idle (makes_node found) a whole none = whole
+lines_of_idle (changes_node c) a whole none = whole
+lines_of_idle (installs vsn) a whole none = one_line whole (ap (λ o. have_restart (events_of o)) none)
+lines_of_idle (reboots_node vsn) a whole none = whole
+lines_of_idle boots_node a whole none = whole
+lines_of_idle reports_start a whole none = whole
+lines_of_idle (calls c) a whole none = whole

@@ -28,42 +28,72 @@ use Rattle.rel_session.specs.Node.{Place, Reply, releases_after}
 use Rattle.rel_session.specs.Node.Place.{raw, closed, running, dead}
 use Rattle.node_answer.specs.Refusals.{refusal_line}
 use Rattle.rel_session.specs.Booting.{boot_line}
-use Rattle.node_answer.specs.Refusals.NodeRefusal.{device, full}
+use Rattle.node_answer.specs.Refusals.NodeRefusal.{device, full, must_reboot}
+use Rattle.node_upgrade.specs.Failure.{failure}
+use Rattle.node_upgrade.specs.Failure.Why.{fails}
+use Rattle.script_progress.specs.Fault.Cause.{no_memory}
 use Rattle.rel_session.specs.Run.{EndsInFull, Starts, Holds, Executes, Replies, Ending, IsReached, IsTextOf, answers_of, commands_in, events_of, IsRun}
 use Rattle.rel_session.specs.Session.{IsSession}
 use Rattle.session_laws.specs.KeptEvents.{IsKnownAfterAll, MayBegin, RunsWith}
 use Rattle.session_laws.specs.RunLaws.{MayBe, NoneFails}
-use Rattle.rel_session.specs.Transition.{Transition}
+use Rattle.rel_session.specs.Transition.{Transition, memory_line, relup_memory_line}
 
--- None of the replies leaves an event in doubt.
-abbrev pub NoneInDoubt : List Reply → Type 0
-NoneInDoubt [] = Unit {0}
-NoneInDoubt (a ∷ more) = (a.outcome.in_doubt ≡ None) × NoneInDoubt more
+-- the answer of a boot after that of an installation, whose own line stands before it
+abbrev pub ReportsBootBehind : BootError → List ℕ → Type 0
+ReportsBootBehind why answer =
+    (other : List ℕ) × (descr : Value) × (stale : List (List ℕ))
+    × (answer ≡ installed_text other descr stale ++ boot_line why)
 
--- Where the disk's count of failures did not rise, none of the replies is a failure, and nothing is in doubt.
+-- that a boot was refused so, by its line alone or after an installation's
+abbrev pub ReportsBoot : BootError → List ℕ → Type 0
+ReportsBoot why answer = (answer ≡ boot_line why) ⊎ ReportsBootBehind why answer
+
+-- The answer reports that the device failed, in a command or in a boot.
+abbrev pub ReportsFailure : List ℕ → Type 0
+ReportsFailure answer = (answer ≡ refusal_line device) ⊎ ReportsBoot boot_error.Device answer
+
+-- These lines report that memory was refused: to a call of the node, to a relup, to a boot, or to a script after its point of no
+-- return.
+abbrev pub IsMemoryLine : List ℕ → Type 0
+IsMemoryLine line =
+    (line ≡ memory_line)
+    ⊎ ((line ≡ relup_memory_line)
+    ⊎ ((line ≡ boot_line boot_error.NoMemory)
+    ⊎ ((n : ℕ) × (line ≡ refusal_line (must_reboot (failure n (fails no_memory)))))))
+
+-- that memory was refused
+abbrev pub ReportsNoMemory : List ℕ → Type 0
+ReportsNoMemory answer = IsMemoryLine answer ⊎ ReportsBootBehind boot_error.NoMemory answer
+
+-- none of the replies reports that
+abbrev pub NoneLacksMemory : List Reply → Type 0
+NoneLacksMemory [] = Unit {0}
+NoneLacksMemory (a ∷ more) = (ReportsNoMemory a.answer → ⊥) × NoneLacksMemory more
+
+-- a boot is in doubt, which had no memory
+abbrev pub DoubtsBoot : Reply → Type 0
+DoubtsBoot a = (a.outcome.in_doubt ≡ Some booting) × ReportsBoot boot_error.NoMemory a.answer
+
+-- The replies leave nothing in doubt but boots that had no memory.
+abbrev pub DoubtBootsAlone : List Reply → Type 0
+DoubtBootsAlone [] = Unit {0}
+DoubtBootsAlone (a ∷ more) = ((a.outcome.in_doubt ≡ None) ⊎ DoubtsBoot a) × DoubtBootsAlone more
+
+-- Where the disk's count of failures did not rise, none of the replies is a failure, and nothing is in doubt but boots that had no
+-- memory.
 abbrev pub FailsOnlyWithTheDevice : {D : Type 0} → Device D → Source → Type 0
 FailsOnlyWithTheDevice {D} v base =
     (files : Files) (p : Place) (commands : Feed Command) (ending : Ending) (replies : List Reply) (old new : D)
     → Replies base files p commands ending replies → Executes v p replies old new → (HasFailed v old new → ⊥)
-    → NoneFails replies × NoneInDoubt replies
+    → NoneFails replies × DoubtBootsAlone replies
 
--- The answer reports that the device failed in the boot after an installation, whose own line stands before that.
-abbrev pub ReportsBootFailureBehind : List ℕ → Type 0
-ReportsBootFailureBehind answer =
-    (other : List ℕ) × (descr : Value) × (stale : List (List ℕ))
-    × (answer ≡ installed_text other descr stale ++ boot_line boot_error.Device)
-
--- The answer reports that the device failed, in a command or in a boot.
-abbrev pub ReportsFailure : List ℕ → Type 0
-ReportsFailure answer =
-    (answer ≡ refusal_line device) ⊎ ((answer ≡ boot_line boot_error.Device) ⊎ ReportsBootFailureBehind answer)
-
--- The answer of a reply with an event in doubt reports that the device failed.
+-- The answer of a reply with an event in doubt reports that the device failed; or it is a boot, and memory was refused to it.
 abbrev pub ReportsDoubt : Source → Type 0
 ReportsDoubt source =
     (p : Place) (c : Command) (a : Reply) (e : Event)
     → Transition source p c a → a.outcome.in_doubt ≡ Some e
-    → (a.outcome.failed ≡ true) × ReportsFailure a.answer
+    → ((a.outcome.failed ≡ true) × ReportsFailure a.answer)
+    ⊎ ((e ≡ booting) × (a.outcome.failed ≡ false) × ReportsBoot boot_error.NoMemory a.answer)
 
 -- Nothing is in doubt of the store, and its start record was last right after some of its events.
 abbrev pub HasNoDoubt : Stored → Type 0
@@ -108,21 +138,26 @@ AreSame [] [] = Unit {0}
 AreSame (a ∷ first) (b ∷ second) = (a.answer ≡ b.answer) × (a.outcome ≡ b.outcome) × AreSame first second
 AreSame first second = ⊥
 
--- Where neither the device fails nor memory is refused to a compaction, and a read of a file has one answer, all the commands of
--- an input have one answer each, and the session one ending, where it came to its end.
+-- Where neither the device fails nor memory is refused, not to a compaction either, and a read of a file has one answer, all the
+-- commands of an input have one answer each, and the session one ending, where it came to its end.
 abbrev pub HaveOneAnswer : Source → Type 0
 HaveOneAnswer base =
     GivesOne base → (files : Files) (p : Place) (commands : Feed Command) (a b : Ending) (first second : List Reply)
     → IsCertain p → EndsInFull a → EndsInFull b → NoneFails first → NoneFails second
-    → LeaveCompactStores first → LeaveCompactStores second
+    → NoneLacksMemory first → NoneLacksMemory second → LeaveCompactStores first → LeaveCompactStores second
     → Replies base files p commands a first → Replies base files p commands b second → (a ≡ b) × AreSame first second
 
+-- none of the lines that report that memory was refused stands in the text
+abbrev pub HasNoMemoryLine : List ℕ → Type 0
+HasNoMemoryLine text = (front line back : List ℕ) → IsMemoryLine line → text ≢ front ++ (line ++ back)
+
 -- Two sessions over the same commands from one place, in which no disk failed and no compaction was refused memory, have written
--- the same text, on whatever disks.
+-- the same text, on whatever disks, where neither text has such a line.
 abbrev pub HaveOneText : {D : Type 0} → Device D → Source → Type 0
 HaveOneText {D} v base =
     GivesOne base → (files : Files) (p : Place) (commands : Feed Command) (a b : Ending) (old new other later : D) (text written : List ℕ)
     → IsCertain p → EndsInFull a → EndsInFull b → (HasFailed v old new → ⊥) → (HasFailed v other later → ⊥)
+    → HasNoMemoryLine text → HasNoMemoryLine written
     → (run : IsRun v base files p commands a old new text) (again : IsRun v base files p commands b other later written)
     → LeaveCompactStores run.replies → LeaveCompactStores again.replies
     → (a ≡ b) × (text ≡ written)
@@ -156,26 +191,28 @@ abbrev pub NoneIsFull : List Reply → Type 0
 NoneIsFull [] = Unit {0}
 NoneIsFull (a ∷ more) = (a.answer ≢ refusal_line full) × NoneIsFull more
 
--- Where the device does not fail, no record is too large for what is left of a store, and a read of a file has one answer, the
--- list of a disk decides what is answered, with which events, and how the session ends.
+-- Where the device does not fail, no record is too large for what is left of a store, memory is refused to no answer, and a read
+-- of a file has one answer, the list of a disk decides what is answered, with which events, and how the session ends.
 abbrev pub ListDecidesAnswers : Source → Type 0
 ListDecidesAnswers base =
     GivesOne base → (files : Files) (p q : Place) (commands : Feed Command) (a b : Ending) (first second : List Reply)
     → HaveOneList p q → EndsInFull a → EndsInFull b → NoneFails first → NoneFails second → NoneIsFull first → NoneIsFull second
+    → NoneLacksMemory first → NoneLacksMemory second
     → Replies base files p commands a first → Replies base files q commands b second → (a ≡ b) × AreSame first second
 
--- the line that reports that a record does not fit stands nowhere in the text
-abbrev pub HasNoFull : List ℕ → Type 0
-HasNoFull text = (front back : List ℕ) → text ≢ front ++ (refusal_line full ++ back)
+-- None of the lines that report a lack stands in the text: that a record does not fit, or that memory was refused.
+abbrev pub HasNoLackLine : List ℕ → Type 0
+HasNoLackLine text =
+    ((front back : List ℕ) → text ≢ front ++ (refusal_line full ++ back)) × HasNoMemoryLine text
 
 -- Two sessions over the same commands on disks with one list, of whatever kinds, have written the same text, where neither text
--- has that line.
+-- has such a line.
 abbrev pub ListDecidesText : {D E : Type 0} → Device D → Device E → Source → Type 0
 ListDecidesText {D} {E} v w base =
     GivesOne base → (files : Files) (p q : Place) (commands : Feed Command) (a b : Ending) (old new : D) (other later : E)
     (text written : List ℕ)
     → HaveOneList p q → EndsInFull a → EndsInFull b → (HasFailed v old new → ⊥) → (HasFailed w other later → ⊥)
-    → HasNoFull text → HasNoFull written
+    → HasNoLackLine text → HasNoLackLine written
     → IsRun v base files p commands a old new text → IsRun w base files q commands b other later written
     → (a ≡ b) × (text ≡ written)
 

@@ -13,7 +13,8 @@ use Rattle.rel_unpack.specs.Source.{Source}
 use Rattle.rel_session.specs.Files.{Files}
 use Rattle.rel_session.specs.Node.{Place, at_rest, Reply}
 use Rattle.rel_session.specs.Node.Place.{raw, closed, running, dead}
-use Rattle.rel_session.specs.Run.{Starts, Holds, Executes, MayLeave, Replies, Ending, events_of}
+use Rattle.rel_session.specs.Run.{Starts, Holds, Executes, Replies, Ending, events_of}
+use Rattle.rel_session.specs.Transition.{Transition}
 
 -- what is known of the events where the disk stands; of bytes that are no known store there are none
 abbrev pub known_at : Place → Known
@@ -70,9 +71,9 @@ pub record ReplyKeepsEvents (p : Place) (a : Reply) : Type 0 where
   pub ran : BeginWith (ran_at p) (ran_at a.after)
   pub right : IsSettled p ⊎ (a.outcome.acknowledged ≢ []) → ran_at a.after ≡ acknowledged_at a.after
 
--- Each reply keeps the acknowledged events, also one that is stopped within.
+-- Each reply keeps the acknowledged events.
 abbrev pub EachKeeps : Source → Type 0
-EachKeeps source = (p : Place) (c : Command) (a : Reply) → MayLeave source p c a → ReplyKeepsEvents p a
+EachKeeps source = (p : Place) (c : Command) (a : Reply) → Transition source p c a → ReplyKeepsEvents p a
 
 -- where the disk stands after these replies
 abbrev pub place_after : Place → List Reply → Place

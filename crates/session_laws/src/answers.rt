@@ -17,9 +17,9 @@ fn a_disk_stands_for_one_list()
     a_disk_with_a_list_holds_a_store();
 }
 
-/// Where neither the device fails nor memory is refused to a compaction, an input has one answer from each place with nothing in
-/// doubt. No two sessions that come to the end of their input, or of what is taken of it, answer otherwise, where a read of a file
-/// has one answer. And one answer there is, where each read has one.
+/// Where neither the device fails nor memory is refused, not to a compaction either, an input has one answer from each place
+/// with nothing in doubt. No two sessions that come to the end of their input, or of what is taken of it, answer otherwise,
+/// where a read of a file has one answer. And one answer there is, where each read has one.
 pub fn an_input_has_one_answer<D: Disk, F: Files>()
     ensures one { (files : F) → HaveOneAnswer (F.gives files) }
     ensures written { (files : F) → HaveOneText D.Disk (F.gives files) }
@@ -28,10 +28,10 @@ pub fn an_input_has_one_answer<D: Disk, F: Files>()
     a_disk_stands_for_one_list();
 }
 
-/// Where the device does not fail, and no answer is that a record does not fit, the list of a disk decides what a session answers
-/// that comes to the end of its input, or of what is taken of it: whatever the bytes of the disk, the events of its store and how
-/// far it reaches, and whether memory was refused to a compaction. So it is of two disks without a list too, where a boot refuses
-/// both alike. A read of a file has to have one answer.
+/// Where the device does not fail, and no answer is that a record does not fit or that memory was refused, the list of a disk
+/// decides what a session answers that comes to the end of its input, or of what is taken of it: whatever the bytes of the
+/// disk, the events of its store and how far it reaches, and whether memory was refused to a compaction. So it is of two disks
+/// without a list too, where a boot refuses both alike. A read of a file has to have one answer.
 pub fn a_list_decides_what_is_answered<D: Disk, E: Disk, F: Files>()
     ensures answered { (files : F) → ListDecidesAnswers (F.gives files) }
     ensures written { (files : F) → ListDecidesText D.Disk E.Disk (F.gives files) }

@@ -5,7 +5,7 @@ ghost use Rattle.session_laws.specs.RunLaws.{EachKeeps, IsOfAccepted, LosesNothi
 use file_source::Files;
 use rel_disk::Disk;
 
-/// Each reply keeps the acknowledged events, and adds only its own, also where its command is stopped within for want of memory.
+/// Each reply keeps the acknowledged events, and adds only its own.
 ///
 /// At each moment of a session, ended or broken off, a crash leaves the list of events that begin with all those acknowledged before
 /// that moment. After these stand only the one that was in doubt, if there was one, and what later commands add, in order. And it
@@ -32,12 +32,13 @@ pub fn an_empty_disk_begins_with_a_making<D: Disk, F: Files>()
     ensures { (files : F) → BeginsWithAMaking D.Disk (F.gives files) }
 {}
 
-/// Where the device's count of failures does not rise in a session, no command fails by it and no event is in doubt.
+/// Where the device's count of failures does not rise in a session, no command fails by it, and no event is in doubt but those of
+/// boots that had no memory.
 pub fn no_failure_leaves_no_doubt<D: Disk, F: Files>()
     ensures { (files : F) → FailsOnlyWithTheDevice D.Disk (F.gives files) }
 {}
 
-/// An event that is in doubt is reported as a failure of the device, never as done.
+/// An event that is in doubt is reported as a failure of the device, or, if it is a boot, as out of memory; never as done.
 pub fn a_doubt_is_reported_as_a_failure<F: Files>()
     ensures { (files : F) → ReportsDoubt (F.gives files) }
 {}

@@ -9,7 +9,7 @@ use Rattle.rel_session.specs.Transition.Action.{changes_node, reports_start, cal
 use Rattle.rel_session.specs.declared.place.Place.TheVariants as memory
 use Rattle.rel_session.proofs.DeviceLemmas.{IsDevice}
 use Rattle.rel_session.proofs.Replies.{changes_dead, idle_needs}
-use Rattle.rel_session.proofs.ReplyTexts.{answers_command, answers_action, asks_node, reports_node}
+use Rattle.rel_session.proofs.ReplyTexts.{answers_command, answers_action, answers_acts, asks_node, reports_node}
 use Rattle.rel_session.proofs.answer.done_by.Goals as goal
 
 pub returns-then-is_dead-clause-answered : goal.returns-then-is_dead-clause-answered
@@ -31,17 +31,17 @@ returns-in-Check-clause-answered g c =
 pub returns-in-Permanent-clause-answered : goal.returns-in-Permanent-clause-answered
 returns-in-Permanent-clause-answered g c =
     answers_action g.D.Disk (memory.Made c.args.node.now) (memory.Made c.make_permanent.new.node) (g.F.Files.gives c.args.files.now) (command_of c.args.command.now) (permanent c.as_str-in-Permanent.result.now) c.make_permanent.result
-    (ap command_of c.in-Permanent.is ∙ ap (λ s. permanent s) (sym c.as_str-in-Permanent.ensures.value)) (changes_node (permanence c.as_str-in-Permanent.result.now)) (λ p. refl) c.make_permanent.ensures.committed
+    (ap command_of c.in-Permanent.is ∙ ap (λ s. permanent s) (sym c.as_str-in-Permanent.ensures.value)) (changes_node (permanence c.as_str-in-Permanent.result.now)) (λ p. refl) (λ events extent ps. refl) c.make_permanent.ensures.committed
 
 pub returns-in-Remove-clause-answered : goal.returns-in-Remove-clause-answered
 returns-in-Remove-clause-answered g c =
     answers_action g.D.Disk (memory.Made c.args.node.now) (memory.Made c.remove.new.node) (g.F.Files.gives c.args.files.now) (command_of c.args.command.now) (remove c.as_str-in-Remove.result.now) c.remove.result
-    (ap command_of c.in-Remove.is ∙ ap (λ s. remove s) (sym c.as_str-in-Remove.ensures.value)) (changes_node (removal c.as_str-in-Remove.result.now)) (λ p. refl) c.remove.ensures.removed
+    (ap command_of c.in-Remove.is ∙ ap (λ s. remove s) (sym c.as_str-in-Remove.ensures.value)) (changes_node (removal c.as_str-in-Remove.result.now)) (λ p. refl) (λ events extent ps. refl) c.remove.ensures.removed
 
 pub returns-in-Start-clause-answered : goal.returns-in-Start-clause-answered
 returns-in-Start-clause-answered g c =
     answers_action g.D.Disk (memory.Made c.args.node.now) (memory.Made c.start.new.node) (g.F.Files.gives c.args.files.now) (command_of c.args.command.now) start c.start.result
-    (ap command_of c.in-Start.is) (reports_start) (λ p. refl) c.start.ensures.reported
+    (ap command_of c.in-Start.is) reports_start (λ p. refl) (λ events extent ps. refl) c.start.ensures.reported
 
 pub returns-in-Procs-clause-answered : goal.returns-in-Procs-clause-answered
 returns-in-Procs-clause-answered g c =
@@ -64,7 +64,7 @@ pub returns-in-Call-clause-answered : goal.returns-in-Call-clause-answered
 returns-in-Call-clause-answered g c =
     let app = c.as_str-in-Call.result.now in
     let id = c.as_str-in-Call-2.result.now in
-    answers_action g.D.Disk (memory.Made c.args.node.now) (memory.Made c.call.new.node) (g.F.Files.gives c.args.files.now) (command_of c.args.command.now) (call app id c.in-Call.input) c.call.result
+    answers_acts g.D.Disk (memory.Made c.args.node.now) (memory.Made c.call.new.node) (g.F.Files.gives c.args.files.now) (command_of c.args.command.now) (call app id c.in-Call.input) c.call.result
     (ap command_of c.in-Call.is ∙ (λ i. call (sym c.as_str-in-Call.ensures.value i) (sym c.as_str-in-Call-2.ensures.value i) c.in-Call.input)) (calls (once app id c.in-Call.input)) (λ p. refl) c.call.ensures.called
 
 pub returns-in-Flood-clause-answered : goal.returns-in-Flood-clause-answered
@@ -73,5 +73,5 @@ returns-in-Flood-clause-answered g c =
     let id = c.as_str-in-Flood-2.result.now in
     let input = c.in-Flood.input in
     let times = c.in-Flood.times in
-    answers_action g.D.Disk (memory.Made c.args.node.now) (memory.Made c.flood.new.node) (g.F.Files.gives c.args.files.now) (command_of c.args.command.now) (flood app id input times) c.flood.result
+    answers_acts g.D.Disk (memory.Made c.args.node.now) (memory.Made c.flood.new.node) (g.F.Files.gives c.args.files.now) (command_of c.args.command.now) (flood app id input times) c.flood.result
     (ap command_of c.in-Flood.is ∙ (λ i. flood (sym c.as_str-in-Flood.ensures.value i) (sym c.as_str-in-Flood-2.ensures.value i) input times)) (calls (often app id input times)) (λ p. refl) c.flood.ensures.flooded

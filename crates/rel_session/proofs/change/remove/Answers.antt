@@ -1,36 +1,31 @@
-use Rattle.std.proofs.Common.{rules, Ok, refl, sym, subst}
-use Rattle.rel_session.specs.InMemory.{Answers}
-use Rattle.rel_session.specs.Node.{Place, Reply}
-use Rattle.rel_session.specs.Transition.{Acts, removal}
+use Rattle.std.proofs.Common.{inl, inr, rules, Ok, refl, sym, subst}
+use Rattle.rel_session.specs.InMemory.{ActsOrLacks, Answers}
+use Rattle.rel_session.specs.Transition.{removal}
 use Rattle.rel_session.specs.Transition.Action.{changes_node}
 use Rattle.rel_session.specs.declared.place.Place.TheVariants as memory
-use Rattle.node_command.specs.declared.error.HandlerError.TheVariants as handler_error
+use Rattle.rel_session.specs.declared.unanswered.Unanswered.TheVariants as unanswered
 use Rattle.rel_session.proofs.DeviceLemmas.{IsDevice}
 use Rattle.rel_session.proofs.CommitReplies.{changes, changes_none}
 use Rattle.rel_session.proofs.Replies.{reported_so, changes_no_memory}
 use Rattle.rel_session.proofs.change.remove.Goals as goal
 
-pub returns-in_err-remove_release-clause-removed : goal.returns-in_err-remove_release-clause-removed
-returns-in_err-remove_release-clause-removed g c =
+pub returns-in-Err-clause-removed : goal.returns-in-Err-clause-removed
+returns-in-Err-clause-removed g c =
     let laws : IsDevice g.D.Disk = record { reads_an_image = g.met.D.Disk.reads_an_image; counts_now = g.met.D.Disk.counts_now; only_now = g.met.D.Disk.only_now } in
-    let n = c.args.node.now in
-    let new = record c.args.node.now { handler = c.remove_release.new.self } in
-    let e = c.in_err-remove_release.field-0.0 in
-    let Does : Place → Reply → Type 0 = λ p a. Acts p (changes_node (removal c.args.vsn.now)) a in
-    subst (λ r. Answers g.D.Disk Does r (memory.Made n) (memory.Made new)) (sym (reported_so c.from_residual-in_err-remove_release.result e c.from_residual-in_err-remove_release.ensures.1))
-    (changes_none g.D.Disk laws Does n c.requires.works (removal c.args.vsn.now) (λ events extent ps a is. is) refl new refl c.in_err-remove_release.ensures.commits e c.in_err-remove_release.ensures.refused)
+    changes_none g.D.Disk laws (ActsOrLacks (changes_node (removal c.args.vsn.now))) c.args.node.now c.requires.works (removal c.args.vsn.now) (λ events extent ps a is. inl is) refl (record c.args.node.now { handler = c.remove_release.new.self }) refl
+    c.in-Err.ensures.commits (λ events extent ps. inr refl) c.in-Err.why c.in-Err.ensures.refused
 
--- memory was refused for the answer
+-- memory was refused to the answer
 pub returns-in_err-line-clause-removed : goal.returns-in_err-line-clause-removed
 returns-in_err-line-clause-removed g c =
     let laws : IsDevice g.D.Disk = record { reads_an_image = g.met.D.Disk.reads_an_image; counts_now = g.met.D.Disk.counts_now; only_now = g.met.D.Disk.only_now } in
     let n = c.args.node.now in
-    let Does : Place → Reply → Type 0 = λ p a. Acts p (changes_node (removal c.args.vsn.now)) a in
-    subst (λ r. Answers g.D.Disk Does r (memory.Made n) (memory.Made n)) (sym (reported_so c.from_residual.result handler_error.NoMemory c.from_residual.ensures.1))
+    let Does = ActsOrLacks (changes_node (removal c.args.vsn.now)) in
+    subst (λ r. Answers g.D.Disk Does r (memory.Made n) (memory.Made n)) (sym (reported_so c.from_residual.result unanswered.NoMemory c.from_residual.ensures.1))
     (changes_no_memory g.D.Disk laws Does (memory.Made n))
 
-pub returns-clause-removed : goal.returns-clause-removed
-returns-clause-removed g c =
+pub returns-in-Ok-clause-removed : goal.returns-in-Ok-clause-removed
+returns-in-Ok-clause-removed g c =
     let laws : IsDevice g.D.Disk = record { reads_an_image = g.met.D.Disk.reads_an_image; counts_now = g.met.D.Disk.counts_now; only_now = g.met.D.Disk.only_now } in
-    changes g.D.Disk laws _ c.args.node.now c.requires.works (removal c.args.vsn.now) (λ events extent ps a is. is) refl (record c.args.node.now { handler = c.remove_release.new.self }) refl
-    c.in_ok-remove_release.ensures.commits c.in_ok-remove_release.ensures.works c.in_ok-remove_release.ensures.done (Ok c.in_ok-line.line) (Ok c.in_ok-line.line) refl (search rules)
+    changes g.D.Disk laws (ActsOrLacks (changes_node (removal c.args.vsn.now))) c.args.node.now c.requires.works (removal c.args.vsn.now) (λ events extent ps a is. inl is) refl (record c.args.node.now { handler = c.remove_release.new.self }) refl
+    c.in-Ok.ensures.commits c.in-Ok.ensures.dead c.in-Ok.ensures.done (Ok c.in_ok-line.line) (Ok c.in_ok-line.line) refl (search rules)

@@ -1,10 +1,10 @@
 use Rattle.session_laws.proofs.AcknowledgedEvents.{of_accepted, loses_nothing}
 use Rattle.rel_session.proofs.DeviceLemmas.{IsDevice}
-use Rattle.session_laws.proofs.Transitions.{each_left_keeps}
+use Rattle.session_laws.proofs.Transitions.{each_keeps}
 use Rattle.session_laws.proofs.events.a_crash_loses_nothing_acknowledged.Goals as goal
 
 pub returns-clause-replies : goal.returns-clause-replies
-returns-clause-replies g c = λ files. each_left_keeps (g.F.Files.gives files)
+returns-clause-replies g c = λ files. each_keeps (g.F.Files.gives files)
 
 pub returns-clause-accepted : goal.returns-clause-accepted
 returns-clause-accepted g c = of_accepted

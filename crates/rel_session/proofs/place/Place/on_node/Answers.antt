@@ -4,6 +4,7 @@ use Rattle.node_command.specs.declared.error.HandlerError.TheVariants as handler
 use Rattle.rel_session.specs.Node.{Place, Reply}
 use Rattle.rel_session.specs.Transition.{Transition}
 use Rattle.rel_session.specs.declared.place.Place.TheVariants as memory
+use Rattle.rel_session.specs.declared.unanswered.Unanswered.TheVariants as unanswered
 use Rattle.rel_session.proofs.DeviceLemmas.{IsDevice}
 use Rattle.rel_session.proofs.Replies.{from_there, changes_nowhere, idle_needs}
 use Rattle.rel_session.proofs.place.Place.on_node.Goals as goal
@@ -15,7 +16,7 @@ returns-in-Idle-clause-answered g c =
     let command = command_of c.args.command.now in
     let there = memory.Idle c.in-Idle.disk in
     let Does : Place → Reply → Type 0 = λ p a. Transition source p command a in
-    from_there g.D.Disk laws Does (Err handler_error.Dead) c.args.self there there c.in-Idle.is
+    from_there g.D.Disk laws Does (Err (unanswered.Refused handler_error.Dead)) c.args.self there there c.in-Idle.is
     (changes_nowhere g.D.Disk laws Does (idle_needs g.D.Disk laws source command c.requires.asked) c.in-Idle.disk)
 
 pub returns-in-Made-clause-answered : goal.returns-in-Made-clause-answered

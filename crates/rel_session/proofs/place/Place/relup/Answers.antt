@@ -7,4 +7,4 @@ pub returns-clause-made : goal.returns-clause-made
 returns-clause-made g c =
     let laws : IsDevice g.D.Disk = record { reads_an_image = g.met.D.Disk.reads_an_image; counts_now = g.met.D.Disk.counts_now; only_now = g.met.D.Disk.only_now } in
     answers_relup g.D.Disk laws c.args.self (g.F.Files.gives c.args.files.now) c.args.new.now (map string_bytes c.args.ups.now) (map string_bytes c.args.downs.now)
-    c.relup_answer-made.result c.answer_of_files.result c.answer_of_files.ensures.same c.relup_answer-made.ensures.answered
+    c.relup_answer-made.result c.relup_line.result c.relup_line.ensures c.relup_answer-made.ensures.answered
