@@ -237,9 +237,17 @@ fn refuse_often<R: Wait>(
         target: ground.target,
         list: ground.list,
     };
+    refuse_on(rt, alloc, &mut site, work)
+}
+
+fn refuse_on<R: Wait>(rt: &R, alloc: Global, site: &mut Site<'_>, work: &Work<'_>) -> Refusals
+    requires seated { IsSeated site.old }
+    requires nothing { HoldsNothing (view_in site.old) }
+    requires runnable { IsRunnable (script_of work.now.script.now) }
+{
     let mut refusals = Refusals::new(alloc);
     for _ in 0..work.runs {
-        if let Some(refused) = refusal(rt, alloc, &mut site, work.script) {
+        if let Some(refused) = refusal(rt, alloc, site, work.script) {
             refusals.note(alloc, &refused);
         }
     }
@@ -247,12 +255,7 @@ fn refuse_often<R: Wait>(
 }
 
 // What is refused of the script. Where nothing is, it goes back from its point.
-fn refusal<R: Wait>(
-    rt: &R,
-    alloc: Global,
-    site: &mut Site<'_>,
-    script: &[Instr],
-) -> Option<Refused>
+fn refusal<R: Wait>(rt: &R, alloc: Global, site: &mut Site<'_>, script: &[Instr]) -> Option<Refused>
     requires seated { IsSeated site.old }
     requires nothing { HoldsNothing (view_in site.old) }
     requires runnable { IsRunnable (script_of script.now) }

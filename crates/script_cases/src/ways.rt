@@ -208,7 +208,11 @@ fn end<S: Seating>(access: &mut TableAccess<'_, S>, held: HeldProcesses, upgrade
     }
 }
 
-fn resume<S: Seating>(access: &mut TableAccess<'_, S>, mut held: HeldProcesses, upgrade: &Upgrade<'_>)
+fn resume<S: Seating>(
+    access: &mut TableAccess<'_, S>,
+    mut held: HeldProcesses,
+    upgrade: &Upgrade<'_>,
+)
     ghost followed: { Followed }
     requires follow { AllFollow followed.first followed.courses held access.old }
 {

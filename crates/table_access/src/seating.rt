@@ -15,5 +15,6 @@ pub trait Seating {
 
 impl Seating for Brand {
     ghost name = { 0 };
+
     ghost table = { some_table };
 }
