@@ -5,7 +5,7 @@ use Rattle.rel_list.specs.Releases.{Releases}
 use Rattle.rel_list.specs.Event.{recorded}
 use Rattle.rel_store.specs.Contents.{HasOnlyRead}
 use Rattle.rel_store.specs.Layout.{format_of}
-use Rattle.node_store.specs.Image.{IsImageOf, IsImageAt, IsStarted}
+use Rattle.node_store.specs.Image.{IsImageOf, IsImageWithExtent, IsStarted}
 use Rattle.node_store.specs.State.{disk_in, extent_in, format_in, list_in, is_dead, IsSound}
 use Rattle.node_store.specs.declared.node_store.NodeStore.{NodeStore}
 use Rattle.rel_handler.specs.Booting.{IsBootOf, WritesNoStart}
@@ -32,7 +32,8 @@ pub record HasJustStarted {D : Type 0} (node : Node D) : Type 0 where
   pub begun : HaveJustBegun (fresh_beginnings (list_in node.handler)) node.seat.view
 
 -- A handler that was booted from this disk works, and has a list with its start record (`sound`). The disk stands for a list
--- (`image`), which the handler has as a boot makes it (`list`). From now on a crash leaves what stands for that (`acknowledged`).
+-- (`image`), which the handler has as a boot makes it (`list`). From now on a crash leaves what stands for that
+-- (`acknowledged`).
 -- A start record that was right is not written (`right`).
 pub record IsBootedFrom {D : Type 0} (v : Ghosts D) (disk : D) (handler : NodeStore D) : Type 0 where
   pub sound : IsSound v.seen v.may_leave handler
@@ -40,7 +41,7 @@ pub record IsBootedFrom {D : Type 0} (v : Ghosts D) (disk : D) (handler : NodeSt
   pub format : format_in handler ≡ format_of (v.seen disk)
   pub image : (es : Releases) × IsImageOf (v.seen disk) es × (recorded es ≡ es)
   pub list : (es : Releases) → IsImageOf (v.seen disk) es → IsBootOf (v.seen disk) es handler
-  pub acknowledged : (c : List ℕ) → v.may_leave (disk_in handler) c → IsImageAt c (list_in handler) (extent_in handler)
+  pub acknowledged : (c : List ℕ) → v.may_leave (disk_in handler) c → IsImageWithExtent c (list_in handler) (extent_in handler)
   pub right : (es : Releases) → IsImageOf (v.seen disk) es → IsStarted es (v.seen disk) → WritesNoStart v es disk (disk_in handler)
 
 -- the disk after a boot, in its node or beside the refusal

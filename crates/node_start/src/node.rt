@@ -2,7 +2,7 @@
 ghost use Rattle.std.specs.Prelude.{◌≡◌, ◌⊎◌, ℕ, ◌≤◌, List, false, IfOk, IfErr, MatchResult};
 ghost use Rattle.rel_disk.specs.Moments.{LeavesOnly};
 ghost use Rattle.rel_list.specs.Releases.{Releases};
-ghost use Rattle.node_store.specs.Events.{Known, IsOfPrefix, Stored, IsStoredAs};
+ghost use Rattle.node_store.specs.Events.{EventLog, IsOfPrefix, StoreState, IsCrashImageOf};
 ghost use Rattle.node_store.specs.Image.{IsImageOf, IsLeftByBoot};
 ghost use Rattle.node_store.specs.State.{disk_in, list_in, is_dead, IsSound};
 ghost use Rattle.rel_handler.specs.Moments.{BootsTo, IsSynced, KeepsStore};
@@ -60,8 +60,8 @@ impl<D: Disk> Node<D> {
 /// and in a new table: its applications in order, and the modules of all its libraries are loaded.
 ///
 /// Refusals, with the disk handed back: `NotAStore`, `Damaged` with the place of the first damage, `Device`, `NoMemory`, and
-/// `BadRecord` with the number of the first record that the list so far can't take, or of the last one where there is no room to
-/// take a one-shot away.
+/// `BadRecord` with the number of the first record that the list so far can't take, or of the last one where there is no room
+/// to take a one-shot away.
 pub fn boot<D: Disk, R: Wait>(rt: &R, alloc: Global, disk: D) -> Result<Node<D>, (D, BootError)>
     // The list is that of the disk, as a boot makes it, and a crash leaves just that from now on, with its start record.
     ensures booted { IfOk result (λ node. IsBootedFrom D.Disk disk node.handler) }
@@ -78,14 +78,14 @@ pub fn boot<D: Disk, R: Wait>(rt: &R, alloc: Global, disk: D) -> Result<Node<D>,
 
     // Whatever a crash left of a node is booted to the list of a prefix of its accepted events that holds every acknowledged
     // one.
-    ensures recovers { (k : Known) → ((c : List ℕ) → D.may_leave disk c → IsOfPrefix k c)
+    ensures recovers { (k : EventLog) → ((c : List ℕ) → D.may_leave disk c → IsOfPrefix k c)
         → MatchResult result (λ node. BootsTo k (list_in node.handler)) (λ e. IsLack e.1) }
 
     // At each moment, as of the boot of a handler.
     ensures any_moment { LeavesOnly D.moment D.left_since disk (disk_after result)
         (λ c. D.may_leave disk c ⊎ IsLeftByBoot (D.seen disk) c) }
     ensures synced { IsSynced D.Disk disk (handled result) }
-    ensures stored { (s : Stored) → ((c : List ℕ) → D.may_leave disk c → IsStoredAs s c)
+    ensures stored { (s : StoreState) → ((c : List ℕ) → D.may_leave disk c → IsCrashImageOf s c)
         → KeepsStore D.Disk s disk (disk_after result) }
 
     // Where it is refused, and not by the device, nothing was written, or all that a boot writes: memory was refused to the

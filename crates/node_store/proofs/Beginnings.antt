@@ -2,7 +2,7 @@
 use Rattle.std.proofs.Common.{ℕ, List, [], ◌∷◌, ◌++◌, refl, sym, ap, ◌∙◌, append-nil, append_assoc}
 use Rattle.rel_list.specs.Event.{Event}
 use Rattle.rel_list.specs.Event.Event.{boot}
-use Rattle.node_store.specs.Events.{Events, BeginWith, AreBoots, IsOneAndBoots, HasStart}
+use Rattle.node_store.specs.Events.{Events, BeginWith, AreBoots, IsAtMostOneEventAndBoots, HasRecentStart}
 
 pub with_themselves : (events : Events) → BeginWith events events
 with_themselves events = ([], sym (append-nil events))
@@ -20,12 +20,12 @@ boots-push [] are = tt
 boots-push (boot ∷ events) are = boots-push events are
 boots-push (e ∷ events) are = absurd are
 
-pub one_and_boots-push : (events : Events) → IsOneAndBoots events → IsOneAndBoots (events ++ boot ∷ [])
+pub one_and_boots-push : (events : Events) → IsAtMostOneEventAndBoots events → IsAtMostOneEventAndBoots (events ++ boot ∷ [])
 one_and_boots-push [] are = tt
 one_and_boots-push (last ∷ boots) are = boots-push boots are
 
 -- A start record that was right after some events was right after the first of them.
-pub has_start_since : (ran later events : Events) (image : List ℕ) → BeginWith ran later → HasStart later events image → HasStart ran events image
+pub has_start_since : (ran later events : Events) (image : List ℕ) → BeginWith ran later → HasRecentStart later events image → HasRecentStart ran events image
 has_start_since ran later events image begins has = record {
   before = has.before;
   later = has.later;

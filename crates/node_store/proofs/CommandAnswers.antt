@@ -11,7 +11,7 @@ use Rattle.node_command.specs.declared.error.HandlerError.TheVariants.{Dead, Dev
 use Rattle.node_store.specs.Commands.{AppendsEvent, CommitsEvent, asks_for_boot}
 use Rattle.node_command.specs.Taking.{commanded}
 use Rattle.node_store.specs.Commits.{Commits, Compacts, IsCompacted, MakesPermanent}
-use Rattle.node_store.specs.Image.{extent_behind, HasSpace}
+use Rattle.node_store.specs.Image.{extent_after, HasSpace}
 use Rattle.node_store.specs.Refusals.{CommandRefused}
 use Rattle.node_store.specs.State.{disk_in, format_in, list_in, start_in, IsSame, IsSound}
 use Rattle.node_store.specs.declared.node_store.NodeStore.{NodeStore}
@@ -66,7 +66,7 @@ appends_after v e size h mid new same format (Ok x) a =
         accepted = subst (λ l. commanded e l ≡ Ok (list_in new)) same.list a.appended.accepted;
         acknowledged = a.appended.acknowledged;
         fits = subst (λ x. HasSpace x size) same.extent a.appended.fits;
-        reaches = a.appended.reaches ∙ ap (λ x. extent_behind x size) same.extent;
+        reaches = a.appended.reaches ∙ ap (λ x. extent_after x size) same.extent;
       };
       ready = a.ready;
       dead = a.dead;

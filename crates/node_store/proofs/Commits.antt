@@ -31,8 +31,8 @@ use Rattle.rel_store.specs.declared.error.StoreError.{StoreError}
 use Rattle.rel_store.specs.declared.error.StoreError.TheVariants as fault
 use Rattle.rel_store.specs.declared.store.Store.{Store}
 use Rattle.node_store.specs.Commits.{Commits, IsAppended, IsRecordFor, Keeps, HasOldStartOr}
-use Rattle.node_store.specs.Events.{Events, uncertain, IsStoredAs}
-use Rattle.node_store.specs.Image.{AreRecordsOf, extent_behind, HasBootSpace, HasSpace, IsImageAt, IsStarted, start_bytes}
+use Rattle.node_store.specs.Events.{Events, store_with_doubt, IsCrashImageOf}
+use Rattle.node_store.specs.Image.{AreRecordsOf, extent_after, HasBootSpace, HasSpace, IsImageWithExtent, IsStarted, start_bytes}
 use Rattle.node_store.specs.Refusals.{CommandRefused, HasNoRoom, IsAllowed}
 use Rattle.node_store.specs.State.{disk_in, extent_in, list_in, is_dead, start_in, store_extent, HasStarted, IsReady, IsSound, IsSame}
 use Rattle.node_command.specs.Taking.{commanded}
@@ -44,7 +44,7 @@ use Rattle.rel_records.specs.Format.{writes_one_shot}
 use Rattle.rel_records.specs.Writing.{record_of}
 use Rattle.rel_list.specs.Refusal.{IsRefusedWith, brings_release, refusal}
 use Rattle.rel_list.proofs.PermanentLaws.{permanent_stays}
-use Rattle.node_store.specs.Start.{started as start_versions}
+use Rattle.node_store.specs.Start.{start_of_release}
 use Rattle.node_command.specs.declared.error.HandlerError.{HandlerError}
 use Rattle.node_command.specs.declared.error.HandlerError.TheVariants.{Device, Full, NoMemory}
 use Rattle.node_store.specs.declared.node_store.NodeStore.{NodeStore}
@@ -126,8 +126,8 @@ module _ {D : Type 0} (v : Ghosts D) (h mid : NodeStore D) (same : IsSame h mid)
   commits_behind c = record {
     sound = c.sound;
     any_moment = λ living events after.
-        subst (λ d. LeavesOnly v.moment v.left_since d (disk_in new) (IsStoredAs (uncertain events (extent_in h) e size))) same.disk
-        (subst (λ x. LeavesOnly v.moment v.left_since (disk_in mid) (disk_in new) (IsStoredAs (uncertain events x e size))) same.extent
+        subst (λ d. LeavesOnly v.moment v.left_since d (disk_in new) (IsCrashImageOf (store_with_doubt events (extent_in h) e size))) same.disk
+        (subst (λ x. LeavesOnly v.moment v.left_since (disk_in mid) (disk_in new) (IsCrashImageOf (store_with_doubt events x e size))) same.extent
         (c.any_moment (same.dead ∙ living) events (after ∙ ap (λ l. Some l) (sym same.list))));
     counted = subst (λ d. v.failures d ≤ v.failures (disk_in new)) same.disk c.counted;
   }
@@ -168,7 +168,7 @@ revived_is_sound v h ready started free = record { ready = λ alive. record { st
 
 module _ {D : Type 0} (v : Ghosts D) (h : NodeStore D) (ready : IsReady v.seen v.may_leave h) where
   -- each image of its disk stands for its list
-  pub image_now : (c : List ℕ) → v.may_leave (disk_in h) c → IsImageAt c (list_in h) (extent_in h)
+  pub image_now : (c : List ℕ) → v.may_leave (disk_in h) c → IsImageWithExtent c (list_in h) (extent_in h)
   image_now c now = each_image v.seen v.may_leave h.store (list_in h) ready.store ready.list ready.room c now
 
   -- The start record is being written, and the records stay.
@@ -208,17 +208,17 @@ module _ {D : Type 0} (v : Ghosts D) (h : NodeStore D) (ready : IsReady v.seen v
       room = subst (λ x. HasBootSpace x h.list) (sym (same_extent (store_extent new) (extent_in h) base end (ap (λ bodies. length bodies) records))) ready.room;
     }
 
-    pub images_still : (words : List ℕ) → store.text_in v.seen new ≡ slot_with words → (c : List ℕ) → v.may_leave (store.disk_in new) c → IsImageAt c h.list (store_extent new) × (start_bytes c ≡ slot_with words)
+    pub images_still : (words : List ℕ) → store.text_in v.seen new ≡ slot_with words → (c : List ℕ) → v.may_leave (store.disk_in new) c → IsImageWithExtent c h.list (store_extent new) × (start_bytes c ≡ slot_with words)
     images_still words written c now = (each_image v.seen v.may_leave new h.list settled ready_still.list ready_still.room c now, ap (λ l. start_bytes l) (settled.durable c now) ∙ written)
 
 module _ {D : Type 0} (v : Ghosts D) (h : NodeStore D) (s : IsSound v.seen v.may_leave h) where
   module _ (only_now : (c : List ℕ) → v.left_since (disk_in h) (v.moment (disk_in h)) c → v.may_leave (disk_in h) c) (e : Event) (size : ℕ) where
     -- a command that hasn't touched the disk
     resting : (new : D) → new ≡ disk_in h → is_dead h ≡ false → (events : Events) → list_after events ≡ Some (list_in h)
-        → LeavesOnly v.moment v.left_since (disk_in h) new (IsStoredAs (uncertain events (extent_in h) e size))
+        → LeavesOnly v.moment v.left_since (disk_in h) new (IsCrashImageOf (store_with_doubt events (extent_in h) e size))
     resting new same alive events after =
-        subst (λ d. LeavesOnly v.moment v.left_since (disk_in h) d (IsStoredAs (uncertain events (extent_in h) e size))) (sym same)
-        (started v.moment v.left_since (disk_in h) (IsStoredAs (uncertain events (extent_in h) e size))
+        subst (λ d. LeavesOnly v.moment v.left_since (disk_in h) d (IsCrashImageOf (store_with_doubt events (extent_in h) e size))) (sym same)
+        (started v.moment v.left_since (disk_in h) (IsCrashImageOf (store_with_doubt events (extent_in h) e size))
         (λ c left. stored_before events (extent_in h) e size (list_in h) c after (image_now v h (s.ready alive) c (only_now c left)) (s.started alive c (only_now c left))))
 
     -- a command that has changed nothing
@@ -243,16 +243,16 @@ module _ {D : Type 0} (v : Ghosts D) (h : NodeStore D) (s : IsSound v.seen v.may
       }
 
   -- A record is appended after a reservation.
-  module _ (alive : is_dead h ≡ false) (reserved : Store D) (same : store.IsSame h.store reserved) (e : Event) (next : Releases) (body : List ℕ) (reported : IsRecordFor body e (list_in h)) (needs : writes_one_shot (record_of e (list_in h)) ≡ true → store.format_in h.store ≡ 2) (is : step e (list_in h) ≡ Some next) (room_then : HasBootSpace (extent_behind (extent_in h) (length body)) next) where
+  module _ (alive : is_dead h ≡ false) (reserved : Store D) (same : store.IsSame h.store reserved) (e : Event) (next : Releases) (body : List ℕ) (reported : IsRecordFor body e (list_in h)) (needs : writes_one_shot (record_of e (list_in h)) ≡ true → store.format_in h.store ≡ 2) (is : step e (list_in h) ≡ Some next) (room_then : HasBootSpace (extent_after (extent_in h) (length body)) next) where
     pub reserved_works : store.has_failed reserved ≡ false
     reserved_works = same.failed ∙ (s.ready alive).store.works
 
     module _ (reads : (d : D) → v.may_leave d (v.seen d)) (new : Store D) (text : List ℕ) (leaves : LeavesOnly v.moment v.left_since (store.disk_in reserved) (store.disk_in new) (StandsEither (store.records_in reserved) body text))
         (kept : LeavesOnly v.moment v.left_since (store.disk_in reserved) (store.disk_in new) (LeavesOthers (IsInRecord (store.gate_in reserved) (length body)) (v.seen (store.disk_in reserved)))) (slot : text ≡ start_in v.seen h) where
-      committing : (events : Events) → list_after events ≡ Some (list_in h) → LeavesOnly v.moment v.left_since (disk_in h) (store.disk_in new) (IsStoredAs (uncertain events (extent_in h) e (length body)))
+      committing : (events : Events) → list_after events ≡ Some (list_in h) → LeavesOnly v.moment v.left_since (disk_in h) (store.disk_in new) (IsCrashImageOf (store_with_doubt events (extent_in h) e (length body)))
       committing events after =
-          subst (λ d. LeavesOnly v.moment v.left_since d (store.disk_in new) (IsStoredAs (uncertain events (extent_in h) e (length body)))) same.disk
-          (weakened v.moment v.left_since (store.disk_in reserved) (store.disk_in new) _ (IsStoredAs (uncertain events (extent_in h) e (length body)))
+          subst (λ d. LeavesOnly v.moment v.left_since d (store.disk_in new) (IsCrashImageOf (store_with_doubt events (extent_in h) e (length body)))) same.disk
+          (weakened v.moment v.left_since (store.disk_in reserved) (store.disk_in new) _ (IsCrashImageOf (store_with_doubt events (extent_in h) e (length body)))
           (λ c either. while_committing h.store.format e (list_in h) next (store.records_in h.store) body text events (s.ready alive).list reported needs is after (base_of (v.seen (disk_in h))) (extent_in h) (settled_so v.seen v.may_leave h.store (s.ready alive).store) (s.ready alive).room room_then
           (v.seen (disk_in h)) (sym slot) (s.started alive (v.seen (disk_in h)) (reads (disk_in h))) c
           (either_behind v h.store reserved (s.ready alive).store same body text c either.0 either.1))
@@ -268,9 +268,9 @@ module _ {D : Type 0} (v : Ghosts D) (h : NodeStore D) (s : IsSound v.seen v.may
     -- The record was appended.
     module _ (new : Store D) (settled : store.IsSettled v.seen v.may_leave new) (added : store.records_in new ≡ store.records_in reserved ++ body ∷ [])
         (base : store.base_in new ≡ store.base_in reserved) (end : store.end_in new ≡ store.end_in reserved + (5 + length body)) (format : store.format_in new ≡ store.format_in reserved) where
-      reaches_behind : store_extent new ≡ extent_behind (extent_in h) (length body)
+      reaches_behind : store_extent new ≡ extent_after (extent_in h) (length body)
       reaches_behind =
-          same_extent (store_extent new) (extent_behind (extent_in h) (length body)) (base ∙ same.base) (end ∙ ap (λ n. n + (5 + length body)) same.end)
+          same_extent (store_extent new) (extent_after (extent_in h) (length body)) (base ∙ same.base) (end ∙ ap (λ n. n + (5 + length body)) same.end)
           (ap (λ bodies. length bodies) (added ∙ ap (λ bodies. bodies ++ body ∷ []) same.records) ∙ omega (arith, length-append (store.records_in h.store) (body ∷ [])))
 
       pub ready_next : IsReady v.seen v.may_leave (record { store = new; list = next; dead = true })
@@ -305,7 +305,7 @@ module _ {D : Type 0} (v : Ghosts D) (h : NodeStore D) (s : IsSound v.seen v.may
       start_is_right c now = started_by (list_in h) (list_in mid) (v.seen (disk_in h)) c (permanent_stays e (list_in h) (list_in mid) leaves stepped) (ap (λ l. start_bytes l) (ready.store.durable c now) ∙ stays) old_start
 
     -- The start record is written after it.
-    module _ (versions : Versions) (release : Release) (are : AreVersions versions) (of : versions ≡ start_versions release) (listed : permanent (list_in mid) ≡ Some release)
+    module _ (versions : Versions) (release : Release) (are : AreVersions versions) (of : versions ≡ start_of_release release) (listed : permanent (list_in mid) ≡ Some release)
         (new : NodeStore D) (keeps : Keeps v (text_of_start versions) mid new) where
       either_started : (c : List ℕ) → (start_bytes c ≡ start_in v.seen mid) ⊎ (start_bytes c ≡ slot_with (text_of_start versions)) → IsStarted (list_in h) c ⊎ IsStarted (list_in mid) c
       either_started c (inl old) = inl (started_by (list_in h) (list_in h) (v.seen (disk_in h)) c refl (old ∙ stays) old_start)
@@ -315,17 +315,17 @@ module _ {D : Type 0} (v : Ghosts D) (h : NodeStore D) (s : IsSound v.seen v.may
       commits_then = record {
         sound = dead_is_sound v new keeps.dead;
         any_moment = λ living events after.
-            joined v.moment v.left_since (disk_in h) (disk_in mid) (disk_in new) (IsStoredAs (uncertain events (extent_in h) e size)) (commits.any_moment living events after)
-            (weakened v.moment v.left_since (disk_in mid) (disk_in new) _ (IsStoredAs (uncertain events (extent_in h) e size))
+            joined v.moment v.left_since (disk_in h) (disk_in mid) (disk_in new) (IsCrashImageOf (store_with_doubt events (extent_in h) e size)) (commits.any_moment living events after)
+            (weakened v.moment v.left_since (disk_in mid) (disk_in new) _ (IsCrashImageOf (store_with_doubt events (extent_in h) e size))
             (λ c image. stored_after events (extent_in h) e size (list_in h) (list_in mid) c after stepped image.0.image_of (inl (image.0.reaches ∙ appended.reaches)) (either_started c image.1))
             keeps.any_moment);
         counted = omega (arith, commits.counted, keeps.counted);
       }
 
-      pub is_started_then : ((c : List ℕ) → v.may_leave (disk_in new) c → IsImageAt c (list_in new) (extent_in new) × (start_bytes c ≡ slot_with (text_of_start versions))) → HasStarted v.may_leave new
+      pub is_started_then : ((c : List ℕ) → v.may_leave (disk_in new) c → IsImageWithExtent c (list_in new) (extent_in new) × (start_bytes c ≡ slot_with (text_of_start versions))) → HasStarted v.may_leave new
       is_started_then images c now = started_by_text (list_in new) release versions c are of (ap permanent keeps.list ∙ listed) (images c now).1
 
-      pub is_appended_then : ((c : List ℕ) → v.may_leave (disk_in new) c → IsImageAt c (list_in new) (extent_in new) × (start_bytes c ≡ slot_with (text_of_start versions))) → IsAppended v e size h new
+      pub is_appended_then : ((c : List ℕ) → v.may_leave (disk_in new) c → IsImageWithExtent c (list_in new) (extent_in new) × (start_bytes c ≡ slot_with (text_of_start versions))) → IsAppended v e size h new
       is_appended_then images = record {
         worked = alive;
         accepted = appended.accepted ∙ ap (λ l. Ok l) (sym keeps.list);

@@ -26,9 +26,9 @@ use Rattle.node_command.specs.declared.error.HandlerError.{HandlerError}
 use Rattle.node_command.specs.declared.error.HandlerError.TheVariants.{Device}
 use Rattle.node_command.proofs.CommandLemmas.{commanded_step}
 use Rattle.node_store.specs.Commits.{Commits, Compacts, IsAppended, IsCompacted, IsDone, IsOldOrCompacted}
-use Rattle.node_store.specs.Compaction.{compacted, extent_with, fits_image, is_long, may_be_compacted, with_image, MayReach}
-use Rattle.node_store.specs.Events.{Events, uncertain, IsStoredAs}
-use Rattle.node_store.specs.Image.{AreRecordsOf, Extent, extent_behind, extent_of, HasBootSpace, start_bytes}
+use Rattle.node_store.specs.Compaction.{compacted_extent, extent_with, fits_image, is_long, may_be_compacted, with_image, MayReach}
+use Rattle.node_store.specs.Events.{Events, store_with_doubt, IsCrashImageOf}
+use Rattle.node_store.specs.Image.{AreRecordsOf, Extent, extent_after, extent_of, HasBootSpace, start_bytes}
 use Rattle.node_store.specs.Refusals.{CommandRefused, reported_compaction}
 use Rattle.node_store.specs.State.{disk_in, extent_in, list_in, is_dead, start_in, store_extent, HasStarted, IsReady, IsSound}
 use Rattle.node_store.specs.declared.node_store.NodeStore.{NodeStore}
@@ -37,7 +37,7 @@ use Rattle.node_store.proofs.Images.{extent_by_end, extent_with_records, in_same
 use Rattle.rel_store.proofs.Scan.{failed_since}
 
 -- a short store stays as it is, and so does that of a list with a one-shot
-pub short_stays : (x : Extent) (es : Releases) → may_be_compacted x es ≡ false → compacted x es ≡ x
+pub short_stays : (x : Extent) (es : Releases) → may_be_compacted x es ≡ false → compacted_extent x es ≡ x
 short_stays x es short = ap (λ (b : Bool). if b then with_image x (image_of (recorded es)) else x) short
 
 -- one that may be compacted is long, and its list has no one-shot
@@ -50,10 +50,10 @@ free_and_long x es may = go (has_one_shot es) (is_long x) may
     go true long may = absurd cc
 
 -- it reaches as far as with this image, where it has this one or none
-pub long_reaches : (x : Extent) (es : Releases) (image : Option (List ℕ)) → may_be_compacted x es ≡ true → image_of (recorded es) ≡ image → compacted x es ≡ with_image x image
+pub long_reaches : (x : Extent) (es : Releases) (image : Option (List ℕ)) → may_be_compacted x es ≡ true → image_of (recorded es) ≡ image → compacted_extent x es ≡ with_image x image
 long_reaches x es image may is = ap (λ (b : Bool). if b then with_image x (image_of (recorded es)) else x) may ∙ ap (λ o. with_image x o) is
 
-image_reaches : (x : Extent) (es : Releases) (image : List ℕ) → may_be_compacted x es ≡ true → image_of (recorded es) ≡ Some image → fits_image x (length image) ≡ true → compacted x es ≡ extent_with x (length image)
+image_reaches : (x : Extent) (es : Releases) (image : List ℕ) → may_be_compacted x es ≡ true → image_of (recorded es) ≡ Some image → fits_image x (length image) ≡ true → compacted_extent x es ≡ extent_with x (length image)
 image_reaches x es image may is fits = long_reaches x es (Some image) may is ∙ ap (λ (b : Bool). if b then extent_with x (length image) else x) fits
 
 -- an image that doesn't fit by the test doesn't fit
@@ -177,10 +177,10 @@ module _ {D : Type 0} (v : Ghosts D) (h : NodeStore D) (ready : IsReady v.seen v
     -- After a compaction that was done the store has the image as its only record, and reaches as far as a compaction leaves
     -- it.
     reaches_image : AnswersFull (Ok tt) → store.records_in new ≡ image ∷ [] → store.base_in new ≡ image_place (store.base_in h.store) (store.end_in h.store) (length image)
-        → store.end_in new ≡ image_end (store.base_in h.store) (store.end_in h.store) (length image) → store_extent new ≡ compacted (extent_in h) (list_in h)
+        → store.end_in new ≡ image_end (store.base_in h.store) (store.end_in h.store) (length image) → store_extent new ≡ compacted_extent (extent_in h) (list_in h)
     reaches_image full records base end = go (fits_image (extent_in h) (length image)) refl
       where
-        go : (b : Bool) → fits_image (extent_in h) (length image) ≡ b → store_extent new ≡ compacted (extent_in h) (list_in h)
+        go : (b : Bool) → fits_image (extent_in h) (length image) ≡ b → store_extent new ≡ compacted_extent (extent_in h) (list_in h)
         go true fits =
             same_extent (store_extent new) (extent_with (extent_in h) (length image)) base end (ap (λ bodies. length bodies) records)
             ∙ sym (image_reaches (extent_in h) (list_in h) image may is fits)
@@ -233,18 +233,18 @@ committed_change v h s alive e size mid commits appended ready stays reads leave
 
 -- Then it has the store compacted.
 module _ {D : Type 0} (v : Ghosts D) (h : NodeStore D) (e : Event) (size : ℕ) (mid : NodeStore D) (committed : HasCommitted v e size h mid) (reads : (d : D) → v.may_leave d (v.seen d)) (new : NodeStore D) (compacts : Compacts v mid new) where
-  each_stored : (events : Events) → list_after events ≡ Some (list_in h) → (c : List ℕ) → IsOldOrCompacted v.seen mid c → IsStoredAs (uncertain events (extent_in h) e size) c
+  each_stored : (events : Events) → list_after events ≡ Some (list_in h) → (c : List ℕ) → IsOldOrCompacted v.seen mid c → IsCrashImageOf (store_with_doubt events (extent_in h) e size) c
   each_stored events after c (image, reaches, slot) =
       stored_after events (extent_in h) e size (list_in h) (list_in mid) c after (commanded_step e (list_in h) (list_in mid) committed.appended.accepted) image
-      (subst (λ x. (extent_of c ≡ x) ⊎ (extent_of c ≡ compacted x (list_in mid))) committed.appended.reaches reaches)
+      (subst (λ x. (extent_of c ≡ x) ⊎ (extent_of c ≡ compacted_extent x (list_in mid))) committed.appended.reaches reaches)
       (inr (started_by (list_in mid) (list_in mid) (v.seen (disk_in mid)) c refl slot (committed.right (v.seen (disk_in mid)) (reads (disk_in mid)))))
 
   pub commits_compacting : Commits v e size h new
   commits_compacting = record {
     sound = dead_is_sound v new compacts.dead;
     any_moment = λ living events after.
-        joined v.moment v.left_since (disk_in h) (disk_in mid) (disk_in new) (IsStoredAs (uncertain events (extent_in h) e size)) (committed.commits.any_moment living events after)
-        (weakened v.moment v.left_since (disk_in mid) (disk_in new) _ (IsStoredAs (uncertain events (extent_in h) e size)) (each_stored events after) compacts.any_moment);
+        joined v.moment v.left_since (disk_in h) (disk_in mid) (disk_in new) (IsCrashImageOf (store_with_doubt events (extent_in h) e size)) (committed.commits.any_moment living events after)
+        (weakened v.moment v.left_since (disk_in mid) (disk_in new) _ (IsCrashImageOf (store_with_doubt events (extent_in h) e size)) (each_stored events after) compacts.any_moment);
     counted = omega (arith, committed.commits.counted, compacts.counted);
   }
 
@@ -275,7 +275,7 @@ module _ {D : Type 0} (v : Ghosts D) (h : NodeStore D) (e : Event) (size : ℕ) 
       acknowledged = image_now v new done.ready;
       fits = committed.appended.fits;
       reaches =
-          subst (λ l. MayReach (extent_behind (extent_in h) size) l (extent_in new)) (sym compacts.list)
+          subst (λ l. MayReach (extent_after (extent_in h) size) l (extent_in new)) (sym compacts.list)
           (subst (λ x. MayReach x (list_in mid) (extent_in new)) committed.appended.reaches done.reaches);
     }
 

@@ -18,8 +18,8 @@ use Rattle.rel_store.proofs.Moments as stores
 use Rattle.node_command.specs.declared.error.HandlerError.{HandlerError}
 use Rattle.node_command.specs.declared.error.HandlerError.TheVariants.{Device}
 use Rattle.node_store.specs.Commits.{Commits, Reformats}
-use Rattle.node_store.specs.Events.{Events, uncertain, IsStoredAs}
-use Rattle.node_store.specs.Image.{AreRecordsOf, HasBootSpace, IsImageAt, IsStarted, start_bytes}
+use Rattle.node_store.specs.Events.{Events, store_with_doubt, IsCrashImageOf}
+use Rattle.node_store.specs.Image.{AreRecordsOf, HasBootSpace, IsImageWithExtent, IsStarted, start_bytes}
 use Rattle.node_store.specs.Refusals.{CommandRefused}
 use Rattle.node_store.specs.State.{disk_in, extent_in, list_in, is_dead, start_in, store_extent, IsReady, IsSound}
 use Rattle.node_store.specs.declared.node_store.NodeStore.{NodeStore}
@@ -60,7 +60,7 @@ module _ {D : Type 0} (v : Ghosts D) (h : NodeStore D) (ready : IsReady v.seen v
   in_either_format c (inl same) = in_same_format c h.store.format (store.records_in h.store) (list_in h) same ready.list
   in_either_format c (inr two) = in_same_format c 2 (store.records_in h.store) (list_in h) two (in_format_2 h.store.format (store.records_in h.store) (list_in h) ready.list)
 
-  unchanged_image : (c : List ℕ) → Stands (store.records_in h.store) (start_in v.seen h) c × LeavesOthers (IsFormat h.store.format) (v.seen (disk_in h)) c → IsImageAt c (list_in h) (extent_in h) × (start_bytes c ≡ start_in v.seen h)
+  unchanged_image : (c : List ℕ) → Stands (store.records_in h.store) (start_in v.seen h) c × LeavesOthers (IsFormat h.store.format) (v.seen (disk_in h)) c → IsImageWithExtent c (list_in h) (extent_in h) × (start_bytes c ≡ start_in v.seen h)
   unchanged_image c (stands, leaves) = (
     image_at c (store.records_in h.store) (list_in h) (extent_in h) stands.records (in_either_format c (stores.format_kept_or_2 v.moment v.left_since v.seen v.may_leave h.store ready.store c leaves)) ready.room
         (extent_so c (store.records_in h.store) (base_of (v.seen (disk_in h))) stands.records (stores.base_kept_by_format v.moment v.left_since v.seen v.may_leave h.store ready.store c leaves)
@@ -96,9 +96,9 @@ module _ {D : Type 0} (v : Ghosts D) (h mid : NodeStore D) (changed : Reformats 
   old_start = s.started alive (v.seen (disk_in h)) (reads (disk_in h))
 
   -- up to there a crash leaves what was there before the command
-  stored_until : (e : Event) (size : ℕ) (events : Events) → list_after events ≡ Some (list_in h) → LeavesOnly v.moment v.left_since (disk_in h) (disk_in mid) (IsStoredAs (uncertain events (extent_in h) e size))
+  stored_until : (e : Event) (size : ℕ) (events : Events) → list_after events ≡ Some (list_in h) → LeavesOnly v.moment v.left_since (disk_in h) (disk_in mid) (IsCrashImageOf (store_with_doubt events (extent_in h) e size))
   stored_until e size events after =
-      weakened v.moment v.left_since (disk_in h) (disk_in mid) _ (IsStoredAs (uncertain events (extent_in h) e size))
+      weakened v.moment v.left_since (disk_in h) (disk_in mid) _ (IsCrashImageOf (store_with_doubt events (extent_in h) e size))
       (λ c image. stored_before events (extent_in h) e size (list_in h) c after image.0 (started_by (list_in h) (list_in h) (v.seen (disk_in h)) c refl image.1 old_start)) changed.any_moment
 
   -- the device failed in it
@@ -118,8 +118,8 @@ module _ {D : Type 0} (v : Ghosts D) (h mid : NodeStore D) (changed : Reformats 
       commits_in_format_2 c = record {
         sound = c.sound;
         any_moment = λ living events after.
-            joined v.moment v.left_since (disk_in h) (disk_in mid) (disk_in new) (IsStoredAs (uncertain events (extent_in h) e size)) (stored_until e size events after)
-            (subst (λ x. LeavesOnly v.moment v.left_since (disk_in mid) (disk_in new) (IsStoredAs (uncertain events x e size))) changed.extent
+            joined v.moment v.left_since (disk_in h) (disk_in mid) (disk_in new) (IsCrashImageOf (store_with_doubt events (extent_in h) e size)) (stored_until e size events after)
+            (subst (λ x. LeavesOnly v.moment v.left_since (disk_in mid) (disk_in new) (IsCrashImageOf (store_with_doubt events x e size))) changed.extent
             (c.any_moment (works ∙ living) events (after ∙ ap (λ l. Some l) (sym changed.list))));
         counted = omega (arith, changed.counted, c.counted);
       }

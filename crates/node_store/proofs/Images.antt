@@ -22,10 +22,10 @@ use Rattle.rel_store.proofs.Moments.{base_kept, format_kept_by_record}
 use Rattle.rel_store.specs.declared.store.Store.{Store}
 use Rattle.rel_disk.specs.declared.disk.Disk.{Ghosts}
 use Rattle.node_store.specs.Commits.{IsRecordFor}
-use Rattle.node_store.specs.Events.{compacted_or_same, uncertain, IsStoredAs}
-use Rattle.node_store.specs.Start.{started}
-use Rattle.node_store.specs.Compaction.{compacted}
-use Rattle.node_store.specs.Image.{AreRecordsOf, Extent, extent_behind, extent_of, HasBootSpace, LeavesBootSpace, IsImageOf, IsImageAt, IsStarted, start_bytes}
+use Rattle.node_store.specs.Events.{compacted_or_same, store_with_doubt, IsCrashImageOf}
+use Rattle.node_store.specs.Start.{start_of_release}
+use Rattle.node_store.specs.Compaction.{compacted_extent}
+use Rattle.node_store.specs.Image.{AreRecordsOf, Extent, extent_after, extent_of, HasBootSpace, LeavesBootSpace, IsImageOf, IsImageWithExtent, IsStarted, start_bytes}
 use Rattle.node_store.specs.State.{store_extent}
 use Rattle.start_record.specs.Text.{Versions, AreVersions, SpellsStart, start_text as text_of_start}
 use Rattle.start_record.proofs.StartMoments.{reads_back}
@@ -56,9 +56,9 @@ extent_by_end bytes bodies base end read ends is =
     extent_so bytes bodies base read at
 
 -- with one record more it reaches further
-pub extent-push : (base : ℕ) (bodies : List (List ℕ)) (body : List ℕ) → extent_with_records base (bodies ++ body ∷ []) ≡ extent_behind (extent_with_records base bodies) (length body)
+pub extent-push : (base : ℕ) (bodies : List (List ℕ)) (body : List ℕ) → extent_with_records base (bodies ++ body ∷ []) ≡ extent_after (extent_with_records base bodies) (length body)
 extent-push base bodies body =
-    same_extent (extent_with_records base (bodies ++ body ∷ [])) (extent_behind (extent_with_records base bodies) (length body)) refl (omega (arith, space-push bodies body)) (omega (arith, length-append bodies (body ∷ [])))
+    same_extent (extent_with_records base (bodies ++ body ∷ [])) (extent_after (extent_with_records base bodies) (length body)) refl (omega (arith, space-push bodies body)) (omega (arith, length-append bodies (body ∷ [])))
 
 -- how far a settled store reaches
 pub settled_so : {D : Type 0} (seen : D → List ℕ) (may_leave : D → List ℕ → Type 0) (store : Store D) → IsSettled seen may_leave store → extent_with_records (base_of (seen store.disk)) (records_in store) ≡ store_extent store
@@ -102,18 +102,18 @@ pub same_records : (old new : ℕ) (bodies records : List (List ℕ)) (es : Rele
 same_records old new bodies records es same is are = subst (λ f. AreRecordsOf f records es) (sym same) (subst (λ bs. AreRecordsOf old bs es) (sym is) are)
 
 -- bytes with the records of a list, in a store that reaches so far
-pub image_at : (c : List ℕ) (bodies : List (List ℕ)) (es : Releases) (x : Extent) → records_of c ≡ Ok bodies → AreRecordsOf (format_of c) bodies es → HasBootSpace x es → extent_of c ≡ x → IsImageAt c es x
+pub image_at : (c : List ℕ) (bodies : List (List ℕ)) (es : Releases) (x : Extent) → records_of c ≡ Ok bodies → AreRecordsOf (format_of c) bodies es → HasBootSpace x es → extent_of c ≡ x → IsImageWithExtent c es x
 image_at c bodies es x read are room reaches =
     record { image_of = record { bodies = bodies; store = read; list = are; room = subst (λ y. HasBootSpace y es) (sym reaches) room }; reaches = reaches }
 
 -- each image of a settled store's disk stands for the list that its records make
 pub each_image : {D : Type 0} (seen : D → List ℕ) (may_leave : D → List ℕ → Type 0) (store : Store D) (es : Releases) → IsSettled seen may_leave store → AreRecordsOf store.format (records_in store) es → HasBootSpace (store_extent store) es
-    → (c : List ℕ) → may_leave store.disk c → IsImageAt c es (store_extent store)
+    → (c : List ℕ) → may_leave store.disk c → IsImageWithExtent c es (store_extent store)
 each_image seen may_leave store es s makes_it room c now =
     image_at c (records_in store) es (store_extent store) (ap records_of (s.durable c now) ∙ s.records) (in_same_format c store.format (records_in store) es (ap (λ d. format_of d) (s.durable c now) ∙ sym s.format) makes_it) room (ap (λ d. extent_of d) (s.durable c now) ∙ settled_extent seen may_leave store s)
 
 -- A store of the list before a command is one that has the events without the one in doubt.
-pub stored_before : (events : List Event) (x : Extent) (e : Event) (size : ℕ) (es : Releases) (c : List ℕ) → list_after events ≡ Some es → IsImageAt c es x → IsStarted es c → IsStoredAs (uncertain events x e size) c
+pub stored_before : (events : List Event) (x : Extent) (e : Event) (size : ℕ) (es : Releases) (c : List ℕ) → list_after events ≡ Some es → IsImageWithExtent c es x → IsStarted es c → IsCrashImageOf (store_with_doubt events x e size) c
 stored_before events x e size es c after image started =
     record {
       events = events;
@@ -126,10 +126,10 @@ stored_before events x e size es c after image started =
 
 -- And one of the list after it has them all, compacted or not, with the start record from before it or that from after it.
 pub stored_after : (events : List Event) (x : Extent) (e : Event) (size : ℕ) (es next : Releases) (c : List ℕ) → list_after events ≡ Some es → step e es ≡ Some next
-    → IsImageOf c next → (extent_of c ≡ extent_behind x size) ⊎ (extent_of c ≡ compacted (extent_behind x size) next) → IsStarted es c ⊎ IsStarted next c → IsStoredAs (uncertain events x e size) c
+    → IsImageOf c next → (extent_of c ≡ extent_after x size) ⊎ (extent_of c ≡ compacted_extent (extent_after x size) next) → IsStarted es c ⊎ IsStarted next c → IsCrashImageOf (store_with_doubt events x e size) c
 stored_after events x e size es next c after is image reaches started = record {
   events = events ++ e ∷ [];
-  has = ((e ∷ [], refl), inr (refl, ⊎_elim (λ appended. inl appended) (λ far. inr (far ∙ ap (compacted_or_same (extent_behind x size)) (sym all))) reaches));
+  has = ((e ∷ [], refl), inr (refl, ⊎_elim (λ appended. inl appended) (λ far. inr (far ∙ ap (compacted_or_same (extent_after x size)) (sym all))) reaches));
   list = next;
   after = all;
   image_of = image;
@@ -144,7 +144,7 @@ stored_after events x e size es next c after is image reaches started = record {
 
 -- a start record is reported by the start slot and the permanent release
 pub started_by : (es fs : Releases) (c d : List ℕ) → permanent fs ≡ permanent es → start_bytes d ≡ start_bytes c → IsStarted es c → IsStarted fs d
-started_by es fs c d same slot s = record { release = s.release; listed = same ∙ s.listed; spells = subst (λ l. SpellsStart l (started s.release)) (sym slot) s.spells }
+started_by es fs c d same slot s = record { release = s.release; listed = same ∙ s.listed; spells = subst (λ l. SpellsStart l (start_of_release s.release)) (sym slot) s.spells }
 
 -- Beside a one-shot that an event made no release is current.
 pub alone_behind : (e : Event) (es next : Releases) → step e es ≡ Some next → has_one_shot next ≡ true → recorded next ≡ next
@@ -171,38 +171,38 @@ with_record format e es next bodies body are reported needs is =
 
 -- A record is being appended: the store has the records of the list from before it, or those of the one after it.
 pub either_image : (format : ℕ) (es next : Releases) (bodies : List (List ℕ)) (body text : List ℕ) → AreRecordsOf format bodies es → AreRecordsOf format (bodies ++ body ∷ []) next
-    → (base : ℕ) (x : Extent) → extent_with_records base bodies ≡ x → HasBootSpace x es → HasBootSpace (extent_behind x (length body)) next
-    → (c : List ℕ) → StandsEither bodies body text c × (base_of c ≡ base) × (format_of c ≡ format) → (IsImageAt c es x ⊎ IsImageAt c next (extent_behind x (length body))) × (start_bytes c ≡ text)
+    → (base : ℕ) (x : Extent) → extent_with_records base bodies ≡ x → HasBootSpace x es → HasBootSpace (extent_after x (length body)) next
+    → (c : List ℕ) → StandsEither bodies body text c × (base_of c ≡ base) × (format_of c ≡ format) → (IsImageWithExtent c es x ⊎ IsImageWithExtent c next (extent_after x (length body))) × (start_bytes c ≡ text)
 either_image format es next bodies body text are behind base x at room room_then c (inl stands, kept, same) =
     (inl (image_at c bodies es x stands.records (in_same_format c format bodies es same are) room (extent_so c bodies base stands.records kept ∙ at)), stands.start)
 either_image format es next bodies body text are behind base x at room room_then c (inr stands, kept, same) = (
   inr (
-      image_at c (bodies ++ body ∷ []) next (extent_behind x (length body)) stands.records (in_same_format c format (bodies ++ body ∷ []) next same behind) room_then
-      (extent_so c (bodies ++ body ∷ []) base stands.records kept ∙ extent-push base bodies body ∙ ap (λ y. extent_behind y (length body)) at)
+      image_at c (bodies ++ body ∷ []) next (extent_after x (length body)) stands.records (in_same_format c format (bodies ++ body ∷ []) next same behind) room_then
+      (extent_so c (bodies ++ body ∷ []) base stands.records kept ∙ extent-push base bodies body ∙ ap (λ y. extent_after y (length body)) at)
       ),
   stands.start,
 )
 
 -- An event that makes no release a one-shot leaves room for the next boot, which writes no record.
 pub leaves_boot_space : (e : Event) → makes_one_shot e ≡ false → (size : ℕ) (x : Extent) (es : Releases) → LeavesBootSpace e size x es
-leaves_boot_space e other size x es next is = no_boot_space (extent_behind x size) next (one_shots_come_from_restarts e es next other is)
+leaves_boot_space e other size x es next is = no_boot_space (extent_after x size) next (one_shots_come_from_restarts e es next other is)
 
 -- While a command appends the record of its event, a crash leaves a store with the list from before the event or after it.
 pub while_committing : (format : ℕ) (e : Event) (es next : Releases) (bodies : List (List ℕ)) (body text : List ℕ) (events : List Event)
     → AreRecordsOf format bodies es → IsRecordFor body e es → (writes_one_shot (record_of e es) ≡ true → format ≡ 2) → step e es ≡ Some next → list_after events ≡ Some es
-    → (base : ℕ) (x : Extent) → extent_with_records base bodies ≡ x → HasBootSpace x es → HasBootSpace (extent_behind x (length body)) next → (old : List ℕ) → start_bytes old ≡ text → IsStarted es old
-    → (c : List ℕ) → StandsEither bodies body text c × (base_of c ≡ base) × (format_of c ≡ format) → IsStoredAs (uncertain events x e (length body)) c
+    → (base : ℕ) (x : Extent) → extent_with_records base bodies ≡ x → HasBootSpace x es → HasBootSpace (extent_after x (length body)) next → (old : List ℕ) → start_bytes old ≡ text → IsStarted es old
+    → (c : List ℕ) → StandsEither bodies body text c × (base_of c ≡ base) × (format_of c ≡ format) → IsCrashImageOf (store_with_doubt events x e (length body)) c
 while_committing format e es next bodies body text events makes_it reported needs is after base x at room room_then old slot started c either = go (either_image format es next bodies body text makes_it behind base x at room room_then c either)
   where
     behind : AreRecordsOf format (bodies ++ body ∷ []) next
     behind = with_record format e es next bodies body makes_it reported needs is
 
-    go : (IsImageAt c es x ⊎ IsImageAt c next (extent_behind x (length body))) × (start_bytes c ≡ text) → IsStoredAs (uncertain events x e (length body)) c
+    go : (IsImageWithExtent c es x ⊎ IsImageWithExtent c next (extent_after x (length body))) × (start_bytes c ≡ text) → IsCrashImageOf (store_with_doubt events x e (length body)) c
     go (inl image, same) = stored_before events x e (length body) es c after image (started_by es es old c refl (same ∙ sym slot) started)
     go (inr image, same) = stored_after events x e (length body) es next c after is image.image_of (inl image.reaches) (inl (started_by es es old c refl (same ∙ sym slot) started))
 
 -- A start slot with the text of a release's start is that release's start record.
-pub started_by_text : (es : Releases) (r : Release) (versions : Versions) (c : List ℕ) → AreVersions versions → versions ≡ started r → permanent es ≡ Some r → start_bytes c ≡ slot_with (text_of_start versions) → IsStarted es c
+pub started_by_text : (es : Releases) (r : Release) (versions : Versions) (c : List ℕ) → AreVersions versions → versions ≡ start_of_release r → permanent es ≡ Some r → start_bytes c ≡ slot_with (text_of_start versions) → IsStarted es c
 started_by_text es r versions c are of listed slot =
     record { release = r; listed = listed; spells = subst (λ w. SpellsStart (start_bytes c) w) of (subst (λ l. SpellsStart l versions) (sym slot) (reads_back versions are)) }
 

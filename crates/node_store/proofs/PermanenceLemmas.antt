@@ -11,8 +11,8 @@ use Rattle.rel_store.specs.Layout.{slot_with}
 use Rattle.rel_store.specs.State.{records_in}
 use Rattle.start_record.specs.Text.{Versions, AreVersions, start_text}
 use Rattle.node_store.specs.Commits.{Commits, IsAppended, Keeps, MakesPermanent}
-use Rattle.node_store.specs.Start.{started}
-use Rattle.node_store.specs.Image.{IsImageAt, start_bytes}
+use Rattle.node_store.specs.Start.{start_of_release}
+use Rattle.node_store.specs.Image.{IsImageWithExtent, start_bytes}
 use Rattle.node_store.specs.Refusals.{CommandRefused, IsStartRefusal}
 use Rattle.node_store.specs.State.{disk_in, extent_in, list_in, is_dead, start_in, HasStarted, IsReady, IsSound}
 use Rattle.node_command.specs.Taking.{change_size}
@@ -40,7 +40,7 @@ no_start failures h alive free vsn e moves size why (none, is) = subst (CommandR
 
 -- the versions of the release that a list has at this version
 abbrev pub AreOf : {D : Type 0} → NodeStore D → List ℕ → Versions → Type 0
-AreOf h vsn versions = (r : Release) × (release_at vsn (list_in h) ≡ Some r) × (versions ≡ started r)
+AreOf h vsn versions = (r : Release) × (release_at vsn (list_in h) ≡ Some r) × (versions ≡ start_of_release r)
 
 module _ {D : Type 0} (v : Ghosts D) (h : NodeStore D) (s : IsSound v.seen v.may_leave h) (alive : is_dead h ≡ false) (vsn : List ℕ) (versions : Versions) (found : AreOf h vsn versions) where
   -- they are texts of versions
@@ -63,7 +63,7 @@ module _ {D : Type 0} (v : Ghosts D) (h : NodeStore D) (s : IsSound v.seen v.may
     not_moved = fails_then v h s alive e _ mid commits appended ready stays reads versions found.0 are_versions found.2 listed new keeps
 
     -- each crash leaves the new start record
-    module _ (images : (c : List ℕ) → v.may_leave (disk_in new) c → IsImageAt c (list_in new) (extent_in new) × (start_bytes c ≡ slot_with (start_text versions))) where
+    module _ (images : (c : List ℕ) → v.may_leave (disk_in new) c → IsImageWithExtent c (list_in new) (extent_in new) × (start_bytes c ≡ slot_with (start_text versions))) where
       pub moved_start : HasStarted v.may_leave new
       moved_start = is_started_then v h s alive e _ mid commits appended ready stays reads versions found.0 are_versions found.2 listed new keeps images
 

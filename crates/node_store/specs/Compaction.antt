@@ -29,10 +29,10 @@ abbrev pub may_be_compacted : Extent → Releases → Bool
 may_be_compacted x es = not (has_one_shot es) && is_long x
 
 -- how far a store reaches after a commit: it reached so far with the commit's record, and its records make this list
-abbrev pub compacted : Extent → Releases → Extent
-compacted x es = if may_be_compacted x es then with_image x (image_of (recorded es)) else x
+abbrev pub compacted_extent : Extent → Releases → Extent
+compacted_extent x es = if may_be_compacted x es then with_image x (image_of (recorded es)) else x
 
 -- How far a store may reach after a command: as far as a compaction leaves it, or, where memory was refused to the compaction
 -- of a long store, as far as before.
 abbrev pub MayReach : Extent → Releases → Extent → Type 0
-MayReach x es y = (y ≡ compacted x es) ⊎ ((is_long x ≡ true) × (y ≡ x))
+MayReach x es y = (y ≡ compacted_extent x es) ⊎ ((is_long x ≡ true) × (y ≡ x))

@@ -8,7 +8,7 @@ use Rattle.rel_list.specs.Event.Event.{boot}
 use Rattle.rel_store.specs.Layout.{base_of, format_of, has_magic, text_of}
 use Rattle.rel_store.specs.Records.{end_of, records_of, records_or_none}
 use Rattle.rel_records.specs.Lists.{Makes}
-use Rattle.node_store.specs.Start.{started}
+use Rattle.node_store.specs.Start.{start_of_release}
 use Rattle.start_record.specs.Text.{SpellsStart}
 
 -- How far a store reaches: where its first record stands, where it ends, one past its closed gate, and how many records it has.
@@ -23,8 +23,8 @@ extent_of image =
     record { base = base_of image; end = end_of image; count = length (records_or_none (records_of image)) }
 
 -- how far a store reaches after one record more, whose body has so many bytes
-abbrev pub extent_behind : Extent → ℕ → Extent
-extent_behind x size = record { base = x.base; end = x.end + (5 + size); count = x.count + 1 }
+abbrev pub extent_after : Extent → ℕ → Extent
+extent_after x size = record { base = x.base; end = x.end + (5 + size); count = x.count + 1 }
 
 -- how far a store without records reaches
 abbrev pub first_extent : Extent
@@ -32,7 +32,7 @@ first_extent = record { base = 288; end = 289; count = 0 }
 
 -- a record with a body of so many bytes fits into a store that reaches so far
 abbrev pub HasSpace : Extent → ℕ → Type 0
-HasSpace x size = (size ≤ 16777216) × ((extent_behind x size).end ≤ 67108864)
+HasSpace x size = (size ≤ 16777216) × ((extent_after x size).end ≤ 67108864)
 
 -- how many bytes the body of the record has by which a boot takes the one-shot of this list away
 abbrev pub boot_size : Releases → ℕ
@@ -40,7 +40,7 @@ boot_size es = change_size boot es
 
 -- how far a store that has the records of this list reaches after a boot
 abbrev pub booted_extent : Extent → Releases → Extent
-booted_extent x es = if has_one_shot es then extent_behind x (boot_size es) else x
+booted_extent x es = if has_one_shot es then extent_after x (boot_size es) else x
 
 -- Where the list has a one-shot, there is room for the record of the boot that takes it away.
 abbrev pub HasBootSpace : Extent → Releases → Type 0
@@ -49,7 +49,7 @@ HasBootSpace x es = has_one_shot es ≡ true → HasSpace x (boot_size es)
 -- After the event's record, whose body has so many bytes, there is room for the next boot.
 abbrev pub LeavesBootSpace : Event → ℕ → Extent → Releases → Type 0
 LeavesBootSpace e size x es =
-    (next : Releases) → step e es ≡ Some next → HasBootSpace (extent_behind x size) next
+    (next : Releases) → step e es ≡ Some next → HasBootSpace (extent_after x size) next
 
 -- The bodies are the records of a list in a store of this format: they make the list as records report it. Where a release is a
 -- one-shot, none is current.
@@ -66,7 +66,7 @@ pub record IsImageOf (image : List ℕ) (es : Releases) : Type 0 where
   pub room : HasBootSpace (extent_of image) es
 
 -- The bytes stand for the list, in a store that reaches as far as `extent` says.
-pub record IsImageAt (image : List ℕ) (es : Releases) (extent : Extent) : Type 0 where
+pub record IsImageWithExtent (image : List ℕ) (es : Releases) (extent : Extent) : Type 0 where
   pub image_of : IsImageOf image es
   pub reaches : extent_of image ≡ extent
 
@@ -78,15 +78,15 @@ start_bytes image = text_of image
 pub record IsStarted (es : Releases) (image : List ℕ) : Type 0 where
   pub release : Release
   pub listed : permanent es ≡ Some release
-  pub spells : SpellsStart (start_bytes image) (started release)
+  pub spells : SpellsStart (start_bytes image) (start_of_release release)
 
 -- A boot of these bytes has written so much: nothing; or the record that takes a one-shot away, if there was one, and the start
 -- record or not.
 pub record IsLeftByBoot (bytes image : List ℕ) : Type 0 where
   pub list : Releases
   pub was : IsImageOf bytes list
-  pub left : (IsImageAt image list (extent_of bytes) × (start_bytes image ≡ start_bytes bytes))
-      ⊎ (IsImageAt image (booted list) (booted_extent (extent_of bytes) list)
+  pub left : (IsImageWithExtent image list (extent_of bytes) × (start_bytes image ≡ start_bytes bytes))
+      ⊎ (IsImageWithExtent image (booted list) (booted_extent (extent_of bytes) list)
       × ((start_bytes image ≡ start_bytes bytes) ⊎ IsStarted list image))
 
 -- The bytes begin as those of a store do, whole or damaged. No node is made on such a disk.

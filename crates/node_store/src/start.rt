@@ -6,8 +6,8 @@ ghost use Rattle.rel_list.specs.Event.{event_of};
 ghost use Rattle.rel_list.specs.Releases.{release_at};
 ghost use Rattle.node_store.specs.Commands.{AppendsEvent, CommitsChange, asks_for_boot};
 ghost use Rattle.node_store.specs.Commits.{Keeps, MakesPermanent};
-ghost use Rattle.node_store.specs.Start.{started};
-ghost use Rattle.node_store.specs.Image.{IsImageAt, start_bytes};
+ghost use Rattle.node_store.specs.Start.{start_of_release};
+ghost use Rattle.node_store.specs.Image.{IsImageWithExtent, start_bytes};
 ghost use Rattle.node_store.specs.Refusals.{IsStartRefusal};
 ghost use Rattle.node_store.specs.State.{disk_in, extent_in, format_in, list_in, is_dead, HasStarted, IsReady, IsSound};
 ghost use Rattle.node_command.specs.Taking.{change_size};
@@ -65,7 +65,7 @@ impl<D: Disk> NodeStore<D> {
         ensures keeps { Keeps D.Disk (start_text (versions_of start.now)) self.old self.new }
         ensures ready { OnOk result (IsReady D.seen D.may_leave self.new) }
         ensures acknowledged { OnOk result ((c : List ℕ) → D.may_leave (disk_in self.new) c
-            → IsImageAt c (list_in self.new) (extent_in self.new)
+            → IsImageWithExtent c (list_in self.new) (extent_in self.new)
             × (start_bytes c ≡ slot_with (start_text (versions_of start.now)))) }
         ensures format { format_in self.new ≡ format_in self.old }
         ensures failed { IfErr result (λ _.
@@ -89,7 +89,7 @@ fn asks_for_boot(event: &Event) -> bool
 // What a node starts once the release of this version is its permanent one.
 fn start_at(alloc: Global, list: &ReleaseList, vsn: &str) -> Result<Start, HandlerError>
     ensures found { IfOk result (λ start. (r : Release)
-        × (release_at vsn.now list.now ≡ Some r) × (versions_of start ≡ started r)) }
+        × (release_at vsn.now list.now ≡ Some r) × (versions_of start ≡ start_of_release r)) }
     ensures refused { IfErr result (IsStartRefusal vsn.now list.now) }
 {
     let Some(release) = list.release(vsn) else {
@@ -100,7 +100,7 @@ fn start_at(alloc: Global, list: &ReleaseList, vsn: &str) -> Result<Start, Handl
 
 /// What a node with this release as the permanent one starts.
 pub fn start_of(alloc: Global, release: &Rel) -> Result<Start, AllocError>
-    ensures { IfOk result (λ start. versions_of start ≡ started (release_of release.now)) }
+    ensures { IfOk result (λ start. versions_of start ≡ start_of_release (release_of release.now)) }
 {
     Ok(Start {
         erts: String::from_str(alloc, release.erts.as_str())?,

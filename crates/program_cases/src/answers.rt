@@ -8,8 +8,8 @@ use std::sync::Wait;
 use std::thread::Threads;
 use text_cases::Answer;
 
-/// The answer in one of the modes of [`push_of_text`], or in one of two whose texts are bytes. `raw`: the text is one input, as in
-/// [`push_input`]. `list`: it is listed, as in [`push_listed`].
+/// The answer in one of the modes of [`push_of_text`], or in one of two whose texts are bytes. `unknown_bytes`: the text is one
+/// input, as in [`push_input`]. `list`: it is listed, as in [`push_listed`].
 pub(crate) fn answer<H: Threads + Wait + Sync>(
     rt: &H,
     host: &HostRuntime,

@@ -6,7 +6,7 @@ use Rattle.rel_list.specs.Releases.{Releases, has_one_shot}
 use Rattle.rel_list.specs.Event.{booted, recorded}
 use Rattle.rel_list.proofs.OneShotLaws.{boots_as_recorded, none_recorded}
 use Rattle.rel_records.proofs.EventRecords.{recorded-twice}
-use Rattle.node_store.specs.Image.{Extent, boot_size, booted_extent, extent_behind, HasBootSpace, HasSpace}
+use Rattle.node_store.specs.Image.{Extent, boot_size, booted_extent, extent_after, HasBootSpace, HasSpace}
 use Rattle.rel_handler.specs.Laws.{BootAlike}
 
 -- A record fits or it does not.
@@ -30,11 +30,11 @@ boots_or_not x es = elim (cases_Bool (has_one_shot es)) [
 
 -- where there is no one-shot, a boot writes nothing
 pub extent_of_none : (x : Extent) (es : Releases) → has_one_shot es ≡ false → booted_extent x es ≡ x
-extent_of_none x es none = ap (λ (b : Bool). if b then extent_behind x (boot_size es) else x) none
+extent_of_none x es none = ap (λ (b : Bool). if b then extent_after x (boot_size es) else x) none
 
 -- and else a record
-pub extent_of_one : (x : Extent) (es : Releases) → has_one_shot es ≡ true → booted_extent x es ≡ extent_behind x (boot_size es)
-extent_of_one x es one = ap (λ (b : Bool). if b then extent_behind x (boot_size es) else x) one
+pub extent_of_one : (x : Extent) (es : Releases) → has_one_shot es ≡ true → booted_extent x es ≡ extent_after x (boot_size es)
+extent_of_one x es one = ap (λ (b : Bool). if b then extent_after x (boot_size es) else x) one
 
 -- Where no release is current beside a one-shot, a boot makes of a list what it makes of it as records report it.
 module _ (es : Releases) (alone : has_one_shot es ≡ true → recorded es ≡ es) where

@@ -16,8 +16,8 @@ use Rattle.rel_store.specs.State as store
 use Rattle.rel_store.specs.Records.{records_of}
 use Rattle.rel_store.proofs.OnlyReads.{read_on}
 use Rattle.rel_handler.specs.Booting.{IsOpened, IsBootOf, IsBooted, IsInBootRecord, IsOldOrBooted, Leaves, WritesNoStart, BootRecordRefused}
-use Rattle.node_store.specs.Events.{Events, StartsBehind, BeginWith, HasStart, Stored, booted_or_same, uncertain_boot, IsStoredAs}
-use Rattle.node_store.specs.Image.{AreRecordsOf, Extent, booted_extent, extent_of, HasBootSpace, IsImageAt, IsImageOf, IsLeftByBoot, IsStarted, start_bytes}
+use Rattle.node_store.specs.Events.{Events, StartsAfter, BeginWith, HasRecentStart, StoreState, booted_or_same, store_with_boot_in_doubt, IsCrashImageOf}
+use Rattle.node_store.specs.Image.{AreRecordsOf, Extent, booted_extent, extent_of, HasBootSpace, IsImageWithExtent, IsImageOf, IsLeftByBoot, IsStarted, start_bytes}
 use Rattle.rel_handler.specs.Laws.{BootAlike}
 use Rattle.rel_handler.specs.Moments.{KeepsStore, SettlesAt, SettlesStore}
 use Rattle.node_store.specs.State.{disk_in, extent_in, list_in, IsReady}
@@ -67,13 +67,13 @@ module _ {D : Type 0} (v : Ghosts D) (disk : D) (h : NodeStore D) (opened : IsOp
       slot_there : start_bytes (v.seen (disk_in h)) ≡ start_bytes (v.seen disk)
       slot_there = ap (λ l. start_bytes l) opened.only_read.same
 
-      behind : IsImageAt c (booted (list_in h)) (booted_extent (extent_in h) (list_in h)) → IsImageAt c (booted (list_in h)) (booted_extent (extent_of (v.seen disk)) (list_in h))
-      behind image = subst (λ x. IsImageAt c (booted (list_in h)) (booted_extent x (list_in h))) far image
+      behind : IsImageWithExtent c (booted (list_in h)) (booted_extent (extent_in h) (list_in h)) → IsImageWithExtent c (booted (list_in h)) (booted_extent (extent_of (v.seen disk)) (list_in h))
+      behind image = subst (λ x. IsImageWithExtent c (booted (list_in h)) (booted_extent x (list_in h))) far image
 
       by_image : IsOldOrBooted v.seen h c
-          → (IsImageAt c (list_in h) (extent_of (v.seen disk)) × (start_bytes c ≡ start_bytes (v.seen disk)))
-          ⊎ (IsImageAt c (booted (list_in h)) (booted_extent (extent_of (v.seen disk)) (list_in h)) × ((start_bytes c ≡ start_bytes (v.seen disk)) ⊎ IsStarted (list_in h) c))
-      by_image (inl (inl image, slot)) = inl (subst (IsImageAt c (list_in h)) far image, slot ∙ slot_there)
+          → (IsImageWithExtent c (list_in h) (extent_of (v.seen disk)) × (start_bytes c ≡ start_bytes (v.seen disk)))
+          ⊎ (IsImageWithExtent c (booted (list_in h)) (booted_extent (extent_of (v.seen disk)) (list_in h)) × ((start_bytes c ≡ start_bytes (v.seen disk)) ⊎ IsStarted (list_in h) c))
+      by_image (inl (inl image, slot)) = inl (subst (IsImageWithExtent c (list_in h)) far image, slot ∙ slot_there)
       by_image (inl (inr image, slot)) = inr (behind image, inl (slot ∙ slot_there))
       by_image (inr (image, right)) = inr (behind image, inr right)
 
@@ -158,7 +158,7 @@ image_alike c es fs same alone image = record {
 }
 
 -- The bytes were read of a store with these events, and this is left of them.
-module _ (s : Stored) (bytes : List ℕ) (of : IsStoredAs s bytes) where
+module _ (s : StoreState) (bytes : List ℕ) (of : IsCrashImageOf s bytes) where
   abbrev x : Extent
   x = extent_of bytes
 
@@ -173,17 +173,17 @@ module _ (s : Stored) (bytes : List ℕ) (of : IsStoredAs s bytes) where
   since_with_boot = with_one_more ran of.events boot since
 
   -- as they were read
-  pub stored_read : IsStoredAs (uncertain_boot ran of.events x) bytes
+  pub stored_read : IsCrashImageOf (store_with_boot_in_doubt ran of.events x) bytes
   stored_read = record { events = of.events; has = (since, inl (refl, refl)); list = of.list; after = of.after; image_of = of.image_of; start = of.start }
 
   all : list_after (of.events ++ boot ∷ []) ≡ Some (booted of.list)
   all = list_after-push of.events boot of.list (booted of.list) of.after refl
 
   module _ (c : List ℕ) where
-    moved : start_bytes c ≡ start_bytes bytes → StartsBehind of.start.before bytes → StartsBehind of.start.before c
+    moved : start_bytes c ≡ start_bytes bytes → StartsAfter of.start.before bytes → StartsAfter of.start.before c
     moved slot (es, after, started) = (es, after, started_by es es bytes c refl slot started)
 
-    same_start : start_bytes c ≡ start_bytes bytes → HasStart ran of.events c
+    same_start : start_bytes c ≡ start_bytes bytes → HasRecentStart ran of.events c
     same_start slot = record {
       before = of.start.before;
       later = of.start.later;
@@ -193,7 +193,7 @@ module _ (s : Stored) (bytes : List ℕ) (of : IsStoredAs s bytes) where
       starts = moved slot of.start.starts;
     }
 
-    later_start : start_bytes c ≡ start_bytes bytes → HasStart ran (of.events ++ boot ∷ []) c
+    later_start : start_bytes c ≡ start_bytes bytes → HasRecentStart ran (of.events ++ boot ∷ []) c
     later_start slot = record {
       before = of.start.before;
       later = of.start.later ++ boot ∷ [];
@@ -204,7 +204,7 @@ module _ (s : Stored) (bytes : List ℕ) (of : IsStoredAs s bytes) where
     }
 
     -- the boot wrote it
-    new_start : IsStarted (booted of.list) c → HasStart ran (of.events ++ boot ∷ []) c
+    new_start : IsStarted (booted of.list) c → HasRecentStart ran (of.events ++ boot ∷ []) c
     new_start started = record {
       before = of.events ++ boot ∷ [];
       later = [];
@@ -218,10 +218,10 @@ module _ (s : Stored) (bytes : List ℕ) (of : IsStoredAs s bytes) where
       alike : BootAlike left.list of.list
       alike = stands_for_one bytes left.list of.list left.was of.image_of
 
-      pub stored_left : IsStoredAs (uncertain_boot ran of.events x) c
+      pub stored_left : IsCrashImageOf (store_with_boot_in_doubt ran of.events x) c
       stored_left = by_image left.left
         where
-          by_image : (IsImageAt c left.list x × (start_bytes c ≡ start_bytes bytes)) ⊎ (IsImageAt c (booted left.list) (booted_extent x left.list) × ((start_bytes c ≡ start_bytes bytes) ⊎ IsStarted left.list c)) → IsStoredAs (uncertain_boot ran of.events x) c
+          by_image : (IsImageWithExtent c left.list x × (start_bytes c ≡ start_bytes bytes)) ⊎ (IsImageWithExtent c (booted left.list) (booted_extent x left.list) × ((start_bytes c ≡ start_bytes bytes) ⊎ IsStarted left.list c)) → IsCrashImageOf (store_with_boot_in_doubt ran of.events x) c
           by_image (inl (image, slot)) = record {
             events = of.events;
             has = (since, inl (refl, image.reaches));
@@ -241,27 +241,27 @@ module _ (s : Stored) (bytes : List ℕ) (of : IsStoredAs s bytes) where
 
 -- A boot that has settled a store's events keeps them, with its own or without.
 pub settles_store : {D : Type 0} (v : Ghosts D) → ((disk : D) → v.may_leave disk (v.seen disk)) → ((disk : D) (t : ℕ) (c : List ℕ) → t ≤ v.moment disk → v.may_leave disk c → v.left_since disk t c)
-    → (disk new at : D) → SettlesAt v disk new at → (s : Stored) → ((c : List ℕ) → v.may_leave disk c → IsStoredAs s c) → SettlesStore v s disk new
+    → (disk new at : D) → SettlesAt v disk new at → (s : StoreState) → ((c : List ℕ) → v.may_leave disk c → IsCrashImageOf s c) → SettlesStore v s disk new
 settles_store {D} v reads counts_now disk new at settles s here = record {
   events = of.events;
   extent = extent_of (v.seen disk);
   has = of.has;
   any_moment =
       joined v.moment v.left_since disk at new _ (weakened v.moment v.left_since disk at (v.may_leave disk) _ (λ c now. inl (here c now)) settles.until)
-      (weakened v.moment v.left_since at new _ (λ c. IsStoredAs s c ⊎ IsStoredAs (uncertain_boot s.known.ran of.events (extent_of (v.seen disk))) c) (λ c left. inr (from c left)) settles.from);
+      (weakened v.moment v.left_since at new _ (λ c. IsCrashImageOf s c ⊎ IsCrashImageOf (store_with_boot_in_doubt s.known.ran of.events (extent_of (v.seen disk))) c) (λ c left. inr (from c left)) settles.from);
   now = λ c now. from c (settles.from.each c (counts_now new (v.moment at) c settles.from.later now));
 }
   where
-    of : IsStoredAs s (v.seen disk)
+    of : IsCrashImageOf s (v.seen disk)
     of = here (v.seen disk) (reads disk)
 
-    from : (c : List ℕ) → (c ≡ v.seen disk) ⊎ IsLeftByBoot (v.seen disk) c → IsStoredAs (uncertain_boot s.known.ran of.events (extent_of (v.seen disk))) c
-    from c (inl is) = subst (IsStoredAs (uncertain_boot s.known.ran of.events (extent_of (v.seen disk)))) (sym is) (stored_read s (v.seen disk) of)
+    from : (c : List ℕ) → (c ≡ v.seen disk) ⊎ IsLeftByBoot (v.seen disk) c → IsCrashImageOf (store_with_boot_in_doubt s.known.ran of.events (extent_of (v.seen disk))) c
+    from c (inl is) = subst (IsCrashImageOf (store_with_boot_in_doubt s.known.ran of.events (extent_of (v.seen disk)))) (sym is) (stored_read s (v.seen disk) of)
     from c (inr left) = stored_left s (v.seen disk) of c left
 
 -- A boot keeps a store's events from its reading on.
 pub keeps_store : {D : Type 0} (v : Ghosts D) → ((disk : D) → v.may_leave disk (v.seen disk)) → (counts_now : (disk : D) (t : ℕ) (c : List ℕ) → t ≤ v.moment disk → v.may_leave disk c → v.left_since disk t c)
     → (disk : D) (h : NodeStore D) (opened : IsOpened v disk h) (room : HasBootSpace (extent_in h) (list_in h)) (new : D) (leaves : Leaves v (IsOldOrBooted v.seen h) (disk_in h) new)
-    → (at : D) → SettlesAt v disk (disk_in h) at → (s : Stored) → ((c : List ℕ) → v.may_leave disk c → IsStoredAs s c) → KeepsStore v s disk new
+    → (at : D) → SettlesAt v disk (disk_in h) at → (s : StoreState) → ((c : List ℕ) → v.may_leave disk c → IsCrashImageOf s c) → KeepsStore v s disk new
 keeps_store v reads counts_now disk h opened room new leaves at settles s here =
     inr (settles_store v reads counts_now disk new at (boot_settles v disk h opened room counts_now new leaves at settles) s here)

@@ -28,7 +28,7 @@ use Rattle.rel_store.specs.State as store
 use Rattle.rel_store.specs.declared.error.StoreError.{StoreError}
 use Rattle.rel_store.specs.declared.error.StoreError.TheVariants as store_fault
 use Rattle.rel_store.specs.declared.store.Store.{Store}
-use Rattle.node_store.specs.Events.{Known, doubted, IsNoneOrOfPrefix, IsOfPrefix}
+use Rattle.node_store.specs.Events.{EventLog, log_with_doubt, IsNoneOrOfPrefix, IsOfPrefix}
 use Rattle.node_store.specs.Start.{start_text}
 use Rattle.node_store.specs.Image.{AreRecordsOf, IsImageOf, IsStarted}
 use Rattle.rel_handler.specs.Moments.{Begins, BeginsAt, BootsTo, SettlesAt}
@@ -128,20 +128,20 @@ module _ {D : Type 0} (seen : D → List ℕ) (may_leave : D → List ℕ → Ty
   pub unwritten : IsUnwritten seen may_leave moment left_since disk disk
   unwritten = record { same = refl; any_moment = started moment left_since disk (may_leave disk) only_now }
 
-pub nothing_begun : {D : Type 0} (v : Ghosts D) (disk : D) → ((c : List ℕ) → v.left_since disk (v.moment disk) c → v.may_leave disk c) → (k : Known) → Begins v k disk disk
+pub nothing_begun : {D : Type 0} (v : Ghosts D) (disk : D) → ((c : List ℕ) → v.left_since disk (v.moment disk) c → v.may_leave disk c) → (k : EventLog) → Begins v k disk disk
 nothing_begun v disk only_now k = inl (record { until = started v.moment v.left_since disk (IsTornFrom (v.may_leave disk) 0 1) (λ c left. inl (only_now c left)); unsynced = refl })
 
 -- at each moment of a creation
 module _ {D : Type 0} (v : Ghosts D) (p : Bundle) (body start : List ℕ) (fits : IsWithinLimits (made p) []) (versions : HasVersions p.release) (is : start ≡ start_text p.release) (spelled : Spells body (record_of (made p) [])) (old new : D) where
-  pub begins_at : (at : D) → IsBegunAt v body start old new at → BeginsAt v (doubted [] (made p)) old new at
+  pub begins_at : (at : D) → IsBegunAt v body start old new at → BeginsAt v (log_with_doubt [] (made p)) old new at
   begins_at at begun = record {
     until = begun.until;
     first_sync = begun.first_sync;
     synced = begun.synced;
-    from = weakened v.moment v.left_since at new (IsNoneOrNew body start) (IsNoneOrOfPrefix (doubted [] (made p))) (while_creating p body start fits versions is spelled) begun.from;
+    from = weakened v.moment v.left_since at new (IsNoneOrNew body start) (IsNoneOrOfPrefix (log_with_doubt [] (made p))) (while_creating p body start fits versions is spelled) begun.from;
   }
 
-  pub begins : Creates v body start old new → Begins v (doubted [] (made p)) old new
+  pub begins : Creates v body start old new → Begins v (log_with_doubt [] (made p)) old new
   begins (inl before) = inl before
   begins (inr (at, begun)) = inr (at, begins_at at begun)
 
@@ -156,7 +156,7 @@ one_shot_reported f None o is = ap is_some is
 one_shot_reported f (Some x) o is = ap is_some is
 
 -- the list after a boot of an image of a prefix is that of the prefix with a boot after it
-pub boots_to : (k : Known) (c : List ℕ) (found : Releases) (of : IsOfPrefix k c) → found ≡ booted of.list → BootsTo k found
+pub boots_to : (k : EventLog) (c : List ℕ) (found : Releases) (of : IsOfPrefix k c) → found ≡ booted of.list → BootsTo k found
 boots_to k c found of is = record {
   events = of.events;
   prefix = of.prefix;

@@ -7,7 +7,7 @@ use Rattle.rel_store.specs.Contents.{HasOnlyRead}
 use Rattle.rel_store.specs.Moments.{IsTornFrom}
 use Rattle.rel_unpack.specs.Source.{Source}
 use Rattle.rel_unpack.specs.Unpacking.{Brought}
-use Rattle.node_store.specs.Events.{Known, doubted}
+use Rattle.node_store.specs.Events.{EventLog, log_with_doubt}
 use Rattle.node_command.specs.Files.{bundle_brought, made_size, Brings, IsReportedAs}
 use Rattle.node_command.specs.Place.{own_refusal}
 use Rattle.rel_handler.specs.Moments.{Begins, WritesNothing}
@@ -20,7 +20,7 @@ module _ {D : Type 0} (v : Ghosts D) (old now : D) (read : HasOnlyRead v.seen v.
   pub read_alone : WritesNothing v.seen v.may_leave v.moment v.left_since old now
   read_alone = record { same = read.same; any_moment = read.any_moment }
 
-  not_begun : v.syncs now ≡ v.syncs old → (k : Known) → Begins v k old now
+  not_begun : v.syncs now ≡ v.syncs old → (k : EventLog) → Begins v k old now
   not_begun unsynced k = inl (record { until = weakened v.moment v.left_since old now (v.may_leave old) (IsTornFrom (v.may_leave old) 0 1) (λ c left. inl left) read.any_moment; unsynced = unsynced })
 
   -- so no node was made
@@ -31,7 +31,7 @@ module _ {D : Type 0} (v : Ghosts D) (old now : D) (read : HasOnlyRead v.seen v.
     read = brings;
     clear = λ other works. absurd (other is);
     idle = λ barred. read_alone;
-    any_moment = not_begun unsynced (doubted [] (made (bundle_brought b)));
+    any_moment = not_begun unsynced (log_with_doubt [] (made (bundle_brought b)));
     refused = subst (MakingRefused (v.seen old) (made_size b) (v.failures old) (v.failures now) (WritesNothing v.seen v.may_leave v.moment v.left_since old now)) (sym is) (there, read_alone);
   }))
   not_made_of unsynced source path b brings why e of (inr (inl (is, failed))) = inr (inr (record {
@@ -39,7 +39,7 @@ module _ {D : Type 0} (v : Ghosts D) (old now : D) (read : HasOnlyRead v.seen v.
     read = brings;
     clear = λ other works. absurd (works is);
     idle = λ barred. read_alone;
-    any_moment = not_begun unsynced (doubted [] (made (bundle_brought b)));
+    any_moment = not_begun unsynced (log_with_doubt [] (made (bundle_brought b)));
     refused = subst (MakingRefused (v.seen old) (made_size b) (v.failures old) (v.failures now) (WritesNothing v.seen v.may_leave v.moment v.left_since old now)) (sym is) failed;
   }))
   not_made_of unsynced source path b brings why e of (inr (inr (is, free))) =

@@ -22,7 +22,7 @@ use Rattle.node_upgrade.specs.declared.error.InstallError.{InstallError}
 use Rattle.node_upgrade.specs.declared.error.InstallError.TheVariants.{Command, Refused, MustReboot}
 use Rattle.node_upgrade.specs.Running.{IsUntouched, NodeState, RunRefused}
 use Rattle.node_upgrade.specs.Upgrade.{IsNoUpgrade, IsUpgrade, UpgradeForm}
-use Rattle.node_store.specs.Image.{boot_size, Extent, extent_behind, HasSpace, LeavesBootSpace}
+use Rattle.node_store.specs.Image.{boot_size, Extent, extent_after, HasSpace, LeavesBootSpace}
 use Rattle.node_store.specs.Compaction.{MayReach}
 use Rattle.rel_handler.specs.Installing.{InstallRefused, ends_with_restart, install_event, install_room, install_size, installs_one_shot, installation_event, must_boot, needs_restart, room_behind}
 use Rattle.node_store.specs.Commits.{Commits, IsDone}
@@ -97,7 +97,7 @@ room_left true vsn es x size fits = λ next is one.
     let same : list_restarted vsn es ≡ next = cc in
     let leaves : has_one_shot (list_restarted vsn es) ≡ true = ap has_one_shot same ∙ one in
     let (short, ends) = subst (λ b. HasSpace x (size + (if b then 5 + boot_size (list_restarted vsn es) else 0))) leaves fits in
-    subst (λ l. HasSpace (extent_behind x size) (boot_size l)) same (omega (arith, short), omega (arith, ends))
+    subst (λ l. HasSpace (extent_after x size) (boot_size l)) same (omega (arith, short), omega (arith, ends))
 
 pub room_for_body : (x : Extent) (size behind : ℕ) → HasSpace x (size + behind) → HasSpace x size
 room_for_body x size behind (short, ends) = (omega (arith, short), omega (arith, ends))
@@ -170,5 +170,5 @@ module _ {D : Type 0} (v : Ghosts D) (h mid w : NodeStore D) (same : IsSame h mi
         accepted = ap (commanded e) (sym same.list) ∙ d.accepted;
         acknowledged = d.acknowledged;
         fits = subst (λ x. HasSpace x size) same.extent d.fits;
-        reaches = subst (λ x. MayReach (extent_behind x size) (list_in w) (extent_in w)) same.extent d.reaches;
+        reaches = subst (λ x. MayReach (extent_after x size) (list_in w) (extent_in w)) same.extent d.reaches;
       }))

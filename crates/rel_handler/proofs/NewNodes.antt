@@ -15,21 +15,21 @@ use Rattle.rel_records.proofs.FormatLemmas.{allows_without, stands_so}
 use Rattle.rel_store.specs.Creation.{IsNoneOrNew}
 use Rattle.rel_store.specs.Layout.{format_of, slot_with}
 use Rattle.rel_store.proofs.Whole.{sound}
-use Rattle.node_store.specs.Events.{doubted, IsNoneOrOfPrefix, IsOfPrefix, IsPrefix}
+use Rattle.node_store.specs.Events.{log_with_doubt, IsNoneOrOfPrefix, IsOfPrefix, IsPrefix}
 use Rattle.node_store.specs.Image.{AreRecordsOf, extent_of, holds_a_store, IsImageOf, IsStarted, start_bytes}
-use Rattle.node_store.specs.Start.{started, start_text}
+use Rattle.node_store.specs.Start.{start_of_release, start_text}
 use Rattle.node_store.proofs.Images.{no_boot_space, none_beside, started_by_text}
 use Rattle.node_store.proofs.Lists.{list_after-push}
 
 -- the events with the one in doubt are a prefix, where the list allows it
-pub prefix_with : (events : List Event) (e : Event) (es : Releases) → list_after (events ++ e ∷ []) ≡ Some es → IsPrefix (doubted events e) (events ++ e ∷ [])
+pub prefix_with : (events : List Event) (e : Event) (es : Releases) → list_after (events ++ e ∷ []) ≡ Some es → IsPrefix (log_with_doubt events e) (events ++ e ∷ [])
 prefix_with events e es after = record { lacks = []; of_accepted = ap (λ o. if is_some o then events ++ e ∷ [] else events) after ∙ none; more = e ∷ []; holds = refl }
   where
     none : events ++ e ∷ [] ≡ (events ++ e ∷ []) ++ []
     none = sym (append-nil _)
 
 -- An image of the list after the event in doubt is an image of a prefix of the accepted events.
-pub as_after : (events : List Event) (e : Event) (es end : Releases) (c : List ℕ) → list_after events ≡ Some es → step e es ≡ Some end → IsImageOf c end → IsOfPrefix (doubted events e) c
+pub as_after : (events : List Event) (e : Event) (es end : Releases) (c : List ℕ) → list_after events ≡ Some es → step e es ≡ Some end → IsImageOf c end → IsOfPrefix (log_with_doubt events e) c
 as_after events e es end c after next image =
     let all = list_after-push events e es end after next in
     record { events = events ++ e ∷ []; prefix = prefix_with events e end all; list = end; after = all; image_of = image }
@@ -44,10 +44,10 @@ first_record format p body fits spelled = record {
 -- and so it is in a new node
 pub started_new : (p : Bundle) (start c : List ℕ) → HasVersions p.release → start ≡ start_text p.release → start_bytes c ≡ slot_with start → IsStarted (entry p Permanent ∷ []) c
 started_new p start c versions is slot =
-    started_by_text (entry p Permanent ∷ []) p.release (started p.release) c (versions.erts, versions.own) refl refl (slot ∙ ap slot_with is)
+    started_by_text (entry p Permanent ∷ []) p.release (start_of_release p.release) c (versions.erts, versions.own) refl refl (slot ∙ ap slot_with is)
 
 -- A creation leaves no store or one of a prefix.
-pub while_creating : (p : Bundle) (body start : List ℕ) → IsWithinLimits (made p) [] → HasVersions p.release → start ≡ start_text p.release → Spells body (record_of (made p) []) → (c : List ℕ) → IsNoneOrNew body start c → IsNoneOrOfPrefix (doubted [] (made p)) c
+pub while_creating : (p : Bundle) (body start : List ℕ) → IsWithinLimits (made p) [] → HasVersions p.release → start ≡ start_text p.release → Spells body (record_of (made p) []) → (c : List ℕ) → IsNoneOrNew body start c → IsNoneOrOfPrefix (log_with_doubt [] (made p)) c
 unfolding as_after
 while_creating p body start fits versions is spelled c (inl none) = inl none
 while_creating p body start fits versions is spelled c (inr stands) =

@@ -16,7 +16,7 @@ use Rattle.rel_store.specs.declared.store.Store.{Store}
 use Rattle.rel_store.proofs.Ownership.{at_rest}
 use Rattle.rel_handler.specs.Booting.{IsBooted, IsInBootRecord, IsOldOrTaken, Leaves}
 use Rattle.node_store.specs.Commits.{IsRecordFor}
-use Rattle.node_store.specs.Image.{AreRecordsOf, Extent, boot_size, booted_extent, extent_behind, HasSpace, IsImageAt, start_bytes}
+use Rattle.node_store.specs.Image.{AreRecordsOf, Extent, boot_size, booted_extent, extent_after, HasSpace, IsImageWithExtent, start_bytes}
 use Rattle.node_store.specs.State.{disk_in, extent_in, list_in, start_in, store_extent, IsReady}
 use Rattle.node_store.specs.declared.node_store.NodeStore.{NodeStore}
 use Rattle.rel_handler.proofs.BootLists.{booted_still, extent_of_none, extent_of_one}
@@ -56,8 +56,8 @@ module _ {D : Type 0} (v : Ghosts D) (h : NodeStore D) (ready : IsReady v.seen v
     are_next : AreRecordsOf h.store.format (store.records_in h.store ++ body ∷ []) next
     are_next = with_record h.store.format boot (list_in h) next (store.records_in h.store) body ready.list reported (λ writes. absurd (true≢false (sym writes ∙ only_restarts_write_them boot (list_in h) refl))) refl
 
-    far : extent_behind (extent_in h) (length body) ≡ booted_extent (extent_in h) (list_in h)
-    far = ap (extent_behind (extent_in h)) long ∙ sym (extent_of_one (extent_in h) (list_in h) one)
+    far : extent_after (extent_in h) (length body) ≡ booted_extent (extent_in h) (list_in h)
+    far = ap (extent_after (extent_in h)) long ∙ sym (extent_of_one (extent_in h) (list_in h) one)
 
     -- there is space for it
     pub fits_reserved : store.Fits (store.end_in reserved) (length body)
@@ -65,8 +65,8 @@ module _ {D : Type 0} (v : Ghosts D) (h : NodeStore D) (ready : IsReady v.seen v
 
     taking : (text c : List ℕ) → text ≡ start_in v.seen h → StandsEither (store.records_in h.store) body text c × (base_of c ≡ base_of (v.seen (disk_in h))) × (format_of c ≡ h.store.format) → IsOldOrTaken v.seen h c
     taking text c slot either =
-        let (image, at) = either_image h.store.format (list_in h) next (store.records_in h.store) body text ready.list are_next (base_of (v.seen (disk_in h))) (extent_in h) (settled_so v.seen v.may_leave h.store ready.store) ready.room (no_boot_space (extent_behind (extent_in h) (length body)) next none) c either in
-        (⊎_elim (λ old. inl old) (λ taken. inr (subst (IsImageAt c next) far taken)) image, at ∙ slot)
+        let (image, at) = either_image h.store.format (list_in h) next (store.records_in h.store) body text ready.list are_next (base_of (v.seen (disk_in h))) (extent_in h) (settled_so v.seen v.may_leave h.store ready.store) ready.room (no_boot_space (extent_after (extent_in h) (length body)) next none) c either in
+        (⊎_elim (λ old. inl old) (λ taken. inr (subst (IsImageWithExtent c next) far taken)) image, at ∙ slot)
 
     pub takes : (new : Store D) (text : List ℕ) → LeavesOnly v.moment v.left_since (store.disk_in reserved) (store.disk_in new) (StandsEither (store.records_in reserved) body text)
         → LeavesOnly v.moment v.left_since (store.disk_in reserved) (store.disk_in new) (LeavesOthers (IsInRecord (store.gate_in reserved) (length body)) (v.seen (store.disk_in reserved)))
@@ -102,7 +102,7 @@ module _ {D : Type 0} (v : Ghosts D) (h : NodeStore D) (ready : IsReady v.seen v
     taken new dead settled added base end format = record {
       list = refl;
       extent =
-          same_extent (store_extent new) (extent_behind (extent_in h) (length body)) (base ∙ same.base) (end ∙ ap (λ n. n + (5 + length body)) same.end)
+          same_extent (store_extent new) (extent_after (extent_in h) (length body)) (base ∙ same.base) (end ∙ ap (λ n. n + (5 + length body)) same.end)
           (ap (λ bodies. length bodies) (added ∙ ap (λ bodies. bodies ++ body ∷ []) same.records) ∙ omega (arith, length-append (store.records_in h.store) (body ∷ [])))
           ∙ far;
       ready = record {

@@ -24,8 +24,8 @@ use Rattle.rel_handler.specs.declared.error.BootError.{BootError}
 use Rattle.rel_handler.specs.declared.error.BootError.TheVariants as boot
 use Rattle.node_store.specs.Commits.{HasOldStartOr, Keeps}
 use Rattle.rel_handler.specs.Moments.{HasRead}
-use Rattle.node_store.specs.Start.{started as start_versions}
-use Rattle.node_store.specs.Image.{booted_extent, IsImageAt, IsStarted, start_bytes}
+use Rattle.node_store.specs.Start.{start_of_release}
+use Rattle.node_store.specs.Image.{booted_extent, IsImageWithExtent, IsStarted, start_bytes}
 use Rattle.node_store.specs.State.{disk_in, extent_in, list_in, start_in, HasStarted, IsReady}
 use Rattle.node_store.specs.declared.node_store.NodeStore.{NodeStore}
 use Rattle.rel_handler.proofs.Boots.{IsLack}
@@ -61,11 +61,11 @@ permanent_versions (e ∷ es) r all is = go (is_permanent e.status) (permanent_v
     go false rest is = rest is
 
 -- a start record that doesn't spell these versions isn't that of the release that has them
-pub another_start : {D : Type 0} (v : Ghosts D) (h : NodeStore D) (versions : Versions) (r : Release) → versions ≡ start_versions r → permanent (list_in h) ≡ Some r
+pub another_start : {D : Type 0} (v : Ghosts D) (h : NodeStore D) (versions : Versions) (r : Release) → versions ≡ start_of_release r → permanent (list_in h) ≡ Some r
     → (is : Bool) → IsTrue is ↔ SpellsStart (start_in v.seen h) versions → is ≡ false → IsStarted (list_in h) (v.seen (disk_in h)) → ⊥
 another_start v h versions r of listed is value another right =
     let same : right.release ≡ r = cc (right.listed, listed) in
-    let spells = subst (λ w. SpellsStart (start_in v.seen h) w) (ap start_versions same ∙ sym of) right.spells in
+    let spells = subst (λ w. SpellsStart (start_in v.seen h) w) (ap start_of_release same ∙ sym of) right.spells in
     true≢false (sym (value.1 spells) ∙ another)
 
 -- nothing was read or written yet
@@ -88,11 +88,11 @@ module _ {D : Type 0} (v : Ghosts D) (h mid : NodeStore D) (ready : IsReady v.se
   }
 
   behind_boot : (c : List ℕ) → IsImageBehindBoot mid c → IsImageBehindBoot h c
-  behind_boot c image = subst (λ l. IsImageAt c (booted l) (booted_extent (extent_in h) l)) read.list (subst (λ x. IsImageAt c (booted (list_in mid)) (booted_extent x (list_in mid))) read.extent image)
+  behind_boot c image = subst (λ l. IsImageWithExtent c (booted l) (booted_extent (extent_in h) l)) read.list (subst (λ x. IsImageWithExtent c (booted (list_in mid)) (booted_extent x (list_in mid))) read.extent image)
 
   old_or_taken : (c : List ℕ) → IsOldOrTaken v.seen mid c → IsOldOrTaken v.seen h c
   old_or_taken c (image, slot) =
-      (⊎_elim (λ old. inl (subst (λ x. IsImageAt c (list_in h) x) read.extent (subst (λ l. IsImageAt c l (extent_in mid)) read.list old))) (λ taken. inr (behind_boot c taken)) image, slot ∙ slot_same)
+      (⊎_elim (λ old. inl (subst (λ x. IsImageWithExtent c (list_in h) x) read.extent (subst (λ l. IsImageWithExtent c l (extent_in mid)) read.list old))) (λ taken. inr (behind_boot c taken)) image, slot ∙ slot_same)
 
   module _ (then : NodeStore D) (leaves : Leaves v (IsOldOrTaken v.seen mid) (disk_in mid) (disk_in then)) where
     pub takes_then : Leaves v (IsOldOrBooted v.seen h) (disk_in h) (disk_in then)
@@ -138,7 +138,7 @@ module _ {D : Type 0} (v : Ghosts D) (h mid : NodeStore D) (ready : IsReady v.se
         ready = is.ready;
       }
 
-      module _ (versions : Versions) (r : Release) (are : AreVersions versions) (of : versions ≡ start_versions r) (listed : permanent (list_in h) ≡ Some r) where
+      module _ (versions : Versions) (r : Release) (are : AreVersions versions) (of : versions ≡ start_of_release r) (listed : permanent (list_in h) ≡ Some r) where
         listed_then : permanent (list_in then) ≡ Some r
         listed_then = ap permanent booted_then.list ∙ permanent-of_booted (list_in h) ∙ listed
 
@@ -154,7 +154,7 @@ module _ {D : Type 0} (v : Ghosts D) (h mid : NodeStore D) (ready : IsReady v.se
         module _ (new : NodeStore D) (keeps : Keeps v (text_of_start versions) then new) where
           writing : (c : List ℕ) → HasOldStartOr v.seen then (λ d. start_bytes d ≡ slot_with (text_of_start versions)) c → IsOldOrBooted v.seen h c
           writing c (image, at) =
-              let there : IsImageBehindBoot h c = subst (IsImageAt c (booted (list_in h))) booted_then.extent (subst (λ l. IsImageAt c l (extent_in then)) booted_then.list image) in
+              let there : IsImageBehindBoot h c = subst (IsImageWithExtent c (booted (list_in h))) booted_then.extent (subst (λ l. IsImageWithExtent c l (extent_in then)) booted_then.list image) in
               ⊎_elim (λ old. inl (inr there, old ∙ slot ∙ slot_same)) (λ new. inr (there, started_by_text (list_in h) r versions c are of listed new)) at
 
           pub written_over : Leaves v (IsOldOrBooted v.seen h) (disk_in h) (disk_in new)
@@ -171,7 +171,7 @@ module _ {D : Type 0} (v : Ghosts D) (h mid : NodeStore D) (ready : IsReady v.se
           pub booted_now : IsReady v.seen v.may_leave new → IsBooted v h new
           booted_now now = record { list = keeps.list ∙ booted_then.list; extent = keeps.extent ∙ booted_then.extent; ready = now }
 
-          pub started_now : ((c : List ℕ) → v.may_leave (disk_in new) c → IsImageAt c (list_in new) (extent_in new) × (start_bytes c ≡ slot_with (text_of_start versions))) → HasStarted v.may_leave new
+          pub started_now : ((c : List ℕ) → v.may_leave (disk_in new) c → IsImageWithExtent c (list_in new) (extent_in new) × (start_bytes c ≡ slot_with (text_of_start versions))) → HasStarted v.may_leave new
           started_now images c now = started_by_text (list_in new) r versions c are of (ap permanent keeps.list ∙ listed_then) (images c now).1
 
 -- Why a boot doesn't come to its end.

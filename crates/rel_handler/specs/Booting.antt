@@ -12,7 +12,7 @@ use Rattle.rel_store.specs.Contents.{HasOnlyRead}
 use Rattle.rel_store.specs.Records.{end_of}
 use Rattle.rel_store.specs.State as of_store
 use Rattle.node_store.specs.Commits.{IsRecordFor}
-use Rattle.node_store.specs.Image.{Extent, boot_size, booted_extent, extent_of, HasBootSpace, IsImageAt, IsStarted, start_bytes}
+use Rattle.node_store.specs.Image.{Extent, boot_size, booted_extent, extent_of, HasBootSpace, IsImageWithExtent, IsStarted, start_bytes}
 use Rattle.node_store.specs.State.{disk_in, extent_in, format_in, list_in, start_in, IsReady}
 use Rattle.rel_handler.specs.declared.error.BootError.{BootError}
 use Rattle.rel_handler.specs.declared.error.BootError.TheVariants.{BadRecord, Device, NoMemory}
@@ -53,11 +53,11 @@ pub record IsBootOf {D : Type 0} (bytes : List ℕ) (es : Releases) (handler : N
 
 -- The bytes stand for the handler's list as it is after a boot.
 abbrev pub IsImageBehindBoot : {D : Type 0} → NodeStore D → List ℕ → Type 0
-IsImageBehindBoot h c = IsImageAt c (booted (list_in h)) (booted_extent (extent_in h) (list_in h))
+IsImageBehindBoot h c = IsImageWithExtent c (booted (list_in h)) (booted_extent (extent_in h) (list_in h))
 
 -- The bytes stand for the handler's list, as it is or as it is after a boot, and have its start slot.
 abbrev pub IsOldOrTaken : {D : Type 0} → (D → List ℕ) → NodeStore D → List ℕ → Type 0
-IsOldOrTaken seen h c = (IsImageAt c (list_in h) (extent_in h) ⊎ IsImageBehindBoot h c) × (start_bytes c ≡ start_in seen h)
+IsOldOrTaken seen h c = (IsImageWithExtent c (list_in h) (extent_in h) ⊎ IsImageBehindBoot h c) × (start_bytes c ≡ start_in seen h)
 
 -- At any moment of a boot a crash leaves such bytes: they stand for the handler's list, as it is or as it is after a boot, and
 -- have its start slot; or they stand for the list after a boot, and have the start record of the permanent release.

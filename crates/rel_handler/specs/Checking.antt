@@ -8,5 +8,5 @@ use Rattle.node_store.specs.State.{list_in, is_dead}
 use Rattle.node_store.specs.declared.node_store.NodeStore.{NodeStore}
 
 -- the script by which the release of this version would be installed, or why it would not
-abbrev pub checked : {D : Type 0} → List ℕ → NodeStore D → Result FoundForm HandlerError
-checked vsn h = if is_dead h then Err Dead else installation vsn (list_in h)
+abbrev pub check_result : {D : Type 0} → List ℕ → NodeStore D → Result FoundForm HandlerError
+check_result vsn h = if is_dead h then Err Dead else installation vsn (list_in h)

@@ -9,7 +9,7 @@ use Rattle.rel_list.specs.Event.Event.{boot}
 use Rattle.rel_store.specs.Contents.{HasOnlyRead}
 use Rattle.rel_store.specs.Creation.{IsBeforeFirstSync, IsUnwritten}
 use Rattle.rel_store.specs.Moments.{IsTornFrom}
-use Rattle.node_store.specs.Events.{Events, Known, IsPrefix, IsNoneOrOfPrefix, Stored, MayHave, uncertain_boot, IsStoredAs}
+use Rattle.node_store.specs.Events.{Events, EventLog, IsPrefix, IsNoneOrOfPrefix, StoreState, MayHoldEvents, store_with_boot_in_doubt, IsCrashImageOf}
 use Rattle.node_store.specs.Image.{Extent, IsLeftByBoot}
 use Rattle.node_store.specs.State.{disk_in, extent_in, list_in}
 use Rattle.rel_handler.specs.declared.error.BootError.{BootError}
@@ -26,7 +26,7 @@ pub record HasRead {D : Type 0} (v : Ghosts D) (old new : NodeStore D) : Type 0 
 -- A creation has its first sync at this moment. Up to it a crash leaves what it left before the call, but for a torn gate. From
 -- it on a crash leaves no store, or one that stands for the list of a prefix of the accepted events with every acknowledged
 -- one.
-pub record BeginsAt {D : Type 0} (v : Ghosts D) (k : Known) (old new at : D) : Type 0 where
+pub record BeginsAt {D : Type 0} (v : Ghosts D) (k : EventLog) (old new at : D) : Type 0 where
   pub until : LeavesOnly v.moment v.left_since old at (IsTornFrom (v.may_leave old) 0 1)
   pub first_sync : v.syncs at ≡ v.syncs old + 1
   pub synced : Only (v.seen at) (v.may_leave at)
@@ -34,7 +34,7 @@ pub record BeginsAt {D : Type 0} (v : Ghosts D) (k : Known) (old new at : D) : T
 
 -- At each moment of a creation nothing but the gate of a store is torn, and no sync has taken effect; or that is so up to the
 -- first sync that does.
-abbrev pub Begins : {D : Type 0} → Ghosts D → Known → D → D → Type 0
+abbrev pub Begins : {D : Type 0} → Ghosts D → EventLog → D → D → Type 0
 Begins {D} v k old new = IsBeforeFirstSync v old new ⊎ ((at : D) × BeginsAt v k old new at)
 
 -- A creation wrote nothing: a read gives what it gave, and a crash in it leaves nothing new.
@@ -42,7 +42,7 @@ abbrev pub WritesNothing : {D : Type 0} → (D → List ℕ) → (D → List ℕ
 WritesNothing seen may_leave moment left_since old new = IsUnwritten seen may_leave moment left_since old new
 
 -- The list is that of a prefix of the accepted events with every acknowledged one, and of a boot after it.
-pub record BootsTo (k : Known) (es : Releases) : Type 0 where
+pub record BootsTo (k : EventLog) (es : Releases) : Type 0 where
   pub events : List Event
   pub prefix : IsPrefix k events
   pub after : list_after (events ++ boot ∷ []) ≡ Some es
@@ -67,14 +67,14 @@ IsSynced {D} v old (Err refusal) =
     ((refusal.0 ≡ Device) × IsUnsettled v old refusal.1) ⊎ ((at : D) × SettlesAt v old refusal.1 at)
 
 -- A boot of a store whose events are known has settled which it has. From then on its own event is in doubt.
-pub record SettlesStore {D : Type 0} (v : Ghosts D) (s : Stored) (old new : D) : Type 0 where
+pub record SettlesStore {D : Type 0} (v : Ghosts D) (s : StoreState) (old new : D) : Type 0 where
   pub events : Events
   pub extent : Extent
-  pub has : MayHave s events extent
-  pub any_moment : LeavesOnly v.moment v.left_since old new (λ c. IsStoredAs s c ⊎ IsStoredAs (uncertain_boot s.known.ran events extent) c)
-  pub now : (c : List ℕ) → v.may_leave new c → IsStoredAs (uncertain_boot s.known.ran events extent) c
+  pub has : MayHoldEvents s events extent
+  pub any_moment : LeavesOnly v.moment v.left_since old new (λ c. IsCrashImageOf s c ⊎ IsCrashImageOf (store_with_boot_in_doubt s.known.ran events extent) c)
+  pub now : (c : List ℕ) → v.may_leave new c → IsCrashImageOf (store_with_boot_in_doubt s.known.ran events extent) c
 
 -- At each moment of a boot a crash leaves what was known of the store before, or the boot has settled which events the store
 -- has.
-abbrev pub KeepsStore : {D : Type 0} → Ghosts D → Stored → D → D → Type 0
-KeepsStore v s old new = LeavesOnly v.moment v.left_since old new (IsStoredAs s) ⊎ SettlesStore v s old new
+abbrev pub KeepsStore : {D : Type 0} → Ghosts D → StoreState → D → D → Type 0
+KeepsStore v s old new = LeavesOnly v.moment v.left_since old new (IsCrashImageOf s) ⊎ SettlesStore v s old new

@@ -9,11 +9,11 @@ use Rattle.rel_store.specs.Layout.{slot_with}
 use Rattle.rel_unpack.specs.Source.{Source}
 use Rattle.rel_unpack.specs.Unpacking.{Brought}
 use Rattle.node_store.specs.Commits.{Commits, IsDone}
-use Rattle.node_store.specs.Events.{doubted}
+use Rattle.node_store.specs.Events.{log_with_doubt}
 use Rattle.node_command.specs.Files.{Brings, IsOfFiles, IsReportedAs, bundle_brought, made_size, unpacked_size}
 use Rattle.node_command.specs.Place.{files_refusal, own_refusal}
 use Rattle.node_store.specs.Start.{start_text}
-use Rattle.node_store.specs.Image.{extent_behind, first_extent, HasSpace, holds_a_store, IsImageAt}
+use Rattle.node_store.specs.Image.{extent_after, first_extent, HasSpace, holds_a_store, IsImageWithExtent}
 use Rattle.rel_handler.specs.Moments.{Begins, BeginsAt, WritesNothing}
 use Rattle.node_store.specs.Refusals.{CommandRefused}
 use Rattle.rel_handler.specs.Refusals.{MakingRefused}
@@ -64,12 +64,12 @@ pub record IsMade {D : Type 0} (v : Ghosts D) (source : Source) (path : List ℕ
   pub read : Brings source path (Ok brought)
   pub free : own_refusal brought ≡ None
   pub list : list_in handler ≡ entry (bundle_brought brought) Permanent ∷ []
-  pub acknowledged : (c : List ℕ) → v.may_leave (disk_in handler) c → IsImageAt c (list_in handler) (extent_in handler)
+  pub acknowledged : (c : List ℕ) → v.may_leave (disk_in handler) c → IsImageWithExtent c (list_in handler) (extent_in handler)
   pub start : start_in v.seen handler ≡ slot_with (start_text brought.found.release)
   pub fits : HasSpace first_extent (made_size brought)
-  pub extent : extent_in handler ≡ extent_behind first_extent (made_size brought)
+  pub extent : extent_in handler ≡ extent_after first_extent (made_size brought)
   pub synced : D
-  pub begun : BeginsAt v (doubted [] (made (bundle_brought brought))) disk (disk_in handler) synced
+  pub begun : BeginsAt v (log_with_doubt [] (made (bundle_brought brought))) disk (disk_in handler) synced
 
 -- The disk holds no store, and its other files are why no node was made with what the path brings. Nothing was written.
 pub record IsNotBegun {D : Type 0} (v : Ghosts D) (source : Source) (path : List ℕ) (disk now : D) (e : HandlerError) : Type 0 where
@@ -87,7 +87,7 @@ pub record IsNotMade {D : Type 0} (v : Ghosts D) (source : Source) (path : List 
   pub read : Brings source path (Ok brought)
   pub clear : e ≢ Exists → e ≢ Device → own_refusal brought ≡ None
   pub idle : own_refusal brought ≢ None → WritesNothing v.seen v.may_leave v.moment v.left_since disk now
-  pub any_moment : Begins v (doubted [] (made (bundle_brought brought))) disk now
+  pub any_moment : Begins v (log_with_doubt [] (made (bundle_brought brought))) disk now
   pub refused : MakingRefused (v.seen disk) (made_size brought) (v.failures disk) (v.failures now) (WritesNothing v.seen v.may_leave v.moment v.left_since disk now) e
 
 -- Why no node was made: the release's file or its other files, and then nothing was written; or the disk, the store or memory.

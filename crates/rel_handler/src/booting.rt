@@ -1,13 +1,13 @@
 // A node is read from its disk again.
 //
 // The start record is that of the permanent release between two calls of a handler that isn't dead (`HasStarted`), and at each
-// moment that of the permanent release of the prefix, or of the one that was permanent when the node last ran (`HasStart`): a
-// boot repairs it.
+// moment that of the permanent release of the prefix, or of the one that was permanent when the node last ran
+// (`HasRecentStart`): a boot repairs it.
 //
 // A boot has a one-shot as the current release, and has taken it away from the disk by a record of its own before it is `Ok`
 // (`only`, `acknowledged`): no later boot starts it. A store for which a list with a one-shot stands has room for that record
-// (`HasBootSpace`). A list with a one-shot is never compacted (`may_be_compacted`), and a store in which a handler writes one is
-// of format 2 (`format`).
+// (`HasBootSpace`). A list with a one-shot is never compacted (`may_be_compacted`), and a store in which a handler writes one
+// is of format 2 (`format`).
 ghost use Rattle.std.specs.Prelude.{◌≡◌, ◌⊎◌, ◌↔◌, ℕ, ◌≤◌, List, false, IsTrue, IfOk, IfErr, OnOk, MatchResult};
 ghost use Rattle.rel_disk.specs.Moments.{LeavesOnly};
 ghost use Rattle.rel_list.specs.Releases.{Releases, has_one_shot};
@@ -16,8 +16,8 @@ ghost use Rattle.rel_store.specs.Changed.{LeavesOthers};
 ghost use Rattle.rel_store.specs.Contents.{HasOnlyRead};
 ghost use Rattle.rel_store.specs.Layout.{format_of};
 ghost use Rattle.rel_handler.specs.Booting.{IsRead, IsOpened, IsBootOf, IsBootRecord, IsInBootRecord, BootRecordRefused, IsBooted, IsOldOrTaken, IsOldOrBooted, Leaves, WritesNoStart, FinishRefused};
-ghost use Rattle.node_store.specs.Events.{Known, IsOfPrefix, Stored, IsStoredAs};
-ghost use Rattle.node_store.specs.Image.{HasBootSpace, IsImageOf, IsImageAt, IsStarted, IsLeftByBoot};
+ghost use Rattle.node_store.specs.Events.{EventLog, IsOfPrefix, StoreState, IsCrashImageOf};
+ghost use Rattle.node_store.specs.Image.{HasBootSpace, IsImageOf, IsImageWithExtent, IsStarted, IsLeftByBoot};
 ghost use Rattle.rel_handler.specs.Moments.{BootsTo, HasRead, IsSynced, KeepsStore};
 ghost use Rattle.rel_handler.specs.Refusals.{BootRefused, reported_boot, IsOpenError};
 ghost use Rattle.node_store.specs.State.{disk_in, disk_of, extent_in, format_in, list_in, is_dead, start_in, HasStarted, IsReady, IsSound};
@@ -47,7 +47,7 @@ pub fn boot<D: Disk>(alloc: Global, disk: D) -> Result<Handler<D>, (BootError, D
     ensures image { OnOk result ((es : Releases) × IsImageOf (D.seen disk) es
         × (recorded es ≡ es)) }
     ensures acknowledged { IfOk result (λ handler. (c : List ℕ) → D.may_leave (disk_in handler) c
-        → IsImageAt c (list_in handler) (extent_in handler)) }
+        → IsImageWithExtent c (list_in handler) (extent_in handler)) }
 
     // A disk that stands for a list is booted to what a boot makes of that list.
     ensures only { (es : Releases) → IsImageOf (D.seen disk) es
@@ -61,7 +61,7 @@ pub fn boot<D: Disk>(alloc: Global, disk: D) -> Result<Handler<D>, (BootError, D
 
     // Whatever a crash left of a node is booted to the list of a prefix of its accepted events that holds every acknowledged
     // one.
-    ensures recovers { (k : Known) → ((c : List ℕ) → D.may_leave disk c → IsOfPrefix k c)
+    ensures recovers { (k : EventLog) → ((c : List ℕ) → D.may_leave disk c → IsOfPrefix k c)
         → MatchResult result (λ handler. BootsTo k (list_in handler))
         (λ e. (e.0 ≡ BootError.Device) ⊎ (e.0 ≡ BootError.NoMemory)) }
 
@@ -72,7 +72,7 @@ pub fn boot<D: Disk>(alloc: Global, disk: D) -> Result<Handler<D>, (BootError, D
     ensures synced { IsSynced D.Disk disk result }
 
     // A store whose events are known keeps them, with the boot's own after them or without.
-    ensures stored { (s : Stored) → ((c : List ℕ) → D.may_leave disk c → IsStoredAs s c)
+    ensures stored { (s : StoreState) → ((c : List ℕ) → D.may_leave disk c → IsCrashImageOf s c)
         → KeepsStore D.Disk s disk (disk_of result) }
 
     // Where it is refused, and not by the device, nothing was written.

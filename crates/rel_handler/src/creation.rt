@@ -9,11 +9,11 @@ ghost use Rattle.rel_records.specs.Reading.{Spells};
 ghost use Rattle.rel_records.specs.Writing.{record_of};
 ghost use Rattle.rel_store.specs.Contents.{HasOnlyRead};
 ghost use Rattle.rel_store.specs.Layout.{slot_with};
-ghost use Rattle.node_store.specs.Events.{doubted};
+ghost use Rattle.node_store.specs.Events.{log_with_doubt};
 ghost use Rattle.node_command.specs.Files.{HasFileTerms, IsWhole, bundle_brought, made_size};
 ghost use Rattle.node_command.specs.Place.{own_refusal};
 ghost use Rattle.node_store.specs.Start.{start_text};
-ghost use Rattle.node_store.specs.Image.{extent_behind, first_extent, IsImageAt, holds_a_store, HasSpace};
+ghost use Rattle.node_store.specs.Image.{extent_after, first_extent, IsImageWithExtent, holds_a_store, HasSpace};
 ghost use Rattle.rel_handler.specs.Moments.{Begins, BeginsAt, WritesNothing};
 ghost use Rattle.rel_handler.specs.Refusals.{MakingRefused, reported_create, IsCreateError};
 ghost use Rattle.node_store.specs.State.{disk_in, disk_of, extent_in, format_in, list_in, is_dead, start_in, IsSound};
@@ -39,8 +39,8 @@ impl<D: Disk> Handler<D> {
     /// All files are read first. Refusals, in this order: `MissingFile`, `BadFile`, `TooMany` for the release's file or its
     /// number of applications; `Exists`; `MissingFile`, `BadFile`, `VsnMismatch`, `NoTable`, `TooMany` for the files of the
     /// applications; `BadFile`, `TooMany`, `VsnMismatch` for the relup; `Full`. `NoMemory` may come in place of each. Nothing
-    /// has been written then. After `Device` the disk has no store or the new one, once the first sync has taken effect, whatever
-    /// it answered; before that nothing but its first byte was written. The disk comes back with each refusal.
+    /// has been written then. After `Device` the disk has no store or the new one, once the first sync has taken effect,
+    /// whatever it answered; before that nothing but its first byte was written. The disk comes back with each refusal.
     pub fn create<F: Files>(
         alloc: Global,
         disk: D,
@@ -83,17 +83,19 @@ impl<D: Disk> Handler<D> {
         ensures list { IfOk result (λ handler. list_in handler
             ≡ entry (bundle_brought (brought_of brought)) Permanent ∷ []) }
         ensures acknowledged { IfOk result (λ handler. (c : List ℕ)
-            → D.may_leave (disk_in handler) c → IsImageAt c (list_in handler) (extent_in handler)) }
+            → D.may_leave (disk_in handler) c
+            → IsImageWithExtent c (list_in handler) (extent_in handler)) }
         ensures start { IfOk result (λ handler. start_in D.seen handler
             ≡ slot_with (start_text (release_of brought.file.release))) }
         ensures fits { OnOk result (HasSpace first_extent (made_size (brought_of brought))) }
         ensures extent { IfOk result (λ handler. extent_in handler
-            ≡ extent_behind first_extent (made_size (brought_of brought))) }
+            ≡ extent_after first_extent (made_size (brought_of brought))) }
         ensures any_moment { Begins D.Disk
-            (doubted [] (made (bundle_brought (brought_of brought)))) disk (disk_of result) }
+            (log_with_doubt [] (made (bundle_brought (brought_of brought)))) disk (disk_of result) }
         ensures begun { OnOk result ((at : D)
             × BeginsAt D.Disk
-            (doubted [] (made (bundle_brought (brought_of brought)))) disk (disk_of result) at) }
+            (log_with_doubt [] (made (bundle_brought (brought_of brought)))) disk
+            (disk_of result) at) }
         ensures format { IfOk result (λ handler. format_in handler ≡ 2) }
         ensures taken { holds_a_store (D.seen disk) ≡ true → IfErr result
             (λ e. WritesNothing D.seen D.may_leave D.moment D.left_since disk e.1) × IsErr result }

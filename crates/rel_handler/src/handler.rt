@@ -12,9 +12,9 @@ ghost use Rattle.rel_records.specs.Startable.{AreStartable};
 ghost use Rattle.relup_file.specs.Search.{found_of};
 ghost use Rattle.start_record.specs.Text.{versions_of};
 ghost use Rattle.node_store.specs.Commands.{CommitsChange};
-ghost use Rattle.node_store.specs.Start.{started};
+ghost use Rattle.node_store.specs.Start.{start_of_release};
 ghost use Rattle.node_store.specs.State.{disk_in, format_in, list_in, is_dead, IsSound};
-ghost use Rattle.rel_handler.specs.Checking.{checked};
+ghost use Rattle.rel_handler.specs.Checking.{check_result};
 ghost use Rattle.rel_handler.specs.Moments.{HasRead};
 ghost use Rattle.rel_handler.specs.Refusals.{StartRefused};
 
@@ -89,7 +89,7 @@ impl<D: Disk> Handler<D> {
         ensures works { OnOk result ((is_dead self.old ≡ false) × (is_dead self.new ≡ false)) }
         ensures format { format_in self.new ≡ format_in self.old }
         ensures reports { IfOk result (λ start. (r : Release)
-            × (permanent (list_in self.old) ≡ Some r) × (versions_of start ≡ started r)) }
+            × (permanent (list_in self.old) ≡ Some r) × (versions_of start ≡ start_of_release r)) }
         ensures refused { IfErr result (StartRefused D.failures self.old self.new) }
     {
         if self.node.dead {
@@ -112,14 +112,14 @@ impl<D: Disk> Handler<D> {
     /// Refusals, in this order: `Dead`, `NoSuchRelease`, `AlreadyInstalled`, `NoMatchingRelup`.
     pub fn check_install(&self, vsn: &str) -> Result<Found<'_>, HandlerError>
         ensures { MatchResult result
-            (λ found. checked vsn.now self.now ≡ Ok (found_of found))
-            (λ why. checked vsn.now self.now ≡ Err why) }
+            (λ found. check_result vsn.now self.now ≡ Ok (found_of found))
+            (λ why. check_result vsn.now self.now ≡ Err why) }
     {
         find_installation(self.which_releases()?, vsn)
     }
 
     /// Makes the current release, of this version, the permanent one: the list is committed, then the start record, and then a
-    /// long store is compacted. At `Ok` both are acknowledged (`done`, `started`).
+    /// long store is compacted. At `Ok` both are acknowledged (`done`, `start_of_release`).
     ///
     /// Refusals, in this order: `Dead`, `NoSuchRelease`, `BadStatus`, `Full`; `NoMemory` as of `set_unpacked`. After a
     /// `Device` the list has the event or not, the start record is the old one or the new, and a store with both may be
@@ -136,7 +136,8 @@ impl<D: Disk> Handler<D> {
     }
 
     /// Makes an old release the permanent one, and has the node boot: the list is committed, then the start record, and then a
-    /// long store is compacted. At `Ok` both are acknowledged (`done`, `started`), and the handler is dead until the next boot.
+    /// long store is compacted. At `Ok` both are acknowledged (`done`, `start_of_release`), and the handler is dead until the
+    /// next boot.
     ///
     /// Refusals, in this order: `Dead`, `NoSuchRelease`, `BadStatus`, `Full`; else as `make_permanent`.
     pub fn reboot_old_release(&mut self, alloc: Global, vsn: &str) -> Result<(), HandlerError>

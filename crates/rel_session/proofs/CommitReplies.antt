@@ -11,7 +11,7 @@ use Rattle.node_processes.specs.InMemory.{processes_in}
 use Rattle.node_processes.specs.Processes.{Processes}
 use Rattle.rel_session.specs.declared.booted_node.BootedNode.{BootedNode}
 use Rattle.node_store.specs.Commits.{Commits, IsDone}
-use Rattle.node_store.specs.Events.{Events, uncertain, IsStoredAs, settled}
+use Rattle.node_store.specs.Events.{Events, store_with_doubt, IsCrashImageOf, log_without_doubt}
 use Rattle.node_store.specs.Image.{Extent, HasSpace}
 use Rattle.node_store.specs.Refusals.{CommandRefused}
 use Rattle.node_store.specs.State.{disk_in, list_in, is_dead, extent_in, IsSame}
@@ -21,12 +21,12 @@ use Rattle.rel_session.specs.declared.unanswered.Unanswered.{Unanswered}
 use Rattle.rel_session.specs.declared.unanswered.Unanswered.TheVariants as unanswered
 use Rattle.rel_session.specs.Device.{Device, LeavesOnly, HasFailed}
 use Rattle.rel_session.specs.InMemory.{IsAt, Replied, Answers}
-use Rattle.rel_session.specs.Node.{Place, Reply, refused, failed, releases_after, list_or_none}
-use Rattle.rel_session.specs.Node.Place.{raw, closed, running, dead}
+use Rattle.rel_session.specs.Node.{DiskState, Reply, refusal_reply, failure_reply, releases_after, list_or_none}
+use Rattle.rel_session.specs.Node.DiskState.{unknown_bytes, not_booted, running, dead}
 use Rattle.rel_unpack.specs.Refusal.{Refusal as FilesRefusal}
 use Rattle.node_answer.specs.Refusals.{NodeRefusal, refusal_of, refusal_for, refusal_line}
 use Rattle.node_answer.specs.Refusals.NodeRefusal.{full, device, no_memory}
-use Rattle.rel_session.specs.Run.{IsReached, Holds}
+use Rattle.rel_session.specs.Run.{StandsForPrefix, DiskIsIn}
 use Rattle.rel_session.specs.Transition
 use Rattle.rel_session.specs.Transition.Action.{changes_node}
 use Rattle.node_command.proofs.CommandLemmas.{commanded_step}
@@ -37,7 +37,7 @@ use Rattle.rel_session.proofs.ListLemmas.{list_after-push}
 use Rattle.rel_session.proofs.Prefixes.{reached_with}
 use Rattle.rel_session.proofs.Replies.{stays, same_at, runs_at, reports, answers_line, refuses_running}
 
-module _ {D : Type 0} (v : Device D) (laws : IsDevice v) (P : Place → Reply → Type 0) (n : BootedNode D) (alive : is_dead n.handler ≡ false) where
+module _ {D : Type 0} (v : Device D) (laws : IsDevice v) (P : DiskState → Reply → Type 0) (n : BootedNode D) (alive : is_dead n.handler ≡ false) where
   -- An event comes to the node. Done says what is replied where it was committed.
   module _ (e : Event) (size : Releases → ℕ) (Done : Events → Processes → Releases → Extent → Reply → Type 0)
       (right : (events : Events) (extent : Extent) (ps : Processes) (a : Reply) → list_after events ≡ Some (list_in n.handler) → Transition.IsCommit events extent ps e (size (releases_after events)) (commanded e (releases_after events)) (Done events ps (releases_after events)) a → P (running events extent ps) a)
@@ -52,19 +52,19 @@ module _ {D : Type 0} (v : Device D) (laws : IsDevice v) (P : Place → Reply �
         let of_list : releases_after events ≡ list_in n.handler = ap list_or_none after in
         right events extent ps a after (subst (λ l. Transition.IsCommit events extent ps e (size l) (commanded e l) (Done events ps l) a) (sym of_list) (subst (λ r. Transition.IsCommit events extent ps e body_size r (Done events ps (list_in n.handler)) a) (sym is) so))
 
-    pub moments_at : (events : Events) → list_after events ≡ Some (list_in n.handler) → LeavesOnly v (disk_in n.handler) (disk_in new.handler) (IsReached (settled events) (e ∷ []))
+    pub moments_at : (events : Events) → list_after events ≡ Some (list_in n.handler) → LeavesOnly v (disk_in n.handler) (disk_in new.handler) (StandsForPrefix (log_without_doubt events) (e ∷ []))
     moments_at events after = weakened v (disk_in n.handler) (disk_in new.handler) _ _ (reached_with events (extent_in n.handler) e body_size) (commits.any_moment alive events after)
 
     device_failed : (list : Releases) → commanded e (list_in n.handler) ≡ Ok list → HasSpace (extent_in n.handler) body_size → HasFailed v (disk_in n.handler) (disk_in new.handler) → is_dead new.handler ≡ true
-        → (p : Place) → IsAt v (memory.Made n) p → Replied v p (λ a. P p a × (a.answer ≡ refusal_line device)) (memory.Made n) (memory.Made new)
-    device_failed list allowed fits cause gone (raw bytes) at = absurd at
-    device_failed list allowed fits cause gone (closed s) at = absurd at
+        → (p : DiskState) → IsAt v (memory.Made n) p → Replied v p (λ a. P p a × (a.answer ≡ refusal_line device)) (memory.Made n) (memory.Made new)
+    device_failed list allowed fits cause gone (unknown_bytes bytes) at = absurd at
+    device_failed list allowed fits cause gone (not_booted s) at = absurd at
     device_failed list allowed fits cause gone (dead s) at = never (sym alive ∙ at.1)
     device_failed list allowed fits cause gone (running events extent ps) (here, living, after, stop, has) =
-        let s = uncertain events extent e body_size in
-        let leaves = subst (λ m. LeavesOnly v (disk_in n.handler) (disk_in new.handler) (IsStoredAs (uncertain events m e body_size))) stop (commits.any_moment alive events after) in
-        let holds : Holds v (dead s) (disk_in new.handler) = λ c now. leaves.each c (laws.counts_now (disk_in new.handler) (v.moment (disk_in n.handler)) c leaves.later now) in
-        let a = failed (Some e) (dead s) in
+        let s = store_with_doubt events extent e body_size in
+        let leaves = subst (λ m. LeavesOnly v (disk_in n.handler) (disk_in new.handler) (IsCrashImageOf (store_with_doubt events m e body_size))) stop (commits.any_moment alive events after) in
+        let holds : DiskIsIn v (dead s) (disk_in new.handler) = λ c now. leaves.each c (laws.counts_now (disk_in new.handler) (v.moment (disk_in n.handler)) c leaves.later now) in
+        let a = failure_reply (Some e) (dead s) in
         record {
           given = a;
           right = (right_for events extent ps (Ok list) a after allowed (inl (subst (λ n. HasSpace n body_size) stop fits, inr refl)), refl);
@@ -73,10 +73,10 @@ module _ {D : Type 0} (v : Device D) (laws : IsDevice v) (P : Place → Reply �
         }
 
     same_reply : (why : NodeRefusal) (o : Result Releases HandlerError) → commanded e (list_in n.handler) ≡ o → IsSame n.handler new.handler
-        → ((events : Events) (extent : Extent) (ps : Processes) → extent_in n.handler ≡ extent → Transition.IsCommit events extent ps e body_size o (Done events ps (list_in n.handler)) (refused why (running events extent ps)))
-        → (p : Place) → IsAt v (memory.Made n) p → Replied v p (λ a. P p a × (a.answer ≡ refusal_line why)) (memory.Made n) (memory.Made new)
-    same_reply why o is same barred (raw bytes) at = absurd at
-    same_reply why o is same barred (closed s) at = absurd at
+        → ((events : Events) (extent : Extent) (ps : Processes) → extent_in n.handler ≡ extent → Transition.IsCommit events extent ps e body_size o (Done events ps (list_in n.handler)) (refusal_reply why (running events extent ps)))
+        → (p : DiskState) → IsAt v (memory.Made n) p → Replied v p (λ a. P p a × (a.answer ≡ refusal_line why)) (memory.Made n) (memory.Made new)
+    same_reply why o is same barred (unknown_bytes bytes) at = absurd at
+    same_reply why o is same barred (not_booted s) at = absurd at
     same_reply why o is same barred (dead s) at = never (sym alive ∙ at.1)
     same_reply why o is same barred (running events extent ps) at =
         stays v laws (running events extent ps) (refusal_line why) _ (memory.Made n) (memory.Made new) at same.disk (same_at v laws n new (running events extent ps) same kept_on at)
@@ -86,7 +86,7 @@ module _ {D : Type 0} (v : Device D) (laws : IsDevice v) (P : Place → Reply �
     by_list why (living, barred) same p at = same_reply (refusal_of why) (Err why) barred same (λ events extent ps at. refl) p at
 
     -- The event was not committed.
-    pub commits_none : ((events : Events) (extent : Extent) (ps : Processes) → P (running events extent ps) (refused no_memory (running events extent ps))) → (why : HandlerError) → CommandRefused v.failures e body_size n.handler new.handler why → Answers v P (Err (unanswered.Refused why)) (memory.Made n) (memory.Made new)
+    pub commits_none : ((events : Events) (extent : Extent) (ps : Processes) → P (running events extent ps) (refusal_reply no_memory (running events extent ps))) → (why : HandlerError) → CommandRefused v.failures e body_size n.handler new.handler why → Answers v P (Err (unanswered.Refused why)) (memory.Made n) (memory.Made new)
     commits_none lacks handler_error.Dead (gone, same) = never (sym alive ∙ gone)
     commits_none lacks handler_error.NoSuchRelease (barred, same) = by_list handler_error.NoSuchRelease barred same
     commits_none lacks handler_error.ExistingRelease (barred, same) = by_list handler_error.ExistingRelease barred same
@@ -108,39 +108,39 @@ module _ {D : Type 0} (v : Device D) (laws : IsDevice v) (P : Place → Reply �
     commits_none lacks handler_error.Exists gone = absurd gone
 
   -- A command changes the node.
-  module _ (change : Transition.Change) (right : (events : Events) (extent : Extent) (ps : Processes) (a : Reply) → Transition.Acts (running events extent ps) (changes_node change) a → P (running events extent ps) a) where
+  module _ (change : Transition.ListChange) (right : (events : Events) (extent : Extent) (ps : Processes) (a : Reply) → Transition.NodeReplies (running events extent ps) (changes_node change) a → P (running events extent ps) a) where
     -- what is replied by the files of the change
     by_files : (events : Events) (extent : Extent) (ps : Processes) (a : Reply) (f : Option FilesRefusal) → list_after events ≡ Some (list_in n.handler) → change.files (list_in n.handler) ≡ f
-        → Transition.Changes events extent ps change (releases_after events) f (commanded change.event (releases_after events)) a → P (running events extent ps) a
+        → Transition.RepliesToChange events extent ps change (releases_after events) f (commanded change.event (releases_after events)) a → P (running events extent ps) a
     by_files events extent ps a f after is so =
         let here : change.files (releases_after events) ≡ f = ap (λ o. change.files (list_or_none o)) after ∙ is in
-        right events extent ps a (subst (λ g. Transition.Changes events extent ps change (releases_after events) g (commanded change.event (releases_after events)) a) (sym here) so)
+        right events extent ps a (subst (λ g. Transition.RepliesToChange events extent ps change (releases_after events) g (commanded change.event (releases_after events)) a) (sym here) so)
 
     -- The files of the change are refused, and nothing of the node has changed.
     module _ (new : BootedNode D) (kept_on : processes_in new.processes ≡ processes_in n.processes) (same : IsSame n.handler new.handler) (why : FilesRefusal) (is : change.files (list_in n.handler) ≡ Some why) where
-      pub files_refused : (p : Place) → IsAt v (memory.Made n) p → Replied v p (λ a. P p a × (a.answer ≡ refusal_line (refusal_for why))) (memory.Made n) (memory.Made new)
-      files_refused (raw bytes) at = absurd at
-      files_refused (closed s) at = absurd at
+      pub files_refused : (p : DiskState) → IsAt v (memory.Made n) p → Replied v p (λ a. P p a × (a.answer ≡ refusal_line (refusal_for why))) (memory.Made n) (memory.Made new)
+      files_refused (unknown_bytes bytes) at = absurd at
+      files_refused (not_booted s) at = absurd at
       files_refused (dead s) at = never (sym alive ∙ at.1)
       files_refused (running events extent ps) at =
           stays v laws (running events extent ps) (refusal_line (refusal_for why)) _ (memory.Made n) (memory.Made new) at same.disk (same_at v laws n new (running events extent ps) same kept_on at)
           (by_files events extent ps _ (Some why) at.2 is refl, refl)
 
   -- A command changes the node, where the files of the change are not refused.
-  module _ (change : Transition.Change) (right_so : (events : Events) (extent : Extent) (ps : Processes) (a : Reply) → Transition.Acts (running events extent ps) (changes_node change) a → P (running events extent ps) a)
+  module _ (change : Transition.ListChange) (right_so : (events : Events) (extent : Extent) (ps : Processes) (a : Reply) → Transition.NodeReplies (running events extent ps) (changes_node change) a → P (running events extent ps) a)
       (free : change.files (list_in n.handler) ≡ None) (new : BootedNode D) (kept_on : processes_in new.processes ≡ processes_in n.processes)
       (commits : Commits v change.event (change.size (list_in n.handler)) n.handler new.handler) where
     abbrev IsChanged : Events → Processes → Releases → Extent → Reply → Type 0
-    IsChanged events ps list extent a = a ≡ Transition.changed events extent ps change list
+    IsChanged events ps list extent a = a ≡ Transition.reply_to_change events extent ps change list
 
     right : (events : Events) (extent : Extent) (ps : Processes) (a : Reply) → list_after events ≡ Some (list_in n.handler)
         → Transition.IsCommit events extent ps change.event (change.size (releases_after events)) (commanded change.event (releases_after events)) (IsChanged events ps (releases_after events)) a → P (running events extent ps) a
     right events extent ps a after is = by_files change right_so events extent ps a None after free is
 
-    replies_done : is_dead new.handler ≡ false → IsDone v change.event (change.size (list_in n.handler)) n.handler new.handler → (p : Place) → IsAt v (memory.Made n) p
+    replies_done : is_dead new.handler ≡ false → IsDone v change.event (change.size (list_in n.handler)) n.handler new.handler → (p : DiskState) → IsAt v (memory.Made n) p
         → Replied v p (λ a. P p a × (a.answer ≡ Transition.done_line (change.details (list_in n.handler)))) (memory.Made n) (memory.Made new)
-    replies_done works is_done (raw bytes) at = absurd at
-    replies_done works is_done (closed s) at = absurd at
+    replies_done works is_done (unknown_bytes bytes) at = absurd at
+    replies_done works is_done (not_booted s) at = absurd at
     replies_done works is_done (dead s) at = never (sym alive ∙ at.1)
     replies_done works is_done (running events extent ps) (here, living, after, stop, has) =
         let size = change.size (list_in n.handler) in
@@ -149,7 +149,7 @@ module _ {D : Type 0} (v : Device D) (laws : IsDevice v) (P : Place → Reply �
         let grown = list_after-push events change.event (list_in n.handler) (list_in new.handler) after (commanded_step change.event (list_in n.handler) (list_in new.handler) is_done.accepted) in
         let place = runs_at v laws new then x ps works grown refl is_done.acknowledged (commits.sound.started works) (kept_on ∙ has) in
         let reach = reach_at (extent_in n.handler) extent x size (list_in new.handler) (releases_after then) stop (ap list_or_none grown) is_done.reaches in
-        let a = Transition.changed events x ps change (list_in n.handler) in
+        let a = Transition.reply_to_change events x ps change (list_in n.handler) in
         record {
           given = a;
           right = (right_for change.event change.size IsChanged right new kept_on commits events extent ps (Ok (list_in new.handler)) a after is_done.accepted (inl (subst (λ n. HasSpace n size) stop is_done.fits, inl (x, reach, refl))), refl);
@@ -164,5 +164,5 @@ module _ {D : Type 0} (v : Device D) (laws : IsDevice v) (P : Place → Reply �
         answers_line v laws P line result (memory.Made n) (memory.Made new) is (reports v laws P [] line _ (memory.Made n) (memory.Made new) reported (replies_done works is_done))
 
     -- it isn't
-    pub changes_none : ((events : Events) (extent : Extent) (ps : Processes) → P (running events extent ps) (refused no_memory (running events extent ps))) → (e : HandlerError) → CommandRefused v.failures change.event (change.size (list_in n.handler)) n.handler new.handler e → Answers v P (Err (unanswered.Refused e)) (memory.Made n) (memory.Made new)
+    pub changes_none : ((events : Events) (extent : Extent) (ps : Processes) → P (running events extent ps) (refusal_reply no_memory (running events extent ps))) → (e : HandlerError) → CommandRefused v.failures change.event (change.size (list_in n.handler)) n.handler new.handler e → Answers v P (Err (unanswered.Refused e)) (memory.Made n) (memory.Made new)
     changes_none = commits_none change.event change.size IsChanged right new kept_on commits

@@ -9,32 +9,32 @@ use Rattle.rel_list.proofs.BootLaws.{boot_leaves_no_one_shot}
 use Rattle.rel_list.proofs.OneShotLaws.{boots_as_recorded, one_shots_come_from_restarts}
 use Rattle.rel_records.proofs.EventRecords.{recorded-twice}
 use Rattle.rel_records.specs.Image.{image_of}
-use Rattle.node_store.specs.Compaction.{compacted, extent_with, fits_image, is_long, may_be_compacted, MayReach, with_image}
-use Rattle.node_store.specs.Events.{Events, MayHave, at_rest_since}
-use Rattle.node_store.specs.Image.{Extent, extent_behind}
+use Rattle.node_store.specs.Compaction.{compacted_extent, extent_with, fits_image, is_long, may_be_compacted, MayReach, with_image}
+use Rattle.node_store.specs.Events.{Events, MayHoldEvents, at_rest_since}
+use Rattle.node_store.specs.Image.{Extent, extent_after}
 use Rattle.rel_session.specs.Node.{list_or_none, releases_after}
 use Rattle.rel_session.proofs.ListLemmas.{list_after-more}
 
 -- A store that may reach so far, and is as short as a compaction leaves it, reaches as far as after one.
-pub one_reach : (x y : Extent) (es : Releases) → MayReach x es y → y ≡ compacted y es → y ≡ compacted x es
+pub one_reach : (x y : Extent) (es : Releases) → MayReach x es y → y ≡ compacted_extent y es → y ≡ compacted_extent x es
 one_reach x y es (inl is) compact = is
-one_reach x y es (inr (long, same)) compact = compact ∙ ap (λ z. compacted z es) same
+one_reach x y es (inr (long, same)) compact = compact ∙ ap (λ z. compacted_extent z es) same
 
 -- A list with a one-shot is not compacted.
-beside_one_shot : (x : Extent) (es : Releases) → has_one_shot es ≡ true → compacted x es ≡ x
+beside_one_shot : (x : Extent) (es : Releases) → has_one_shot es ≡ true → compacted_extent x es ≡ x
 beside_one_shot x es one = ap (λ b. if not b && is_long x then with_image x (image_of (recorded es)) else x) one
 
 -- so the store after it reaches as far as it may
-pub reach_beside_one_shot : (x y : Extent) (es : Releases) → MayReach x es y → has_one_shot es ≡ true → y ≡ compacted x es
+pub reach_beside_one_shot : (x y : Extent) (es : Releases) → MayReach x es y → has_one_shot es ≡ true → y ≡ compacted_extent x es
 reach_beside_one_shot x y es (inl is) one = is
 reach_beside_one_shot x y es (inr (long, same)) one = same ∙ sym (beside_one_shot x es one)
 
 -- how far a store may reach after a commit, said of the events
-pub reach_at : (old extent new : Extent) (size : ℕ) (list after : Releases) → old ≡ extent → after ≡ list → MayReach (extent_behind old size) list new → MayReach (extent_behind extent size) after new
-reach_at old extent new size list after stop same reach = subst (λ x. MayReach (extent_behind x size) after new) stop (subst (λ l. MayReach (extent_behind old size) l new) (sym same) reach)
+pub reach_at : (old extent new : Extent) (size : ℕ) (list after : Releases) → old ≡ extent → after ≡ list → MayReach (extent_after old size) list new → MayReach (extent_after extent size) after new
+reach_at old extent new size list after stop same reach = subst (λ x. MayReach (extent_after x size) after new) stop (subst (λ l. MayReach (extent_after old size) l new) (sym same) reach)
 
 -- A second compaction finds nothing to do.
-pub compacted_twice : (x : Extent) (es : Releases) → compacted x es ≡ compacted (compacted x es) es
+pub compacted_twice : (x : Extent) (es : Releases) → compacted_extent x es ≡ compacted_extent (compacted_extent x es) es
 compacted_twice x es = by_length (may_be_compacted x es) refl
   where
     and_false : (b : Bool) → (b && false) ≡ false
@@ -42,29 +42,29 @@ compacted_twice x es = by_length (may_be_compacted x es) refl
     and_false false = refl
 
     -- what a compaction leaves as it is, or as short as this
-    stays : compacted x es ≡ x → compacted x es ≡ compacted (compacted x es) es
-    stays same = ap (λ y. compacted y es) (sym same)
+    stays : compacted_extent x es ≡ x → compacted_extent x es ≡ compacted_extent (compacted_extent x es) es
+    stays same = ap (λ y. compacted_extent y es) (sym same)
 
-    shrinks : (n : ℕ) → compacted x es ≡ extent_with x n → compacted x es ≡ compacted (compacted x es) es
+    shrinks : (n : ℕ) → compacted_extent x es ≡ extent_with x n → compacted_extent x es ≡ compacted_extent (compacted_extent x es) es
     shrinks n same =
         let short : may_be_compacted (extent_with x n) es ≡ false = and_false (not (has_one_shot es)) in
-        subst (λ y. y ≡ compacted y es) (sym same) (sym (ap (λ b. if b then with_image (extent_with x n) (image_of (recorded es)) else extent_with x n) short))
+        subst (λ y. y ≡ compacted_extent y es) (sym same) (sym (ap (λ b. if b then with_image (extent_with x n) (image_of (recorded es)) else extent_with x n) short))
 
-    by_fit : (body : List ℕ) → compacted x es ≡ with_image x (Some body) → (b : Bool) → fits_image x (length body) ≡ b → compacted x es ≡ compacted (compacted x es) es
+    by_fit : (body : List ℕ) → compacted_extent x es ≡ with_image x (Some body) → (b : Bool) → fits_image x (length body) ≡ b → compacted_extent x es ≡ compacted_extent (compacted_extent x es) es
     by_fit body is true fits = shrinks (length body) (is ∙ ap (λ b. if b then extent_with x (length body) else x) fits)
     by_fit body is false fits = stays (is ∙ ap (λ b. if b then extent_with x (length body) else x) fits)
 
-    by_image : compacted x es ≡ with_image x (image_of (recorded es)) → (o : Option (List ℕ)) → image_of (recorded es) ≡ o → compacted x es ≡ compacted (compacted x es) es
+    by_image : compacted_extent x es ≡ with_image x (image_of (recorded es)) → (o : Option (List ℕ)) → image_of (recorded es) ≡ o → compacted_extent x es ≡ compacted_extent (compacted_extent x es) es
     by_image is None none = stays (is ∙ ap (with_image x) none)
     by_image is (Some body) some = by_fit body (is ∙ ap (with_image x) some) (fits_image x (length body)) refl
 
-    by_length : (b : Bool) → may_be_compacted x es ≡ b → compacted x es ≡ compacted (compacted x es) es
+    by_length : (b : Bool) → may_be_compacted x es ≡ b → compacted_extent x es ≡ compacted_extent (compacted_extent x es) es
     by_length true long = by_image (ap (λ b. if b then with_image x (image_of (recorded es)) else x) long) (image_of (recorded es)) refl
     by_length false short = stays (ap (λ b. if b then with_image x (image_of (recorded es)) else x) short)
 
 -- The image of a list without a one-shot is that of the list after a boot.
-compacted-booted : (x : Extent) (es : Releases) → has_one_shot es ≡ false → compacted x (booted es) ≡ compacted x es
-compacted-booted x es none =
+compacted_extent-booted : (x : Extent) (es : Releases) → has_one_shot es ≡ false → compacted_extent x (booted es) ≡ compacted_extent x es
+compacted_extent-booted x es none =
     let ones : has_one_shot (booted es) ≡ has_one_shot es = boot_leaves_no_one_shot es ∙ sym none in
     let same : recorded (booted es) ≡ recorded es = ap recorded (boots_as_recorded es none) ∙ recorded-twice es in
     (λ k. if not (ones k) && is_long x then with_image x (image_of (same k)) else x)
@@ -76,8 +76,8 @@ releases-booted events = ap list_or_none (list_after-more events booting) ∙ go
     go None = refl
     go (Some l) = refl
 
-pub booted_reach : (x : Extent) (events : Events) → has_one_shot (releases_after events) ≡ false → compacted x (releases_after (events ++ booting ∷ [])) ≡ compacted x (releases_after events)
-booted_reach x events none = ap (compacted x) (releases-booted events) ∙ compacted-booted x (releases_after events) none
+pub booted_reach : (x : Extent) (events : Events) → has_one_shot (releases_after events) ≡ false → compacted_extent x (releases_after (events ++ booting ∷ [])) ≡ compacted_extent x (releases_after events)
+booted_reach x events none = ap (compacted_extent x) (releases-booted events) ∙ compacted_extent-booted x (releases_after events) none
 
 -- No release is a one-shot after a reboot to an old release.
 pub none_rebooted : (events : Events) (vsn : List ℕ) → has_one_shot (releases_after (events ++ rebooting vsn ∷ [])) ≡ false
@@ -92,7 +92,7 @@ none_rebooted events vsn = ap (λ o. has_one_shot (list_or_none o)) (list_after-
     go (Some l) = behind l (step (rebooting vsn) l) refl
 
 -- a store without an event in doubt has its events, and reaches as far as it does
-pub has_only : (ran events es : Events) (x y : Extent) → MayHave (at_rest_since ran events x) es y → (es ≡ events) × (y ≡ x)
+pub has_only : (ran events es : Events) (x y : Extent) → MayHoldEvents (at_rest_since ran events x) es y → (es ≡ events) × (y ≡ x)
 has_only ran events es x y (since, inl has) = has
 has_only ran events es x y (since, inr (same, inl reaches)) = (same, reaches)
 has_only ran events es x y (since, inr (same, inr reaches)) = (same, reaches)

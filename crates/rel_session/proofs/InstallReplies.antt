@@ -33,8 +33,8 @@ use Rattle.node_upgrade.specs.Running.{start_in, RunRefused}
 use Rattle.node_upgrade.specs.Stale.{stale_modules}
 use Rattle.node_upgrade.specs.Upgrade.{IsNoUpgrade, IsUpgrade, UpgradeForm, site_for}
 use Rattle.node_store.specs.Commits.{Commits, IsDone}
-use Rattle.node_store.specs.Events.{Events, certain, uncertain, settled, IsStoredAs}
-use Rattle.node_store.specs.Image.{Extent, extent_behind, HasSpace}
+use Rattle.node_store.specs.Events.{Events, store_without_doubt, store_with_doubt, log_without_doubt, IsCrashImageOf}
+use Rattle.node_store.specs.Image.{Extent, extent_after, HasSpace}
 use Rattle.node_store.specs.Compaction.{MayReach}
 use Rattle.rel_handler.specs.Installing.{InstallRefused, IsInstalledBy, IsLost, MayBegin, NothingChanged, install_event, install_room, install_size, installation_event, needs_restart}
 use Rattle.node_store.specs.State.{disk_in, list_in, is_dead, extent_in, HasStarted}
@@ -47,12 +47,12 @@ use Rattle.rel_session.specs.declared.unanswered.Unanswered.{Unanswered}
 use Rattle.rel_session.specs.declared.unanswered.Unanswered.TheVariants as unanswered
 use Rattle.node_answer.specs.Lines.{installed_line, installed_text}
 use Rattle.rel_session.specs.Installation.{RunsUnless, Installs, IsInstallationReply, RepliesTo, installed_reply, restarted_reply, upgrade_outcome}
-use Rattle.rel_session.specs.Node.{Place, Reply, refused, failed, behind, releases_after, list_or_none, with_text}
-use Rattle.rel_session.specs.Node.Place.{raw, closed, running, dead}
+use Rattle.rel_session.specs.Node.{DiskState, Reply, refusal_reply, failure_reply, after_commit, releases_after, list_or_none, with_text}
+use Rattle.rel_session.specs.Node.DiskState.{unknown_bytes, not_booted, running, dead}
 use Rattle.rel_session.specs.declared.place.Place.{Place as PlaceInMemory}
 use Rattle.node_answer.specs.Refusals.{NodeRefusal, refusal_of, refusal_line}
 use Rattle.node_answer.specs.Refusals.NodeRefusal.{device, full, script_refused, must_reboot}
-use Rattle.rel_session.specs.Run.{Holds, IsReached}
+use Rattle.rel_session.specs.Run.{DiskIsIn, StandsForPrefix}
 use Rattle.rel_session.specs.Transition.Action.{installs}
 use Rattle.rel_session.proofs.BootsBehind.{boots_behind, boots_unanswered, reaches_there}
 use Rattle.rel_session.proofs.Contradiction.{never}
@@ -94,7 +94,7 @@ module _ {D : Type 0} (v : Device D) (laws : IsDevice v) (vsn : List ℕ) (n new
   abbrev room : ℕ
   room = install_room vsn es
 
-  abbrev Does : Place → Reply → Type 0
+  abbrev Does : DiskState → Reply → Type 0
   Does = ActsOrLacks (installs vsn)
 
   -- what is replied by the list, of these events
@@ -105,9 +105,9 @@ module _ {D : Type 0} (v : Device D) (laws : IsDevice v) (vsn : List ℕ) (n new
       inl (subst (λ l. Installs events extent ps vsn l (installation vsn l) a) (sym of_list) is)
 
   -- at each place where the node may be
-  where_it_runs : (P : Place → Type 0) → ((events : Events) (extent : Extent) → IsAt v (memory.Made n) (running events extent ps) → P (running events extent ps)) → (p : Place) → IsAt v (memory.Made n) p → P p
-  where_it_runs P there (raw bytes) at = absurd at
-  where_it_runs P there (closed s) at = absurd at
+  where_it_runs : (P : DiskState → Type 0) → ((events : Events) (extent : Extent) → IsAt v (memory.Made n) (running events extent ps) → P (running events extent ps)) → (p : DiskState) → IsAt v (memory.Made n) p → P p
+  where_it_runs P there (unknown_bytes bytes) at = absurd at
+  where_it_runs P there (not_booted s) at = absurd at
   where_it_runs P there (running events extent qs) (here, living, after, stop, has) = subst (λ q. P (running events extent q)) has (there events extent (here, living, after, stop, refl))
   where_it_runs P there (dead s) at = never (sym alive ∙ at.1)
 
@@ -116,11 +116,11 @@ module _ {D : Type 0} (v : Device D) (laws : IsDevice v) (vsn : List ℕ) (n new
   ReportsLine line (Ok text) = string_bytes text ≡ line
   ReportsLine line (Err why) = why ≡ unanswered.NoMemory
 
-  abbrev RepliesAt : List ℕ → Place → Type 0
+  abbrev RepliesAt : List ℕ → DiskState → Type 0
   RepliesAt line p = Replied v p (λ a. Does p a × (a.answer ≡ line)) (memory.Made n) (memory.Made new)
 
   abbrev Replies : List ℕ → Type 0
-  Replies line = (p : Place) → IsAt v (memory.Made n) p → RepliesAt line p
+  Replies line = (p : DiskState) → IsAt v (memory.Made n) p → RepliesAt line p
 
   concludes : (line : List ℕ) (result : Result (String Global) Unanswered) → ReportsLine line result → Replies line → Answers v Does result (memory.Made n) (memory.Made new)
   concludes line (Ok text) reported replies = λ p at.
@@ -130,7 +130,7 @@ module _ {D : Type 0} (v : Device D) (laws : IsDevice v) (vsn : List ℕ) (n new
       let r = replies p at in
       inl (record { given = r.given; right = r.right.0; happens = r.happens }))
 
-  moments_at : (events : Events) → list_after events ≡ Some es → LeavesOnly v (disk_in n.handler) (disk_in new.handler) (IsReached (settled events) (e ∷ []))
+  moments_at : (events : Events) → list_after events ≡ Some es → LeavesOnly v (disk_in n.handler) (disk_in new.handler) (StandsForPrefix (log_without_doubt events) (e ∷ []))
   moments_at events after = weakened v (disk_in n.handler) (disk_in new.handler) _ _ (reached_with events (extent_in n.handler) e size) (commits.any_moment alive events after)
 
   -- a script that may begin, and what comes of it on these processes
@@ -173,7 +173,7 @@ module _ {D : Type 0} (v : Device D) (laws : IsDevice v) (vsn : List ℕ) (n new
         (λ j. installed_text (sym by_script.2.other j) (sym by_script.2.descr j) (stale j))
 
     -- what is replied after the commit
-    done_so : (events : Events) (extent : Extent) (a : Reply) → IsAt v (memory.Made n) (running events extent ps) → MayReach (extent_behind extent size) (releases_after (events ++ e ∷ [])) (extent_in new.handler)
+    done_so : (events : Events) (extent : Extent) (a : Reply) → IsAt v (memory.Made n) (running events extent ps) → MayReach (extent_after extent size) (releases_after (events ++ e ∷ [])) (extent_in new.handler)
         → IsInstallationReply (needs_restart vsn es) events (extent_in new.handler) vsn es u.found (behind_run r) a → Does (running events extent ps) a
     done_so events extent a at reach is =
         right_for events extent a at.2 (leads_so u by_script.1 events extent a (ends r) (subst (λ m. HasSpace m room) at.3 fits) carried_out.1 (inl (extent_in new.handler, reach, is)))
@@ -198,7 +198,7 @@ module _ {D : Type 0} (v : Device D) (laws : IsDevice v) (vsn : List ℕ) (n new
               right = (done_so events extent a at reach (subst (λ b. IsInstallationReply b events x vsn es u.found (behind_run r) a) (sym no_restart) refl), line_is);
               at = place;
               happens = record {
-                moments = subst (λ f. LeavesOnly v (disk_in n.handler) (disk_in new.handler) (IsReached (settled events) (f ∷ []))) e_is (moments_at events at.2);
+                moments = subst (λ f. LeavesOnly v (disk_in n.handler) (disk_in new.handler) (StandsForPrefix (log_without_doubt events) (f ∷ []))) e_is (moments_at events at.2);
                 holds = place.0;
                 cause = λ f. never f;
                 counted = commits.counted;
@@ -214,19 +214,19 @@ module _ {D : Type 0} (v : Device D) (laws : IsDevice v) (vsn : List ℕ) (n new
       here_so : (qs : Processes) (P : Processes → Type 0) → processes_in n.processes ≡ qs → P ps → P qs
       here_so qs P has there = subst P has there
 
-      reaches : (events : Events) (extent : Extent) (qs : Processes) → IsAt v (memory.Made n) (running events extent qs) → MayReach (extent_behind extent size) (releases_after (events ++ e ∷ [])) (extent_in new.handler)
+      reaches : (events : Events) (extent : Extent) (qs : Processes) → IsAt v (memory.Made n) (running events extent qs) → MayReach (extent_after extent size) (releases_after (events ++ e ∷ [])) (extent_in new.handler)
       reaches = reaches_there v laws e size n new alive commits is_done gone started
 
       -- the reply with the boot after it
       acts_then : (events : Events) (extent : Extent) (qs : Processes) → IsAt v (memory.Made n) (running events extent qs) → (b : Reply) → BootsStore (store_behind events e (extent_in new.handler)) b
-          → Does (running events extent qs) (with_text (line_of i) (behind e b))
+          → Does (running events extent qs) (with_text (line_of i) (after_commit e b))
       acts_then events extent qs (here, living, after, stop, has) b boot =
           let x = extent_in new.handler in
           let at : IsAt v (memory.Made n) (running events extent ps) = (here, living, after, stop, refl) in
-          let reported : with_text (line_of i) (behind e b) ≡ restarted_reply vsn es u.found (behind_run r) b = (λ j. with_text (sym line_is j) (behind (restart_is j) b)) in
-          let is : IsInstallationReply true events x vsn es u.found (behind_run r) (with_text (line_of i) (behind e b)) = (b, subst (λ f. BootsStore (store_behind events f x) b) restart_is boot, reported) in
-          here_so qs (λ q. Does (running events extent q) (with_text (line_of i) (behind e b))) has
-          (done_so events extent _ at (reaches events extent ps at) (subst (λ c. IsInstallationReply c events x vsn es u.found (behind_run r) (with_text (line_of i) (behind e b))) (sym restart) is))
+          let reported : with_text (line_of i) (after_commit e b) ≡ restarted_reply vsn es u.found (behind_run r) b = (λ j. with_text (sym line_is j) (after_commit (restart_is j) b)) in
+          let is : IsInstallationReply true events x vsn es u.found (behind_run r) (with_text (line_of i) (after_commit e b)) = (b, subst (λ f. BootsStore (store_behind events f x) b) restart_is boot, reported) in
+          here_so qs (λ q. Does (running events extent q) (with_text (line_of i) (after_commit e b))) has
+          (done_so events extent _ at (reaches events extent ps at) (subst (λ c. IsInstallationReply c events x vsn es u.found (behind_run r) (with_text (line_of i) (after_commit e b))) (sym restart) is))
 
       -- the boot was done, or refused
       pub restarts_so : (final : PlaceInMemory D) (boot : Result (String Global) AllocError) (result : Result (String Global) Unanswered) → MatchResult boot (λ text. result ≡ Ok text) (λ _. result ≡ Err unanswered.NoMemory)
@@ -247,10 +247,10 @@ module _ {D : Type 0} (v : Device D) (laws : IsDevice v) (vsn : List ℕ) (n new
       there events extent (here, living, after, stop, has) =
           let (r, comes, behind) =
           script_ends (site_for u ps.modules) n.processes.seat.view n.processes.tree ps.modules u.found.script (listed_in new.processes.loaded) new.processes.tree new.processes.seat.view sound.alone finished in
-          let s = uncertain events extent e size in
-          let a = failed (Some e) (dead s) in
-          let leaves = subst (λ m. LeavesOnly v (disk_in n.handler) (disk_in new.handler) (IsStoredAs (uncertain events m e size))) stop (commits.any_moment alive events after) in
-          let holds : Holds v (dead s) (disk_in new.handler) = λ c now. leaves.each c (laws.counts_now (disk_in new.handler) (v.moment (disk_in n.handler)) c leaves.later now) in
+          let s = store_with_doubt events extent e size in
+          let a = failure_reply (Some e) (dead s) in
+          let leaves = subst (λ m. LeavesOnly v (disk_in n.handler) (disk_in new.handler) (IsCrashImageOf (store_with_doubt events m e size))) stop (commits.any_moment alive events after) in
+          let holds : DiskIsIn v (dead s) (disk_in new.handler) = λ c now. leaves.each c (laws.counts_now (disk_in new.handler) (v.moment (disk_in n.handler)) c leaves.later now) in
           record {
             given = a;
             right = (right_for events extent a after (leads_so u is events extent a (ends r) (subst (λ m. HasSpace m room) stop fits) (comes_to u is (ends r) comes) (inr refl)), refl);
@@ -270,8 +270,8 @@ module _ {D : Type 0} (v : Device D) (laws : IsDevice v) (vsn : List ℕ) (n new
       there : IsBroken (site_for u ps.modules) (start_in (state_in n)) u.found.script f.instr c new.processes.seat.view
           → (events : Events) (extent : Extent) → IsAt v (memory.Made n) (running events extent ps) → RepliesAt (refusal_line (must_reboot (failure_of f))) (running events extent ps)
       there broken events extent (here, living, after, stop, has) =
-          let a = refused (must_reboot (failure f.instr (fails c))) (dead (certain events extent)) in
-          let holds : Holds v (dead (certain events extent)) (disk_in new.handler) = subst (λ d. Holds v (dead (certain events extent)) d) (sym lost.disk) here in
+          let a = refusal_reply (must_reboot (failure f.instr (fails c))) (dead (store_without_doubt events extent)) in
+          let holds : DiskIsIn v (dead (store_without_doubt events extent)) (disk_in new.handler) = subst (λ d. DiskIsIn v (dead (store_without_doubt events extent)) d) (sym lost.disk) here in
           record {
             given = a;
             right = (right_for events extent a after (by_cause (memory_or_not c)), ap (λ g. refusal_line (must_reboot g)) (sym reported));
@@ -287,9 +287,9 @@ module _ {D : Type 0} (v : Device D) (laws : IsDevice v) (vsn : List ℕ) (n new
           fits_there : HasSpace extent room
           fits_there = subst (λ m. HasSpace m room) stop fits
 
-          by_cause : (c ≡ no_memory) ⊎ (c ≢ no_memory) → Installs events extent ps vsn es (installation vsn es) (refused (must_reboot (failure f.instr (fails c))) (dead (certain events extent)))
+          by_cause : (c ≡ no_memory) ⊎ (c ≢ no_memory) → Installs events extent ps vsn es (installation vsn es) (refusal_reply (must_reboot (failure f.instr (fails c))) (dead (store_without_doubt events extent)))
           by_cause (inl memory) =
-              begins_so u is events extent _ (inl (fits_there, inr (f.instr, (broken.front, broken.instruction, broken.at, broken.late), ap (λ d. refused (must_reboot (failure f.instr (fails d))) (dead (certain events extent))) memory)))
+              begins_so u is events extent _ (inl (fits_there, inr (f.instr, (broken.front, broken.instruction, broken.at, broken.late), ap (λ d. refusal_reply (must_reboot (failure f.instr (fails d))) (dead (store_without_doubt events extent))) memory)))
           by_cause (inr known) =
               let comes = script_breaks (site_for u ps.modules) n.processes.seat.view n.processes.tree ps.modules u.found.script f.instr c new.processes.seat.view sound.alone known broken in
               leads_so u is events extent _ (breaks f.instr c) fits_there (comes_to u is (breaks f.instr c) comes) refl
@@ -302,7 +302,7 @@ module _ {D : Type 0} (v : Device D) (laws : IsDevice v) (vsn : List ℕ) (n new
         let values = untouched_values n.processes.seat.view new.processes.seat.view sound.alone untouched.view in
         (λ j. record { values = values j; apps = untouched.apps j; modules = untouched.modules j })
 
-    same_replies : (why : NodeRefusal) → ((events : Events) (extent : Extent) → extent_in n.handler ≡ extent → Installs events extent ps vsn es (installation vsn es) (refused why (running events extent ps))) → Replies (refusal_line why)
+    same_replies : (why : NodeRefusal) → ((events : Events) (extent : Extent) → extent_in n.handler ≡ extent → Installs events extent ps vsn es (installation vsn es) (refusal_reply why (running events extent ps))) → Replies (refusal_line why)
     same_replies why right = where_it_runs (RepliesAt (refusal_line why)) there
       where
         there : (events : Events) (extent : Extent) → IsAt v (memory.Made n) (running events extent ps) → RepliesAt (refusal_line why) (running events extent ps)
@@ -311,7 +311,7 @@ module _ {D : Type 0} (v : Device D) (laws : IsDevice v) (vsn : List ℕ) (n new
             (right_for events extent _ at.2 (right events extent at.3), refl)
 
     by_list : (why : HandlerError) → installation vsn es ≡ Err why → Answers v Does (Err (unanswered.Refused why)) (memory.Made n) (memory.Made new)
-    by_list why found p at = same_replies (refusal_of why) (λ events extent stop. subst (λ o. Installs events extent ps vsn es o (refused (refusal_of why) (running events extent ps))) (sym found) refl) p at
+    by_list why found p at = same_replies (refusal_of why) (λ events extent stop. subst (λ o. Installs events extent ps vsn es o (refusal_reply (refusal_of why) (running events extent ps))) (sym found) refl) p at
 
     full_replies : (u : UpgradeForm) → IsUpgrade vsn es u → (HasSpace (extent_in n.handler) room → ⊥) → Replies (refusal_line full)
     full_replies u is over = same_replies full (λ events extent stop. begins_so u is events extent _ (inr (subst (λ m. HasSpace m room → ⊥) stop over, refl)))
@@ -320,8 +320,8 @@ module _ {D : Type 0} (v : Device D) (laws : IsDevice v) (vsn : List ℕ) (n new
     not_begun : (f : ScriptFailure) → IsNoUpgrade vsn es (install_error.Refused f) → Replies (refusal_line (script_refused (failure_of f)))
     not_begun f (found, is, why) =
         same_replies (script_refused (failure_of f)) (λ events extent stop.
-        subst (λ o. Installs events extent ps vsn es o (refused (script_refused (failure_of f)) (running events extent ps))) (sym is)
-        (subst (λ o. RunsUnless events extent ps vsn es found o (refused (script_refused (failure_of f)) (running events extent ps))) (sym why) refl))
+        subst (λ o. Installs events extent ps vsn es o (refusal_reply (script_refused (failure_of f)) (running events extent ps))) (sym is)
+        (subst (λ o. RunsUnless events extent ps vsn es found o (refusal_reply (script_refused (failure_of f)) (running events extent ps))) (sym why) refl))
 
     -- an instruction before the point fails
     turned_back : (f : ScriptFailure) (u : UpgradeForm) → MayBegin vsn n.handler u → RunRefused u (state_in n) (state_in new) (install_error.Refused f) → Replies (refusal_line (script_refused (failure_of f)))
@@ -329,7 +329,7 @@ module _ {D : Type 0} (v : Device D) (laws : IsDevice v) (vsn : List ℕ) (n new
         let comes = script_refuses (site_for u ps.modules) n.processes.seat.view n.processes.tree ps.modules u.found.script f.instr c new.processes.seat.view sound.alone known refused_so in
         same_replies (script_refused (failure_of f)) (λ events extent stop.
         leads_so u is events extent _ (refuses f.instr c) (subst (λ m. HasSpace m room) stop fits) (comes_to u is (refuses f.instr c) comes)
-        (ap (λ g. refused (script_refused g) (running events extent ps)) reported))
+        (ap (λ g. refusal_reply (script_refused g) (running events extent ps)) reported))
 
   -- what the handler refused
   command_refused : (why : HandlerError) → InstallRefused v.failures vsn n.handler new.handler (state_in n) (state_in new) (install_error.Command why) → Answers v Does (Err (unanswered.Refused why)) (memory.Made n) (memory.Made new)

@@ -14,7 +14,7 @@ use Rattle.rel_session.specs.declared.place.Place.TheVariants as memory
 use Rattle.session_input.specs.Commands.{Command, commands_of}
 use Rattle.session_input.specs.Commands.Command.{quit}
 use Rattle.rel_session.specs.Device.{Device}
-use Rattle.rel_session.specs.Session.{AllowsItsAnswers, AreCommands, IsSession, bytes_followed, ending_of}
+use Rattle.rel_session.specs.Session.{AllowsTrueAnswersOnly, AreCommands, IsSession, bytes_followed, ending_of}
 use Rattle.session_input.specs.Feed.{Feed, Gives, EndsAs, IsNext, bytes_within}
 use Rattle.session_input.specs.Feed.Feed.{over, cut, next}
 use Rattle.rel_unpack.specs.Source.{Source}
@@ -23,11 +23,11 @@ use Rattle.rel_session.specs.InMemory.{IsAt, Leads, NothingDone, FollowsCommand,
 use Rattle.session_input.specs.Input.{IsFresh, KnowsEnd, HasCause, commands_left, failed_reads, taken, reached, most_bytes}
 use Rattle.counted_io.specs.Failures.{HasRisen, Reports}
 use Rattle.session_input.specs.Lines.{lines_of}
-use Rattle.rel_session.specs.Node.{Place, Reply}
-use Rattle.rel_session.specs.Node.Place.{raw, closed, running, dead}
+use Rattle.rel_session.specs.Node.{DiskState, Reply}
+use Rattle.rel_session.specs.Node.DiskState.{unknown_bytes, not_booted, running, dead}
 use Rattle.counted_io.specs.Prefixes.{AppendsPrefix}
 use Rattle.rel_session.specs.Output.{MayAdd, Writes}
-use Rattle.rel_session.specs.Run.{Starts, Executes, Replies, Ending, IsTextOf, IsRun, answers_of, commands_within}
+use Rattle.rel_session.specs.Run.{Starts, CommandsRun, AreReplies, Ending, IsTextOf, IsRun, answers_of, commands_within}
 use Rattle.rel_session.specs.Run.Ending.{ended, cut_off, unread, unwritten, out_of_memory, going_on}
 use Rattle.rel_session.specs.Transition.{Transition}
 use Rattle.rel_session.proofs.DeviceLemmas.{IsDevice, still}
@@ -87,22 +87,22 @@ are_all None most commands left = tt
 are_all (Some input) most commands left = left
 
 -- a reply to the first of these commands
-pub replies_next : (base : Source) (files : Files) (p : Place) (c : Command) (rest : Feed Command) (ending : Ending) (a : Reply) (more : List Reply) → Transition (source_of base files) p c a
-    → Replies base (files_behind files c) a.after rest ending more → Replies base files p (next c rest) ending (a ∷ more)
+pub replies_next : (base : Source) (files : Files) (p : DiskState) (c : Command) (rest : Feed Command) (ending : Ending) (a : Reply) (more : List Reply) → Transition (source_of base files) p c a
+    → AreReplies base (files_behind files c) a.after rest ending more → AreReplies base files p (next c rest) ending (a ∷ more)
 replies_next base files p c rest ending a more is right = (is, right)
 
 -- none of them has one
-replies_yet : (base : Source) (files : Files) (p : Place) (commands : Feed Command) → Replies base files p commands going_on []
+replies_yet : (base : Source) (files : Files) (p : DiskState) (commands : Feed Command) → AreReplies base files p commands going_on []
 replies_yet base files p over = tt
 replies_yet base files p cut = tt
 replies_yet base files p (next c rest) = tt
 
-replies_unwritten : (base : Source) (files : Files) (p : Place) (commands : Feed Command) → Replies base files p commands unwritten []
+replies_unwritten : (base : Source) (files : Files) (p : DiskState) (commands : Feed Command) → AreReplies base files p commands unwritten []
 replies_unwritten base files p over = tt
 replies_unwritten base files p cut = tt
 replies_unwritten base files p (next c rest) = tt
 
-replies_none : (base : Source) (files : Files) (p : Place) (commands : Feed Command) → Replies base files p commands out_of_memory []
+replies_none : (base : Source) (files : Files) (p : DiskState) (commands : Feed Command) → AreReplies base files p commands out_of_memory []
 replies_none base files p over = tt
 replies_none base files p cut = tt
 replies_none base files p (next c rest) = tt
@@ -130,28 +130,28 @@ at_limit j n is le full = by_end j.ahead.is_over is
 module _ {D : Type 0} (v : Device D) (base : Source) where
   -- Where the node stands, what was written, and how a run of the commands that are left completes that of all, wherever from
   -- here on the reading may stop.
-  pub record Reached (start : Place) (all left : ℕ → Option (Feed Command)) (upto : ℕ) (disk : D) (node : SessionNode D) (old now : Option (List ℕ)) : Type 0 where
-    pub here : Place
+  pub record Reached (start : DiskState) (all left : ℕ → Option (Feed Command)) (upto : ℕ) (disk : D) (node : SessionNode D) (old now : Option (List ℕ)) : Type 0 where
+    pub here : DiskState
     pub at : IsAt v node.place here
     pub written : List ℕ
     pub appended : Appends old now written
     pub completes : (ending : Ending) (most : ℕ) (rest : Feed Command) (replies : List Reply) (new : D) (text : List ℕ) → upto ≤ most → AreLeft (left most) rest
-        → Replies base (files_of node.files) here rest ending replies → Executes v here replies (disk_of node) new → IsTextOf ending replies text
+        → AreReplies base (files_of node.files) here rest ending replies → CommandsRun v here replies (disk_of node) new → IsTextOf ending replies text
         → (commands : Feed Command) × AreLeft (all most) commands × IsRun v base no_files start commands ending disk new (written ++ text)
 
   abbrev pub Goes : (ℕ → Option (Feed Command)) → (ℕ → Option (Feed Command)) → ℕ → D → SessionNode D → Option (List ℕ) → Option (List ℕ) → Type 0
-  Goes all left upto disk node old now = (start : Place) → Starts v start disk → Reached start all left upto disk node old now
+  Goes all left upto disk node old now = (start : DiskState) → Starts v start disk → Reached start all left upto disk node old now
 
   -- A session has ended so, if so many bytes are read at most, on this disk, and this was written.
   abbrev pub EndsSo : (ℕ → Option (Feed Command)) → Ending → ℕ → D → D → Option (List ℕ) → Option (List ℕ) → Type 0
   EndsSo all ending most disk final old now =
-      (start : Place) → Starts v start disk
+      (start : DiskState) → Starts v start disk
       → (commands : Feed Command) × AreLeft (all most) commands × Writes old now (λ text. IsRun v base no_files start commands ending disk final text)
 
 module _ {D : Type 0} (v : Device D) (laws : IsDevice v) (base : Source) where
-  starts_at : (start : Place) (disk : D) → Starts v start disk → IsAt v (memory.Idle disk) start
-  starts_at (raw bytes) disk starts = starts
-  starts_at (closed s) disk starts = starts
+  starts_at : (start : DiskState) (disk : D) → Starts v start disk → IsAt v (memory.Idle disk) start
+  starts_at (unknown_bytes bytes) disk starts = starts
+  starts_at (not_booted s) disk starts = starts
   starts_at (running events extent ps) disk starts = absurd starts
   starts_at (dead s) disk starts = absurd starts
 
@@ -168,15 +168,15 @@ module _ {D : Type 0} (v : Device D) (laws : IsDevice v) (base : Source) where
       subst (λ l. AreLeft l rest) (same most) are,
       record {
         replies = replies;
-        right = subst (λ fs. Replies base fs start rest ending replies) files right;
-        leads = subst (λ d. Executes v start replies d new) (ap disk_at place) leads;
+        right = subst (λ fs. AreReplies base fs start rest ending replies) files right;
+        leads = subst (λ d. CommandsRun v start replies d new) (ap disk_at place) leads;
         written = written;
       },
     );
   }
 
   -- calls that leave nothing new
-  nothing_more : (p : Place) (node : SessionNode D) → IsAt v node.place p → Executes v p [] (disk_of node) (disk_of node)
+  nothing_more : (p : DiskState) (node : SessionNode D) → IsAt v node.place p → CommandsRun v p [] (disk_of node) (disk_of node)
   nothing_more p node at = (still v laws (disk_of node), held v laws node.place p at, omega arith)
 
   module _ (all now new : ℕ → Option (Feed Command)) (upto further : ℕ) (before : upto ≤ further) (disk : D) (node : SessionNode D) (old mid : Option (List ℕ)) (goes : Goes v base all now upto disk node old mid) where
@@ -197,14 +197,14 @@ module _ {D : Type 0} (v : Device D) (laws : IsDevice v) (base : Source) where
           appended = Appends-twice old mid mid' r.written (string_bytes text) r.appended appended;
           completes = λ ending most rest replies final more le are right leads written.
               let whole = r.completes ending most (next c rest) (a.given ∷ replies) final (a.given.answer ++ more) (omega arith) (are_next (now most) (new most) c rest (gives most le) are)
-              (replies_next base (files_of node.files) r.here c rest ending a.given replies a.right.0 (subst (λ fs. Replies base fs a.given.after rest ending replies) files right))
+              (replies_next base (files_of node.files) r.here c rest ending a.given replies a.right.0 (subst (λ fs. AreReplies base fs a.given.after rest ending replies) files right))
               (disk_of later, a.happens, leads) (written_next ending a.given replies more written) in
               let same : r.written ++ (a.given.answer ++ more) ≡ (r.written ++ string_bytes text) ++ more = ap (λ (l : List ℕ). r.written ++ (l ++ more)) a.right.1 ∙ sym (append_assoc r.written (string_bytes text) more) in
               (whole.0, whole.1, subst (λ t. IsRun v base no_files start whole.0 ending disk final t) same whole.2);
         }
 
     -- the session ended there
-    ends_with : (ending : Ending) (most : ℕ) (rest : Feed Command) (final : D) → upto ≤ most → AreLeft (now most) rest → final ≡ disk_of node → ((files : Files) (p : Place) → Replies base files p rest ending []) → IsTextOf ending [] []
+    ends_with : (ending : Ending) (most : ℕ) (rest : Feed Command) (final : D) → upto ≤ most → AreLeft (now most) rest → final ≡ disk_of node → ((files : Files) (p : DiskState) → AreReplies base files p rest ending []) → IsTextOf ending [] []
         → EndsSo v base all ending most disk final old mid
     ends_with ending most rest final le are is right written start starts =
         let r = goes start starts in
@@ -285,7 +285,7 @@ module _ {D : Type 0} (v : Device D) (laws : IsDevice v) (base : Source) where
   pub may_write : (known : Option (List ℕ)) (now new : ℕ → Option (Feed Command)) (upto further : ℕ) (disk : D) (node : SessionNode D) (old mid : Option (List ℕ)) → upto ≤ further → further ≤ most_bytes
       → Goes v base (within known) now upto disk node old mid
       → (c : Command) (text : String Global) (later : SessionNode D) → ((most : ℕ) → further ≤ most → Gives (now most) (new most) (λ d. c ≡ d)) → FollowsCommand v base c (Ok (Some text)) node later
-      → (Allowed : D → Option (List ℕ) → Type 0) → AllowsItsAnswers v base known disk old Allowed → MayAdd (Allowed (disk_of later)) mid (string_bytes text)
+      → (Allowed : D → Option (List ℕ) → Type 0) → AllowsTrueAnswersOnly v base known disk old Allowed → MayAdd (Allowed (disk_of later)) mid (string_bytes text)
   may_write known now new upto further disk node old mid before bound goes c text later gives follows Allowed allowed added appended =
       let behind = goes_on (within known) now new upto further before disk node old mid goes c text later added gives follows appended in
       allowed (disk_of later) added (sessions known going_on most_bytes disk (disk_of later) old added (stands (within known) new new further further (omega arith) disk later old added behind most_bytes (disk_of later) bound refl))

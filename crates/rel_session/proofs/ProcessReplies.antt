@@ -16,30 +16,30 @@ use Rattle.rel_session.specs.declared.booted_node.BootedNode.{BootedNode}
 use Rattle.rel_session.specs.declared.place.Place.TheVariants as memory
 use Rattle.rel_session.specs.Device.{Device}
 use Rattle.rel_session.specs.InMemory.{IsAt, Replied, NothingDone, Answers}
-use Rattle.rel_session.specs.Node.{Place, Reply, list_or_none, releases_after, reply, nothing}
-use Rattle.rel_session.specs.Node.Place.{raw, closed, running, dead}
-use Rattle.rel_session.specs.Run.{Moments}
+use Rattle.rel_session.specs.Node.{DiskState, Reply, list_or_none, releases_after, reply, no_outcome}
+use Rattle.rel_session.specs.Node.DiskState.{unknown_bytes, not_booted, running, dead}
+use Rattle.rel_session.specs.Run.{CrashSafeDuring}
 use Rattle.rel_session.proofs.DeviceLemmas.{IsDevice, still}
 use Rattle.rel_session.proofs.Replies.{moments_of_nothing}
 
 -- The processes alone change, by a command that says this of the releases and of them, and leaves these.
-module _ {D : Type 0} (v : Device D) (laws : IsDevice v) (P : Place → Reply → Type 0) (says : Releases → Processes → List ℕ) (leaves : Processes → Processes)
-    (right : (events : Events) (extent : Extent) (ps : Processes) → P (running events extent ps) (reply (says (releases_after events) ps) nothing (running events extent (leaves ps))))
+module _ {D : Type 0} (v : Device D) (laws : IsDevice v) (P : DiskState → Reply → Type 0) (says : Releases → Processes → List ℕ) (leaves : Processes → Processes)
+    (right : (events : Events) (extent : Extent) (ps : Processes) → P (running events extent ps) (reply (says (releases_after events) ps) no_outcome (running events extent (leaves ps))))
     (n new : BootedNode D) (alive : is_dead n.handler ≡ false) (same : new.handler ≡ n.handler) where
-  replies : processes_in new.processes ≡ leaves (processes_in n.processes) → (p : Place) → IsAt v (memory.Made n) p → Replied v p (λ a. P p a × (a.answer ≡ says (list_in n.handler) (processes_in n.processes))) (memory.Made n) (memory.Made new)
-  replies left (raw bytes) at = absurd at
-  replies left (closed s) at = absurd at
+  replies : processes_in new.processes ≡ leaves (processes_in n.processes) → (p : DiskState) → IsAt v (memory.Made n) p → Replied v p (λ a. P p a × (a.answer ≡ says (list_in n.handler) (processes_in n.processes))) (memory.Made n) (memory.Made new)
+  replies left (unknown_bytes bytes) at = absurd at
+  replies left (not_booted s) at = absurd at
   replies left (dead s) at = never (sym alive ∙ at.1)
   replies left (running events extent ps) (here, living, after, stop, has) =
       let then : IsAt v (memory.Made new) (running events extent (leaves ps)) =
       subst (λ h. IsAt v (memory.Made (record { handler = h; processes = new.processes })) (running events extent (leaves ps))) (sym same) (here, living, after, stop, left ∙ ap leaves has) in
       let disk : disk_in new.handler ≡ disk_in n.handler = ap disk_in same in
       record {
-        given = reply (says (releases_after events) ps) nothing (running events extent (leaves ps));
+        given = reply (says (releases_after events) ps) no_outcome (running events extent (leaves ps));
         right = (right events extent ps, ap (λ o. says (list_or_none o) ps) after ∙ ap (says (list_in n.handler)) (sym has));
         at = then;
         happens = record {
-          moments = subst (λ d. Moments v (running events extent ps) nothing (disk_in n.handler) d) (sym disk) (moments_of_nothing v laws (running events extent ps) (disk_in n.handler) (disk_in n.handler) here (still v laws (disk_in n.handler)));
+          moments = subst (λ d. CrashSafeDuring v (running events extent ps) no_outcome (disk_in n.handler) d) (sym disk) (moments_of_nothing v laws (running events extent ps) (disk_in n.handler) (disk_in n.handler) here (still v laws (disk_in n.handler)));
           holds = then.0;
           cause = λ e. never e;
           counted = subst (λ d. v.failures (disk_in n.handler) ≤ v.failures d) (sym disk) (omega arith);
@@ -47,9 +47,9 @@ module _ {D : Type 0} (v : Device D) (laws : IsDevice v) (P : Place → Reply �
       }
 
   -- nothing is written, whatever becomes of the processes
-  writes_nothing : (p : Place) → IsAt v (memory.Made n) p → NothingDone v p (memory.Made n) (memory.Made new)
-  writes_nothing (raw bytes) at = absurd at
-  writes_nothing (closed s) at = absurd at
+  writes_nothing : (p : DiskState) → IsAt v (memory.Made n) p → NothingDone v p (memory.Made n) (memory.Made new)
+  writes_nothing (unknown_bytes bytes) at = absurd at
+  writes_nothing (not_booted s) at = absurd at
   writes_nothing (dead s) at = never (sym alive ∙ at.1)
   writes_nothing (running events extent ps) at =
       subst (λ h. NothingDone v (running events extent ps) (memory.Made n) (memory.Made (record { handler = h; processes = new.processes }))) (sym same)

@@ -13,10 +13,10 @@ use Rattle.rel_unpack.specs.declared.error.UnpackError.{UnpackError}
 use Rattle.rel_unpack.specs.declared.error.UnpackError.TheVariants as unpack
 use Rattle.session_input.specs.Commands.Command.{create, set_unpacked}
 use Rattle.node_processes.specs.Processes.{Processes}
-use Rattle.rel_session.specs.Node.{Place, nothing, refused, reply}
-use Rattle.rel_session.specs.Node.Place.{running}
+use Rattle.rel_session.specs.Node.{DiskState, no_outcome, refusal_reply, reply}
+use Rattle.rel_session.specs.Node.DiskState.{running}
 use Rattle.node_answer.specs.Refusals.{NodeRefusal, refusal_of, refusal_for}
-use Rattle.rel_session.specs.Transition.{Transition, creation, memory_line, memory_report_at, unpacking}
+use Rattle.rel_session.specs.Transition.{Transition, creation, memory_line, memory_report_at, unpack_action}
 use Rattle.rel_session.specs.Transition.Action.{answers}
 
 -- memory was refused, or it was something else
@@ -58,21 +58,21 @@ pub files_refuse : (source : Source) (path : List ℕ) (e : HandlerError) → Is
 files_refuse source path e of known =
     (of_files.refusal_of of.error, of.read (λ is. known (of.reported ∙ ap reported_files is)), ap refusal_of of.reported ∙ reported_alike of.error)
 
-pub creation_refused : (source : Source) (path : List ℕ) (why : NodeRefusal) (p : Place) → IsFilesRefusal source path why → Transition source p (create path) (refused why p)
-creation_refused source path why p (r, found, is) = (creation (Err r), inl (Err r, found, refl), ap (λ w. refused w p) is)
+pub creation_refused : (source : Source) (path : List ℕ) (why : NodeRefusal) (p : DiskState) → IsFilesRefusal source path why → Transition source p (create path) (refusal_reply why p)
+creation_refused source path why p (r, found, is) = (creation (Err r), inl (Err r, found, refl), ap (λ w. refusal_reply w p) is)
 
-pub unpacking_refused : (source : Source) (path : List ℕ) (why : NodeRefusal) (events : Events) (extent : Extent) (ps : Processes) → IsFilesRefusal source path why → Transition source (running events extent ps) (set_unpacked path) (refused why (running events extent ps))
-unpacking_refused source path why events extent ps (r, found, is) = (unpacking (Err r), inl (Err r, found, refl), ap (λ w. refused w (running events extent ps)) is)
+pub unpacking_refused : (source : Source) (path : List ℕ) (why : NodeRefusal) (events : Events) (extent : Extent) (ps : Processes) → IsFilesRefusal source path why → Transition source (running events extent ps) (set_unpacked path) (refusal_reply why (running events extent ps))
+unpacking_refused source path why events extent ps (r, found, is) = (unpack_action (Err r), inl (Err r, found, refl), ap (λ w. refusal_reply w (running events extent ps)) is)
 
 -- memory was refused to the call of a command, which reports it
-pub lacks_memory : (source : Source) (p : Place) (c : Command) (line : List ℕ) → memory_report_at p c ≡ Some line → Transition source p c (reply line nothing p)
+pub lacks_memory : (source : Source) (p : DiskState) (c : Command) (line : List ℕ) → memory_report_at p c ≡ Some line → Transition source p c (reply line no_outcome p)
 lacks_memory source p c line reports = (answers line, inr (line, reports, refl), refl)
 
 -- A release is refused for its file, or memory was refused to it.
-pub refused_or_lacks : (source : Source) (p : Place) (c : Command) (path : List ℕ) → memory_report_at p c ≡ Some memory_line → (why : HandlerError) → IsOfFiles source path why
-    → (IsFilesRefusal source path (refusal_of why) → Transition source p c (refused (refusal_of why) p)) → Transition source p c (refused (refusal_of why) p)
+pub refused_or_lacks : (source : Source) (p : DiskState) (c : Command) (path : List ℕ) → memory_report_at p c ≡ Some memory_line → (why : HandlerError) → IsOfFiles source path why
+    → (IsFilesRefusal source path (refusal_of why) → Transition source p c (refusal_reply (refusal_of why) p)) → Transition source p c (refusal_reply (refusal_of why) p)
 refused_or_lacks source p c path reports why of right = go (memory_or_not why)
   where
-    go : (why ≡ NoMemory) ⊎ (why ≢ NoMemory) → Transition source p c (refused (refusal_of why) p)
-    go (inl memory) = subst (λ w. Transition source p c (refused (refusal_of w) p)) (sym memory) (lacks_memory source p c memory_line reports)
+    go : (why ≡ NoMemory) ⊎ (why ≢ NoMemory) → Transition source p c (refusal_reply (refusal_of why) p)
+    go (inl memory) = subst (λ w. Transition source p c (refusal_reply (refusal_of w) p)) (sym memory) (lacks_memory source p c memory_line reports)
     go (inr known) = right (files_refuse source path why of known)

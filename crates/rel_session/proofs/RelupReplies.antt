@@ -15,7 +15,7 @@ use Rattle.session_input.specs.Commands.Command.{relup}
 use Rattle.rel_session.specs.declared.place.Place.{Place as PlaceInMemory}
 use Rattle.rel_session.specs.Device.{Device}
 use Rattle.rel_session.specs.InMemory.{IsAt, Replied, Answers, ReportsRelup}
-use Rattle.rel_session.specs.Node.{Place, Reply, nothing, reply}
+use Rattle.rel_session.specs.Node.{DiskState, Reply, no_outcome, reply}
 use Rattle.node_answer.specs.Refusals.{refusal_for, refusal_line, refusal_of}
 use Rattle.rel_session.specs.Transition.{Transition, relup_memory_line, relup_telling}
 use Rattle.rel_session.proofs.DeviceLemmas.{IsDevice}
@@ -23,7 +23,7 @@ use Rattle.rel_session.proofs.ReleaseLemmas.{lacks_memory}
 use Rattle.rel_session.proofs.Replies.{changes_no_memory, stays}
 
 module _ {D : Type 0} (v : Device D) (laws : IsDevice v) (place : PlaceInMemory D) (source : Source) (new : List ℕ) (ups downs : List (List ℕ)) where
-  abbrev RepliesTo : Place → Reply → Type 0
+  abbrev RepliesTo : DiskState → Reply → Type 0
   RepliesTo p a = Transition source p (relup new ups downs) a
 
   answered : (text : String Global) → AnswerAt source new ups downs (Ok (string_bytes text)) → Answers v RepliesTo (Ok text) place place
@@ -32,7 +32,7 @@ module _ {D : Type 0} (v : Device D) (laws : IsDevice v) (place : PlaceInMemory 
       ((relup_telling (Ok (string_bytes text)), inl (Ok (string_bytes text), there, refl), refl), refl)
 
   -- a file isn't taken
-  refused_for : (why : UnpackError) → AnswerAt source new ups downs (Err (files_refusal why)) → (p : Place) → IsAt v place p
+  refused_for : (why : UnpackError) → AnswerAt source new ups downs (Err (files_refusal why)) → (p : DiskState) → IsAt v place p
       → Replied v p (λ a. RepliesTo p a × (a.answer ≡ refusal_line (refusal_for (files_refusal why)))) place place
   refused_for why there p at =
       let answer = refusal_line (refusal_for (files_refusal why)) in
@@ -43,11 +43,11 @@ module _ {D : Type 0} (v : Device D) (laws : IsDevice v) (place : PlaceInMemory 
   lacking : (r : Result (String Global) Unanswered) → ReportsRelup (Err NoMemory) r → Answers v RepliesTo r place place
   lacking (Ok text) is = λ p at.
       stays v laws p (string_bytes text) (λ a. RepliesTo p a × (a.answer ≡ string_bytes text)) place place at refl at
-      (subst (λ t. RepliesTo p (reply t nothing p)) (sym is) (lacks_memory source p (relup new ups downs) relup_memory_line refl), refl)
+      (subst (λ t. RepliesTo p (reply t no_outcome p)) (sym is) (lacks_memory source p (relup new ups downs) relup_memory_line refl), refl)
   lacking (Err why) is = subst (λ w. Answers v RepliesTo (Err w) place place) (sym is) (changes_no_memory v laws RepliesTo place)
 
   reported_so : (r : Result (String Global) Unanswered) (why : UnpackError) → r ≡ Err (unanswered.Refused (reported_files why))
-      → ((p : Place) → IsAt v place p → Replied v p (λ a. RepliesTo p a × (a.answer ≡ refusal_line (refusal_of (reported_files why)))) place place) → Answers v RepliesTo r place place
+      → ((p : DiskState) → IsAt v place p → Replied v p (λ a. RepliesTo p a × (a.answer ≡ refusal_line (refusal_of (reported_files why)))) place place) → Answers v RepliesTo r place place
   reported_so r why is there = subst (λ q. Answers v RepliesTo q place place) (sym is) there
 
   refused : (why : UnpackError) → (why ≢ NoMemory → AnswerAt source new ups downs (Err (files_refusal why))) → (r : Result (String Global) Unanswered) → ReportsRelup (Err why) r → Answers v RepliesTo r place place

@@ -20,10 +20,10 @@ use Rattle.rel_session.specs.Files.{Files, files_of, files_behind, give, source_
 use Rattle.rel_session.specs.InMemory.{ActsOrLacks, IsAt, Replied, Leads, Answers, AnswersAsked, AnswersReported, AnswersAction, AnswersCommand, AsksNode, FollowsCommand, IsLine, IsText}
 use Rattle.node_store.specs.Events.{Events}
 use Rattle.node_store.specs.Image.{Extent}
-use Rattle.rel_session.specs.Node.{Place, Reply, reply, nothing}
-use Rattle.rel_session.specs.Node.Place.{raw, closed, running, dead}
+use Rattle.rel_session.specs.Node.{DiskState, Reply, reply, no_outcome}
+use Rattle.rel_session.specs.Node.DiskState.{unknown_bytes, not_booted, running, dead}
 use Rattle.rel_list.specs.Releases.{Releases}
-use Rattle.rel_session.specs.Transition.{Action, ComesTo, Acts, asked, memory_line, memory_report_at, reported as reported_by_node, Transition}
+use Rattle.rel_session.specs.Transition.{Action, MeansAction, NodeReplies, processes_answer, memory_line, memory_report_at, answer_of_node, Transition}
 use Rattle.rel_session.specs.Transition.Action.{answers}
 use Rattle.rel_session.proofs.DeviceLemmas.{IsDevice}
 use Rattle.rel_session.proofs.ReleaseLemmas.{lacks_memory}
@@ -32,14 +32,14 @@ use Rattle.rel_session.proofs.Replies.{stays, leaves_all, changes_no_memory}
 module _ {D : Type 0} (v : Device D) where
   module _ (old new : PlaceInMemory D) where
     -- a reply of which this holds too
-    replied_so : (p : Place) (P Q : Reply → Type 0) → ((a : Reply) → P a → Q a) → Replied v p P old new → Replied v p Q old new
+    replied_so : (p : DiskState) (P Q : Reply → Type 0) → ((a : Reply) → P a → Q a) → Replied v p P old new → Replied v p Q old new
     replied_so p P Q implies r = record { given = r.given; right = implies r.given r.right; at = r.at; happens = r.happens }
 
-    leads_so : (p : Place) (P Q : Reply → Type 0) → ((a : Reply) → P a → Q a) → Replied v p P old new → Leads v p Q old new
+    leads_so : (p : DiskState) (P Q : Reply → Type 0) → ((a : Reply) → P a → Q a) → Replied v p P old new → Leads v p Q old new
     leads_so p P Q implies r = record { given = r.given; right = implies r.given r.right; happens = r.happens }
 
     -- What was answered by these replies was answered by those.
-    answers_so : (P Q : Place → Reply → Type 0) → ((p : Place) (a : Reply) → P p a → Q p a) → (r : Result (String Global) Unanswered) → Answers v P r old new → Answers v Q r old new
+    answers_so : (P Q : DiskState → Reply → Type 0) → ((p : DiskState) (a : Reply) → P p a → Q p a) → (r : Result (String Global) Unanswered) → Answers v P r old new → Answers v Q r old new
     answers_so P Q right (Ok text) given = λ p at. replied_so p _ _ (λ a is. (right p a is.0, is.1)) (given p at)
     answers_so P Q right (Err (unanswered.Refused why)) given = λ p at. replied_so p _ _ (λ a is. (right p a is.0, is.1)) (given p at)
     answers_so P Q right (Err unanswered.NoMemory) given = λ p at.
@@ -51,23 +51,23 @@ module _ {D : Type 0} (v : Device D) where
       answers_command given = subst (λ d. Answers v (λ p a. Transition source p d a) r old new) (sym is) given
 
       -- so it is answered by what it asks of the processes
-      pub reports_node : (says : Releases → Processes → List ℕ) → ((p : Place) → ComesTo source p c (answers (reported_by_node says p))) → AnswersReported v says r old new → Answers v (λ p a. Transition source p command a) r old new
-      reports_node says comes given = answers_command (answers_so _ _ (λ p a acts. (answers (reported_by_node says p), inl (comes p), acts)) r given)
+      pub reports_node : (says : Releases → Processes → List ℕ) → ((p : DiskState) → MeansAction source p c (answers (answer_of_node says p))) → AnswersReported v says r old new → Answers v (λ p a. Transition source p command a) r old new
+      reports_node says comes given = answers_command (answers_so _ _ (λ p a acts. (answers (answer_of_node says p), inl (comes p), acts)) r given)
 
-      pub asks_node : (says : Processes → List ℕ) → ((p : Place) → ComesTo source p c (answers (asked says p))) → AnswersAsked v says r old new → Answers v (λ p a. Transition source p command a) r old new
+      pub asks_node : (says : Processes → List ℕ) → ((p : DiskState) → MeansAction source p c (answers (processes_answer says p))) → AnswersAsked v says r old new → Answers v (λ p a. Transition source p command a) r old new
       asks_node says = reports_node (λ list ps. says ps)
 
-      module _ (does : Action) (comes : (p : Place) → ComesTo source p c does) where
-        pub answers_acts : Answers v (λ p a. Acts p does a) r old new → Answers v (λ p a. Transition source p command a) r old new
+      module _ (does : Action) (comes : (p : DiskState) → MeansAction source p c does) where
+        pub answers_acts : Answers v (λ p a. NodeReplies p does a) r old new → Answers v (λ p a. Transition source p command a) r old new
         answers_acts given = answers_command (answers_so _ _ (λ p a acts. (does, inl (comes p), acts)) r given)
 
         -- memory may be refused to its call
         pub answers_action : ((events : Events) (extent : Extent) (ps : Processes) → memory_report_at (running events extent ps) c ≡ Some memory_line) → AnswersAction v does r old new → Answers v (λ p a. Transition source p command a) r old new
         answers_action reports given = answers_command (answers_so _ _ by_place r given)
           where
-            by_place : (p : Place) (a : Reply) → ActsOrLacks does p a → Transition source p c a
-            by_place (raw bytes) a acts = (does, inl (comes (raw bytes)), acts)
-            by_place (closed s) a acts = (does, inl (comes (closed s)), acts)
+            by_place : (p : DiskState) (a : Reply) → ActsOrLacks does p a → Transition source p c a
+            by_place (unknown_bytes bytes) a acts = (does, inl (comes (unknown_bytes bytes)), acts)
+            by_place (not_booted s) a acts = (does, inl (comes (not_booted s)), acts)
             by_place (running events extent ps) a (inl acts) = (does, inl (comes (running events extent ps)), acts)
             by_place (running events extent ps) a (inr lacks) =
                 subst (Transition source (running events extent ps) c) (sym lacks) (lacks_memory source (running events extent ps) c memory_line (reports events extent ps))
@@ -75,8 +75,8 @@ module _ {D : Type 0} (v : Device D) where
 
   module _ (laws : IsDevice v) where
     -- A command left the place as it was, and gave a line.
-    pub answers_still : (place : PlaceInMemory D) (answer : Place → List ℕ) (Q : Place → Reply → Type 0) → ((p : Place) → Q p (reply (answer p) nothing p)) → (line : Result (String Global) AllocError) (r : Result (String Global) Unanswered)
-        → MatchResult line (λ text. r ≡ Ok text) (λ _. r ≡ Err unanswered.NoMemory) → IfOk line (λ s. (p : Place) → IsAt v place p → string_bytes s ≡ answer p) → Answers v Q r place place
+    pub answers_still : (place : PlaceInMemory D) (answer : DiskState → List ℕ) (Q : DiskState → Reply → Type 0) → ((p : DiskState) → Q p (reply (answer p) no_outcome p)) → (line : Result (String Global) AllocError) (r : Result (String Global) Unanswered)
+        → MatchResult line (λ text. r ≡ Ok text) (λ _. r ≡ Err unanswered.NoMemory) → IfOk line (λ s. (p : DiskState) → IsAt v place p → string_bytes s ≡ answer p) → Answers v Q r place place
     answers_still place answer Q right (Ok s) r is says =
         subst (λ q. Answers v Q q place place) (sym is) (λ p at. stays v laws p (answer p) (λ a. Q p a × (a.answer ≡ string_bytes s)) place place at refl at (right p, sym (says p at)))
     answers_still place answer Q right (Err e) r is says = subst (λ q. Answers v Q q place place) (sym is) (changes_no_memory v laws Q place)
@@ -124,7 +124,7 @@ module _ {D : Type 0} (v : Device D) where
     abbrev command : Command
     command = command_of m
 
-    abbrev Does : Place → Reply → Type 0
+    abbrev Does : DiskState → Reply → Type 0
     Does = λ p a. Transition (source_of base (files_of old.files)) p command a
 
     abbrev new : SessionNode D

@@ -21,8 +21,8 @@ use Rattle.session_input.specs.Commands.Command.{set_unpacked}
 use Rattle.rel_session.specs.declared.place.Place.TheVariants as memory
 use Rattle.rel_session.specs.Device.{Device}
 use Rattle.rel_session.specs.InMemory.{IsAt, Replied, Answers}
-use Rattle.rel_session.specs.Node.{Place, Reply, refused}
-use Rattle.rel_session.specs.Node.Place.{running}
+use Rattle.rel_session.specs.Node.{DiskState, Reply, refusal_reply}
+use Rattle.rel_session.specs.Node.DiskState.{running}
 use Rattle.node_answer.specs.Refusals.{refusal_of, refusal_line}
 use Rattle.node_answer.specs.Refusals.NodeRefusal.{no_memory}
 use Rattle.rel_session.specs.Transition
@@ -35,10 +35,10 @@ use Rattle.rel_session.proofs.Replies.{refuses_running}
 
 module _ {D : Type 0} (v : Device D) (laws : IsDevice v) (source : Source) (path : List ℕ) (n : BootedNode D) (alive : is_dead n.handler ≡ false) (new : BootedNode D)
     (kept_on : processes_in new.processes ≡ processes_in n.processes) where
-  abbrev Unpacks : Place → Reply → Type 0
+  abbrev Unpacks : DiskState → Reply → Type 0
   Unpacks = λ p a. Transition.Transition source p (set_unpacked path) a
 
-  changing : (b : Brought) → Brings source path (Ok b) → (events : Events) (extent : Extent) (ps : Processes) (a : Reply) → Transition.Acts (running events extent ps) (changes_node (Transition.unpacked_change b)) a → Unpacks (running events extent ps) a
+  changing : (b : Brought) → Brings source path (Ok b) → (events : Events) (extent : Extent) (ps : Processes) (a : Reply) → Transition.NodeReplies (running events extent ps) (changes_node (Transition.unpacked_change b)) a → Unpacks (running events extent ps) a
   changing b read events extent ps a is = (changes_node (Transition.unpacked_change b), inl (Ok b, read, refl), is)
 
   pub unpacks : (vsn : List ℕ) (line : Result (String Global) AllocError) (result : Result (String Global) Unanswered) → IsUnpacked v source path n.handler new.handler vsn
@@ -50,7 +50,7 @@ module _ {D : Type 0} (v : Device D) (laws : IsDevice v) (source : Source) (path
   barred : (why : HandlerError) → IsBarred source path n.handler new.handler why → Answers v Unpacks (Err (unanswered.Refused why)) (memory.Made n) (memory.Made new)
   barred why b = reported
     where
-      reported : (p : Place) → IsAt v (memory.Made n) p → Replied v p (λ a. Unpacks p a × (a.answer ≡ refusal_line (refusal_of why))) (memory.Made n) (memory.Made new)
+      reported : (p : DiskState) → IsAt v (memory.Made n) p → Replied v p (λ a. Unpacks p a × (a.answer ≡ refusal_line (refusal_of why))) (memory.Made n) (memory.Made new)
       reported p at =
           let error = b.barred.error in
           let line = ap refusal_line (sym (reported_alike error)) ∙ ap (λ w. refusal_line (refusal_of w)) (sym b.barred.reported) in
@@ -58,7 +58,7 @@ module _ {D : Type 0} (v : Device D) (laws : IsDevice v) (source : Source) (path
           (files_refused v laws Unpacks n alive (Transition.unpacked_change b.brought) (changing b.brought b.read) new kept_on b.same (of_files.refusal_of error) b.barred.refused p at)
 
   -- memory was refused
-  lacks : (events : Events) (extent : Extent) (ps : Processes) → Unpacks (running events extent ps) (refused no_memory (running events extent ps))
+  lacks : (events : Events) (extent : Extent) (ps : Processes) → Unpacks (running events extent ps) (refusal_reply no_memory (running events extent ps))
   lacks events extent ps = lacks_memory source (running events extent ps) (set_unpacked path) Transition.memory_line refl
 
   pub unpacks_none : (why : HandlerError) → UnpackingRefused v source path n.handler new.handler why → Answers v Unpacks (Err (unanswered.Refused why)) (memory.Made n) (memory.Made new)

@@ -32,8 +32,8 @@ use Rattle.session_input.specs.declared.command.Command.TheVariants as asked
 use Rattle.session_input.specs.declared.given.GivenFile.{GivenFile}
 use Rattle.rel_session.specs.Device.{Device, LeavesOnly}
 use Rattle.rel_session.specs.Files.{files_of, files_behind, source_of}
-use Rattle.rel_session.specs.Node.{Place, Reply, refused}
-use Rattle.rel_session.specs.Node.Place.{raw, closed, running, dead}
+use Rattle.rel_session.specs.Node.{DiskState, Reply, refusal_reply}
+use Rattle.rel_session.specs.Node.DiskState.{unknown_bytes, not_booted, running, dead}
 use Rattle.erl_term.specs.Value.{value_of}
 use Rattle.node_upgrade.specs.declared.error.InstallError.{InstallError}
 use Rattle.node_upgrade.specs.declared.error.InstallError.TheVariants as install_error
@@ -43,12 +43,12 @@ use Rattle.node_upgrade.specs.Running.{NodeState, state}
 use Rattle.node_answer.specs.Lines.{installed_text}
 use Rattle.node_answer.specs.Refusals.{refusal_of, refusal_line}
 use Rattle.node_answer.specs.Refusals.NodeRefusal.{must_reboot, no_memory, script_refused}
-use Rattle.rel_session.specs.Run.{Holds, Happens}
+use Rattle.rel_session.specs.Run.{DiskIsIn, CommandRuns}
 use Rattle.node_processes.specs.Processes.{Processes}
 use Rattle.node_answer.specs.Lines.{ok_line}
 use Rattle.rel_handler.specs.declared.error.BootError.TheVariants as boot_error
 use Rattle.rel_session.specs.Booting.{boot_line}
-use Rattle.rel_session.specs.Transition.{Action, Acts, relup_memory_line, reported, Transition, version_of}
+use Rattle.rel_session.specs.Transition.{Action, NodeReplies, relup_memory_line, answer_of_node, Transition, version_of}
 use Rattle.rel_session.specs.Transition.Action.{answers}
 
 abbrev pub disk_at : {D : Type 0} → PlaceInMemory D → D
@@ -65,63 +65,63 @@ IsSoundPlace seen may_leave (memory.Idle disk) = Unit {0}
 IsSoundPlace seen may_leave (memory.Made node) = IsSoundNode seen may_leave node
 
 -- The place in memory stands for this place of the disk.
-abbrev pub IsAt : {D : Type 0} → Device D → PlaceInMemory D → Place → Type 0
-IsAt v (memory.Idle disk) (raw bytes) = Holds v (raw bytes) disk
-IsAt v (memory.Idle disk) (closed s) = Holds v (closed s) disk
+abbrev pub IsAt : {D : Type 0} → Device D → PlaceInMemory D → DiskState → Type 0
+IsAt v (memory.Idle disk) (unknown_bytes bytes) = DiskIsIn v (unknown_bytes bytes) disk
+IsAt v (memory.Idle disk) (not_booted s) = DiskIsIn v (not_booted s) disk
 IsAt v (memory.Idle disk) p = ⊥
 IsAt v (memory.Made node) (running events extent ps) =
-    Holds v (running events extent ps) (disk_in node.handler) × (is_dead node.handler ≡ false)
+    DiskIsIn v (running events extent ps) (disk_in node.handler) × (is_dead node.handler ≡ false)
     × (list_after events ≡ Some (list_in node.handler)) × (extent_in node.handler ≡ extent)
     × (processes_in node.processes ≡ ps)
-IsAt v (memory.Made node) (dead s) = Holds v (dead s) (disk_in node.handler) × (is_dead node.handler ≡ true)
+IsAt v (memory.Made node) (dead s) = DiskIsIn v (dead s) (disk_in node.handler) × (is_dead node.handler ≡ true)
 IsAt v (memory.Made node) p = ⊥
 
 -- A command with a reply of which P holds led from the one place to the other.
-pub record Replied {D : Type 0} (v : Device D) (p : Place) (P : Reply → Type 0) (old new : PlaceInMemory D) : Type 0 where
+pub record Replied {D : Type 0} (v : Device D) (p : DiskState) (P : Reply → Type 0) (old new : PlaceInMemory D) : Type 0 where
   pub given : Reply
   pub right : P given
   pub at : IsAt v new given.after
-  pub happens : Happens v p given (disk_at old) (disk_at new)
+  pub happens : CommandRuns v p given (disk_at old) (disk_at new)
 
 -- The last command of a session, with a reply of which P holds, led from the one disk to the other. After it no place in memory
 -- matters.
-pub record Leads {D : Type 0} (v : Device D) (p : Place) (P : Reply → Type 0) (old new : PlaceInMemory D) : Type 0 where
+pub record Leads {D : Type 0} (v : Device D) (p : DiskState) (P : Reply → Type 0) (old new : PlaceInMemory D) : Type 0 where
   pub given : Reply
   pub right : P given
-  pub happens : Happens v p given (disk_at old) (disk_at new)
+  pub happens : CommandRuns v p given (disk_at old) (disk_at new)
 
 -- Memory was refused, and nothing was done.
-pub record NothingDone {D : Type 0} (v : Device D) (p : Place) (old new : PlaceInMemory D) : Type 0 where
+pub record NothingDone {D : Type 0} (v : Device D) (p : DiskState) (old new : PlaceInMemory D) : Type 0 where
   pub nothing_new : LeavesOnly v (disk_at old) (disk_at new) (v.may_leave (disk_at old))
-  pub holds : Holds v p (disk_at new)
+  pub holds : DiskIsIn v p (disk_at new)
   pub counted : v.failures (disk_at old) ≤ v.failures (disk_at new)
 
 -- A command ended in the session's own want of memory, for its answer or before it began: it was done, or nothing was.
-abbrev pub EndsUnanswered : {D : Type 0} → Device D → (Place → Reply → Type 0) → PlaceInMemory D → PlaceInMemory D → Type 0
-EndsUnanswered v P old new = (p : Place) → IsAt v old p → Leads v p (P p) old new ⊎ NothingDone v p old new
+abbrev pub EndsUnanswered : {D : Type 0} → Device D → (DiskState → Reply → Type 0) → PlaceInMemory D → PlaceInMemory D → Type 0
+EndsUnanswered v P old new = (p : DiskState) → IsAt v old p → Leads v p (P p) old new ⊎ NothingDone v p old new
 
 -- A command gave this result, wherever it began: its answer, or why it was refused, or no memory for its answer. P says which
 -- replies are right.
-abbrev pub Answers : {D : Type 0} → Device D → (Place → Reply → Type 0) → Result (String Global) Unanswered
+abbrev pub Answers : {D : Type 0} → Device D → (DiskState → Reply → Type 0) → Result (String Global) Unanswered
     → PlaceInMemory D → PlaceInMemory D → Type 0
 Answers v P (Ok text) old new =
-    (p : Place) → IsAt v old p → Replied v p (λ a. P p a × (a.answer ≡ string_bytes text)) old new
+    (p : DiskState) → IsAt v old p → Replied v p (λ a. P p a × (a.answer ≡ string_bytes text)) old new
 Answers v P (Err (unanswered.Refused why)) old new =
-    (p : Place) → IsAt v old p → Replied v p (λ a. P p a × (a.answer ≡ refusal_line (refusal_of why))) old new
+    (p : DiskState) → IsAt v old p → Replied v p (λ a. P p a × (a.answer ≡ refusal_line (refusal_of why))) old new
 Answers v P (Err unanswered.NoMemory) old new = EndsUnanswered v P old new
 
 -- A command was done, and gave this line, in which its answer stands after a text, unless there was no memory for that.
-abbrev pub AnswersAfter : {D : Type 0} → Device D → List ℕ → (Place → Reply → Type 0) → Result (String Global) AllocError
+abbrev pub AnswersAfter : {D : Type 0} → Device D → List ℕ → (DiskState → Reply → Type 0) → Result (String Global) AllocError
     → PlaceInMemory D → PlaceInMemory D → Type 0
 AnswersAfter v text P (Ok line) old new =
-    (p : Place) → IsAt v old p → Replied v p (λ a. P p a × (text ++ a.answer ≡ string_bytes line)) old new
-AnswersAfter v text P (Err e) old new = (p : Place) → IsAt v old p → Leads v p (P p) old new
+    (p : DiskState) → IsAt v old p → Replied v p (λ a. P p a × (text ++ a.answer ≡ string_bytes line)) old new
+AnswersAfter v text P (Err e) old new = (p : DiskState) → IsAt v old p → Leads v p (P p) old new
 
 -- What a node replies to an action, or, where it runs, that memory was refused to the call of its handler: nothing was done.
-abbrev pub ActsOrLacks : Action → Place → Reply → Type 0
+abbrev pub ActsOrLacks : Action → DiskState → Reply → Type 0
 ActsOrLacks does (running events extent ps) a =
-    Acts (running events extent ps) does a ⊎ (a ≡ refused no_memory (running events extent ps))
-ActsOrLacks does p a = Acts p does a
+    NodeReplies (running events extent ps) does a ⊎ (a ≡ refusal_reply no_memory (running events extent ps))
+ActsOrLacks does p a = NodeReplies p does a
 
 -- An action gave this result.
 abbrev pub AnswersAction : {D : Type 0} → Device D → Action → Result (String Global) Unanswered
@@ -131,7 +131,7 @@ AnswersAction v does result old new = Answers v (ActsOrLacks does) result old ne
 -- A node was asked for a text about its releases and its processes, and gave this result.
 abbrev pub AnswersReported : {D : Type 0} → Device D → (Releases → Processes → List ℕ) → Result (String Global) Unanswered
     → PlaceInMemory D → PlaceInMemory D → Type 0
-AnswersReported v says result old new = Answers v (λ p a. Acts p (answers (reported says p)) a) result old new
+AnswersReported v says result old new = Answers v (λ p a. NodeReplies p (answers (answer_of_node says p)) a) result old new
 
 -- A node was asked for a text about its processes alone, and gave this result.
 abbrev pub AnswersAsked : {D : Type 0} → Device D → (Processes → List ℕ) → Result (String Global) Unanswered
@@ -196,7 +196,7 @@ abbrev pub FollowsCommand : {D : Type 0} → Device D → Source → Command →
 FollowsCommand v base command (Ok (Some text)) old new =
     let source = source_of base (files_of old.files) in
     (files_of new.files ≡ files_behind (files_of old.files) command)
-    × ((p : Place) → IsAt v old.place p
+    × ((p : DiskState) → IsAt v old.place p
     → Replied v p (λ a. Transition source p command a × (a.answer ≡ string_bytes text)) old.place new.place)
 FollowsCommand v base command (Ok None) old new = (command ≡ quit) × (new.place ≡ old.place)
 FollowsCommand v base command (Err e) old new =

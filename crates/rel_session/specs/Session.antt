@@ -8,7 +8,7 @@ use Rattle.session_input.specs.declared.error.SessionError.{SessionError}
 use Rattle.session_input.specs.declared.error.SessionError.TheVariants.{Read, Write, Limit, NoMemory}
 use Rattle.rel_unpack.specs.Source.{Source}
 use Rattle.rel_session.specs.Files.{Files, no_files}
-use Rattle.rel_session.specs.Node.{Place}
+use Rattle.rel_session.specs.Node.{DiskState}
 use Rattle.rel_session.specs.Output.{Writes}
 use Rattle.rel_session.specs.Run.{Starts, Ending, IsRun, commands_within}
 use Rattle.rel_session.specs.Run.Ending.{ended, cut_off, unread, unwritten, out_of_memory, going_on}
@@ -38,14 +38,14 @@ ending_of (Err NoMemory) = out_of_memory
 abbrev pub IsSession : {D : Type 0} → Device D → Source → Files → Ending → ℕ → Option (List ℕ) → D → D
     → Option (List ℕ) → Option (List ℕ) → Type 0
 IsSession v base files ending taken input old new written written_then =
-    (p : Place) → Starts v p old
+    (p : DiskState) → Starts v p old
     → (commands : Feed Command) × AreCommands (bytes_followed ending taken) input commands
     × Writes written written_then (λ text. IsRun v base files p commands ending old new text)
 
--- What a session has written is allowed on each disk to which it has led by then: the answers of the commands that are done, each
--- whole, whatever is left of its input.
-abbrev pub AllowsItsAnswers : {D : Type 0} → Device D → Source → Option (List ℕ) → D → Option (List ℕ)
+-- What a session has written is allowed on each disk to which it has led by then: the answers of the commands that are done,
+-- each whole, whatever is left of its input.
+abbrev pub AllowsTrueAnswersOnly : {D : Type 0} → Device D → Source → Option (List ℕ) → D → Option (List ℕ)
     → (D → Option (List ℕ) → Type 0) → Type 0
-AllowsItsAnswers {D} v base input old written Allowed =
+AllowsTrueAnswersOnly {D} v base input old written Allowed =
     (disk : D) (text : Option (List ℕ)) → IsSession v base no_files going_on most_bytes input old disk written text
     → Allowed disk text

@@ -1,13 +1,13 @@
 //! A session of a node.
 //!
-//! The commands come from `session_input`. A failed read and a failed write are reported exactly where one was, and an input that
-//! is too long only where it is. At most 16,777,216 bytes of the input are taken. Each answer is written once its command is done
-//! (`allowed`), and before more is read: where a read fails, each command that is whole in the bytes that were taken by then has its
-//! answer. Where memory is refused to a call of the node, that is its answer, and the session goes on. Where it is refused to the
-//! text of an answer, the session ends without that, and what the command has committed is on the disk.
+//! The commands come from `session_input`. A failed read and a failed write are reported exactly where one was, and an input
+//! that is too long only where it is. At most 16,777,216 bytes of the input are taken. Each answer is written once its command
+//! is done (`allowed`), and before more is read: where a read fails, each command that is whole in the bytes that were taken by
+//! then has its answer. Where memory is refused to a call of the node, that is its answer, and the session goes on. Where it is
+//! refused to the text of an answer, the session ends without that, and what the command has committed is on the disk.
 ghost use Rattle.std.specs.Prelude.{◌≡◌, ◌≤◌, IsErrOf};
 ghost use Rattle.counted_io.specs.Failures.{Reports};
-ghost use Rattle.rel_session.specs.Session.{AllowsItsAnswers, IsSession, ending_of};
+ghost use Rattle.rel_session.specs.Session.{AllowsTrueAnswersOnly, IsSession, ending_of};
 ghost use Rattle.rel_session.specs.Files.{no_files};
 ghost use Rattle.session_input.specs.Input.{IsFresh, left_in, taken, failed_reads, most_bytes};
 
@@ -35,13 +35,14 @@ pub fn session<H: Threads + Wait + Sync, D: Disk, F: Files, R: Read + Drop, A: A
 
     // Leave is asked for no more than the answers of a session that led to the disk as it stands when they are written: of the
     // commands that are done, and of none that is to come.
-    requires allowed { AllowsItsAnswers D.Disk (F.gives files.now) (left_in R.remaining input.old)
+    requires allowed { AllowsTrueAnswersOnly D.Disk (F.gives files.now)
+        (left_in R.remaining input.old)
         disk (A.written output.old) (A.allows output.old) }
 
     // The session is a run of transitions over the commands of its input, from the disk that it took to the one that it hands
     // back, and what it wrote are the answers. By its result it came to the end of its input, to `quit` or to the end of what
-    // may be taken; or a read failed, and each command in the bytes that were taken by then is answered; or an answer was written
-    // in part; or memory was refused, to the line of a command, to a file or to the text of an answer.
+    // may be taken; or a read failed, and each command in the bytes that were taken by then is answered; or an answer was
+    // written in part; or memory was refused, to the line of a command, to a file or to the text of an answer.
     ensures session { IsSession D.Disk (F.gives files.now) no_files (ending_of result.1)
         (taken input.new) (left_in R.remaining input.old) disk result.0
         (A.written output.old) (A.written output.new) }

@@ -7,10 +7,10 @@ ghost use Rattle.rel_unpack.specs.Unpacking.{Brought};
 ghost use Rattle.session_input.specs.Commands.Command.{create};
 ghost use Rattle.node_start.specs.Booting.{HasJustStarted};
 ghost use Rattle.rel_session.specs.InMemory.{IsSoundPlace, IsNodeStarted, IsStartedOrNot};
-ghost use Rattle.rel_session.specs.Node.{Place as SomePlace};
+ghost use Rattle.rel_session.specs.Node.{DiskState};
 ghost use Rattle.node_answer.specs.Lines.{ok_line};
 ghost use Rattle.rel_session.specs.Booting.{boot_line};
-ghost use Rattle.rel_session.specs.Transition.{Acts, listed, version_of};
+ghost use Rattle.rel_session.specs.Transition.{NodeReplies, releases_answer, version_of};
 ghost use Rattle.rel_session.specs.Transition.Action.{boots_node};
 ghost use Rattle.rel_session.specs.declared.unanswered.Unanswered.TheVariants.{NoMemory};
 
@@ -92,7 +92,7 @@ impl<D: Disk> Place<D> {
         requires { IsSoundPlace D.seen D.may_leave self }
         ensures sound { IsSoundPlace D.seen D.may_leave result.0 }
         ensures booted { AnswersAfter D.Disk (string_bytes text)
-            (λ p a. Acts p boots_node a) result.1 self result.0 }
+            (λ p a. NodeReplies p boots_node a) result.1 self result.0 }
     {
         match boot(rt, alloc, self.into_disk()) {
             Ok(node) => reported(node, text),
@@ -103,7 +103,7 @@ impl<D: Disk> Place<D> {
     /// The lines that list the releases.
     pub fn releases(&self, alloc: Global) -> Result<String, AllocError>
         ensures { IfOk result (λ text.
-            (p : SomePlace) → IsAt D.Disk self.now p → string_bytes text ≡ listed p) }
+            (p : DiskState) → IsAt D.Disk self.now p → string_bytes text ≡ releases_answer p) }
     {
         let Place::Made(node) = self else {
             return refusal_line(alloc, &HandlerError::Dead);

@@ -1,12 +1,12 @@
 //! Commands on the processes of a node that runs.
 //!
-//! The processes are those of `node_processes`: a boot starts them, a command lists, peeks at or calls them, and an installation
-//! upgrades them by its script; other changes of the releases leave them as they are.
+//! The processes are those of `node_processes`: a boot starts them, a command lists, peeks at or calls them, and an
+//! installation upgrades them by its script; other changes of the releases leave them as they are.
 ghost use Rattle.std.specs.Prelude.{◌≡◌, false};
 ghost use Rattle.node_processes.specs.Answers.{processes_line, modules_line, peek_line};
 ghost use Rattle.node_store.specs.State.{is_dead};
 ghost use Rattle.rel_session.specs.InMemory.{IsSoundNode, Answers, AnswersAsked};
-ghost use Rattle.rel_session.specs.Transition.{Acts};
+ghost use Rattle.rel_session.specs.Transition.{NodeReplies};
 ghost use Rattle.rel_session.specs.Transition.Action.{calls};
 ghost use Rattle.node_processes.specs.Calls.Calls.{once, often};
 ghost use Rattle.rel_session.specs.declared.place.Place.TheVariants.{Made};
@@ -75,7 +75,7 @@ pub(crate) fn call<D: Disk, R: Wait>(
     requires sound { IsSoundNode D.seen D.may_leave node.old }
     requires works { is_dead node.old.handler ≡ false }
     ensures sound { IsSoundNode D.seen D.may_leave node.new }
-    ensures called { Answers D.Disk (λ p a. Acts p (calls (once app.now id.now input)) a)
+    ensures called { Answers D.Disk (λ p a. NodeReplies p (calls (once app.now id.now input)) a)
         result (Made node.old) (Made node.new) }
 {
     answer_of(node.processes.call(rt, alloc, app, id, input))
@@ -95,7 +95,7 @@ pub(crate) fn flood<D: Disk, R: Threads + Wait + Sync>(
     requires works { is_dead node.old.handler ≡ false }
     ensures sound { IsSoundNode D.seen D.may_leave node.new }
     ensures flooded { Answers D.Disk
-        (λ p a. Acts p (calls (often app.now id.now input times)) a)
+        (λ p a. NodeReplies p (calls (often app.now id.now input times)) a)
         result (Made node.old) (Made node.new) }
 {
     answer_of(node.processes.flood(rt, alloc, app, id, input, times))

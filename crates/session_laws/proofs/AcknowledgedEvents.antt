@@ -3,30 +3,30 @@ use Rattle.std.proofs.Common.{◌≡◌, ◌≢◌, ◌⊎◌, inl, inr, ⊎_eli
 use Rattle.rel_list.specs.Event.{Event}
 use Rattle.node_store.specs.Image.{extent_of}
 use Rattle.node_store.proofs.Beginnings.{with_themselves, with_first, has_start_since}
-use Rattle.node_store.specs.Events.{Known, Events, Stored, settled, certain, with_doubt, IsPrefix, BeginWith, IsStoredAs}
+use Rattle.node_store.specs.Events.{EventLog, Events, StoreState, log_without_doubt, store_without_doubt, with_doubt, IsPrefix, BeginWith, IsCrashImageOf}
 use Rattle.session_input.specs.Commands.{Command}
 use Rattle.rel_session.specs.Device.{Device, LeavesOnly}
 use Rattle.session_input.specs.Feed.{Feed}
 use Rattle.session_input.specs.Feed.Feed.{over, cut, next}
 use Rattle.rel_unpack.specs.Source.{Source}
 use Rattle.rel_session.specs.Files.{Files, files_behind, source_of}
-use Rattle.rel_session.specs.Node.{Place, at_rest, Reply}
-use Rattle.rel_session.specs.Node.Place.{raw, closed, running, dead}
-use Rattle.rel_session.specs.Run.{EndsInFull, Starts, Holds, Moments, Executes, Replies, Ending, IsReached, events_of}
+use Rattle.rel_session.specs.Node.{DiskState, at_rest, Reply}
+use Rattle.rel_session.specs.Node.DiskState.{unknown_bytes, not_booted, running, dead}
+use Rattle.rel_session.specs.Run.{EndsInFull, Starts, DiskIsIn, CrashSafeDuring, CommandsRun, AreReplies, Ending, StandsForPrefix, events_of}
 use Rattle.rel_session.specs.Run.Ending.{ended, cut_off, unread, unwritten, out_of_memory, going_on}
-use Rattle.session_laws.specs.RunLaws.{acknowledged_at, ran_at, IsKnown, MayBe, Finds, ReplyKeepsEvents, place_after, HaveAll, StandsForAll, BecomesKnown, LosesNothing, IsOfAccepted, BeginsWhereOneEnded, store_left, BeginsBehindACrash, IsHandedBack, GoesOn, Lasts, LosesNothingEver}
+use Rattle.session_laws.specs.RunLaws.{acknowledged_at, ran_at, IsKnown, MayBeEventsOf, StartsFromEvents, ReplyKeepsEvents, place_after, AreAcknowledgedAfter, StandsForAll, BecomesKnown, LosesNothing, IsOfAccepted, BeginsWhereOneEnded, store_left, BeginsBehindACrash, IsHandedBack, GoesOn, Lasts, LosesNothingEver}
 use Rattle.rel_session.specs.Transition.{Transition}
 use Rattle.rel_session.proofs.Prefixes.{prefix_of, prefix_is}
 use Rattle.rel_session.proofs.DeviceLemmas.{IsDevice, weakened, joined, still}
 use Rattle.session_laws.proofs.Transitions.{may_have, each_keeps}
 
 -- the first of some replies is that to the first command, and the others are those to the commands after it
-pub next_answered : (base : Source) (files : Files) (p : Place) (c : Command) (rest : Feed Command) (ending : Ending) (a : Reply) (more : List Reply) → EndsInFull ending → Replies base files p (next c rest) ending (a ∷ more)
-    → Transition (source_of base files) p c a × Replies base (files_behind files c) a.after rest ending more
+pub next_answered : (base : Source) (files : Files) (p : DiskState) (c : Command) (rest : Feed Command) (ending : Ending) (a : Reply) (more : List Reply) → EndsInFull ending → AreReplies base files p (next c rest) ending (a ∷ more)
+    → Transition (source_of base files) p c a × AreReplies base (files_behind files c) a.after rest ending more
 next_answered base files p c rest ending a more full right = right
 
 -- where no command is left there is none
-pub none_left : (base : Source) (files : Files) (p : Place) (commands : Feed Command) (ending : Ending) (a : Reply) (more : List Reply) → (commands ≡ over) ⊎ (commands ≡ cut) → Replies base files p commands ending (a ∷ more) → ⊥
+pub none_left : (base : Source) (files : Files) (p : DiskState) (commands : Feed Command) (ending : Ending) (a : Reply) (more : List Reply) → (commands ≡ over) ⊎ (commands ≡ cut) → AreReplies base files p commands ending (a ∷ more) → ⊥
 none_left base files p over ended a more none right = right
 none_left base files p over cut_off a more none right = right
 none_left base files p over unread a more none right = right
@@ -42,13 +42,13 @@ none_left base files p cut going_on a more none right = right
 none_left base files p (next c rest) ending a more (inl none) right = cc none
 none_left base files p (next c rest) ending a more (inr none) right = cc none
 
-pub record Answered (base : Source) (files : Files) (p : Place) (a : Reply) (ending : Ending) (more : List Reply) : Type 0 where
+pub record Answered (base : Source) (files : Files) (p : DiskState) (a : Reply) (ending : Ending) (more : List Reply) : Type 0 where
   pub command : Command
   pub rest : Feed Command
   pub is : Transition (source_of base files) p command a
-  pub right : Replies base (files_behind files command) a.after rest ending more
+  pub right : AreReplies base (files_behind files command) a.after rest ending more
 
-pub first_answered : (base : Source) (files : Files) (p : Place) (commands : Feed Command) (ending : Ending) (a : Reply) (more : List Reply) → Replies base files p commands ending (a ∷ more) → Answered base files p a ending more
+pub first_answered : (base : Source) (files : Files) (p : DiskState) (commands : Feed Command) (ending : Ending) (a : Reply) (more : List Reply) → AreReplies base files p commands ending (a ∷ more) → Answered base files p a ending more
 first_answered base files p over ending a more right = absurd (none_left base files p over ending a more (inl refl) right)
 first_answered base files p cut ending a more right = absurd (none_left base files p cut ending a more (inr refl) right)
 first_answered base files p (next c rest) ending a more right =
@@ -60,20 +60,20 @@ doubt_more events doubt found (inl is) = ([], is ∙ sym (append-nil events))
 doubt_more events None found (inr is) = ([], is ∙ sym (append-nil events))
 doubt_more events (Some e) found (inr is) = (e ∷ [], is)
 
-finds_more : (p : Place) (found : Events) → Finds p found → (more : Events) × (found ≡ acknowledged_at p ++ more)
-finds_more (raw bytes) found finds = (found, refl)
-finds_more (closed s) found finds = doubt_more s.known.acknowledged s.known.in_doubt found finds
+finds_more : (p : DiskState) (found : Events) → StartsFromEvents p found → (more : Events) × (found ≡ acknowledged_at p ++ more)
+finds_more (unknown_bytes bytes) found finds = (found, refl)
+finds_more (not_booted s) found finds = doubt_more s.known.acknowledged s.known.in_doubt found finds
 finds_more (running events extent ps) found finds = ([], finds ∙ sym (append-nil events))
 finds_more (dead s) found finds = doubt_more s.known.acknowledged s.known.in_doubt found finds
 
 -- so do those after a reply
-keeps_more : (p : Place) (a : Reply) → ReplyKeepsEvents p a → (between : Events) × (acknowledged_at a.after ≡ acknowledged_at p ++ (between ++ a.outcome.acknowledged))
+keeps_more : (p : DiskState) (a : Reply) → ReplyKeepsEvents p a → (between : Events) × (acknowledged_at a.after ≡ acknowledged_at p ++ (between ++ a.outcome.acknowledged))
 keeps_more p a keeps =
     let (more, is) = finds_more p keeps.found keeps.finds in
     (more, keeps.are ∙ ap (λ (l : Events). l ++ a.outcome.acknowledged) is ∙ append_assoc (acknowledged_at p) more a.outcome.acknowledged)
 
 -- what is left after a reply is left by the command or after it
-stands_for_later : (p : Place) (a : Reply) (more : List Reply) (image : List ℕ) → ReplyKeepsEvents p a → StandsForAll a.after more image → StandsForAll p (a ∷ more) image
+stands_for_later : (p : DiskState) (a : Reply) (more : List Reply) (image : List ℕ) → ReplyKeepsEvents p a → StandsForAll a.after more image → StandsForAll p (a ∷ more) image
 stands_for_later p a more image keeps of = record {
   events = of.events;
   within = inr of.within;
@@ -85,20 +85,20 @@ stands_for_later p a more image keeps of = record {
 }
 
 -- the events of all the replies
-have_all : (base : Source) (files : Files) (p : Place) (commands : Feed Command) (ending : Ending) (first rest : List Reply) → Replies base files p commands ending (first ++ rest)
-    → HaveAll p first (acknowledged_at (place_after p first))
+have_all : (base : Source) (files : Files) (p : DiskState) (commands : Feed Command) (ending : Ending) (first rest : List Reply) → AreReplies base files p commands ending (first ++ rest)
+    → AreAcknowledgedAfter p first (acknowledged_at (place_after p first))
 have_all base files p commands ending [] rest right = refl
 have_all base files p commands ending (a ∷ first) rest right =
     let n = first_answered base files p commands ending a (first ++ rest) right in
     let keeps = each_keeps (source_of base files) p n.command a n.is in
     (keeps.found, keeps.finds, keeps.are, have_all base (files_behind files n.command) a.after n.rest ending first rest n.right)
 
-known_first : (p : Place) (replies : List Reply) → IsKnown p → BecomesKnown p replies
+known_first : (p : DiskState) (replies : List Reply) → IsKnown p → BecomesKnown p replies
 known_first p [] known = known
 known_first p (a ∷ more) known = inl (inl known)
 
 -- a store that is known stays known, and one that becomes known is so
-pub becomes_known : (base : Source) (files : Files) (p : Place) (commands : Feed Command) (ending : Ending) (first rest : List Reply) → Replies base files p commands ending (first ++ rest)
+pub becomes_known : (base : Source) (files : Files) (p : DiskState) (commands : Feed Command) (ending : Ending) (first rest : List Reply) → AreReplies base files p commands ending (first ++ rest)
     → BecomesKnown p first → IsKnown (place_after p first)
 becomes_known base files p commands ending [] rest right known = known
 becomes_known base files p commands ending (a ∷ first) rest right known =
@@ -111,20 +111,20 @@ becomes_known base files p commands ending (a ∷ first) rest right known =
     go keeps (inr later) = later
 
 -- the replies that are left
-pub rest_right : (base : Source) (files : Files) (p : Place) (commands : Feed Command) (ending : Ending) (first rest : List Reply) → Replies base files p commands ending (first ++ rest)
-    → (behind : Files) × (left : Feed Command) × Replies base behind (place_after p first) left ending rest
+pub rest_right : (base : Source) (files : Files) (p : DiskState) (commands : Feed Command) (ending : Ending) (first rest : List Reply) → AreReplies base files p commands ending (first ++ rest)
+    → (behind : Files) × (left : Feed Command) × AreReplies base behind (place_after p first) left ending rest
 rest_right base files p commands ending [] rest right = (files, commands, right)
 rest_right base files p commands ending (a ∷ first) rest right =
     let n = first_answered base files p commands ending a (first ++ rest) right in
     rest_right base (files_behind files n.command) a.after n.rest ending first rest n.right
 
 -- after replies from a known store it is known, its events begin with those before, and a node ran no sooner
-abbrev IsStill : Place → List Reply → Type 0
+abbrev IsStill : DiskState → List Reply → Type 0
 IsStill p replies =
     IsKnown (place_after p replies) × (more : Events) × (acknowledged_at (place_after p replies) ≡ acknowledged_at p ++ more)
     × BeginWith (ran_at p) (ran_at (place_after p replies))
 
-stays_known : (base : Source) (files : Files) (p : Place) (commands : Feed Command) (ending : Ending) (replies : List Reply) → Replies base files p commands ending replies → IsKnown p → IsStill p replies
+stays_known : (base : Source) (files : Files) (p : DiskState) (commands : Feed Command) (ending : Ending) (replies : List Reply) → AreReplies base files p commands ending replies → IsKnown p → IsStill p replies
 stays_known base files p commands ending [] right known = (known, [], sym (append-nil (acknowledged_at p)), with_themselves (ran_at p))
 stays_known base files p commands ending (a ∷ more) right known =
     let n = first_answered base files p commands ending a more right in
@@ -141,7 +141,7 @@ pub of_accepted : IsOfAccepted
 of_accepted s image of = record { events = of.events; prefix = prefix_of s of.events (extent_of image) of.list of.has of.after; list = of.list; after = of.after; image_of = of.image_of }
 
 -- what a crash leaves between two commands
-stands_for : (p : Place) (s : Stored) (image : List ℕ) → ((found : Events) → MayBe s found → Finds p found) → BeginWith (acknowledged_at p) s.known.acknowledged → BeginWith (ran_at p) s.known.ran → IsStoredAs s image
+stands_for : (p : DiskState) (s : StoreState) (image : List ℕ) → ((found : Events) → MayBeEventsOf s found → StartsFromEvents p found) → BeginWith (acknowledged_at p) s.known.acknowledged → BeginWith (ran_at p) s.known.ran → IsCrashImageOf s image
     → StandsForAll p [] image
 stands_for p s image finds known ran of =
     let prefix = prefix_of s of.events (extent_of image) of.list of.has of.after in
@@ -156,8 +156,8 @@ stands_for p s image finds known ran of =
     }
 
 -- and within a command
-stands_for_reached : (p : Place) (a : Reply) (more : List Reply) (k : Known) (image : List ℕ) → ((found : Events) → IsPrefix k found → Finds p found) → BeginWith (acknowledged_at p) k.acknowledged → BeginWith (ran_at p) k.ran
-    → IsReached k (events_of a.outcome) image → StandsForAll p (a ∷ more) image
+stands_for_reached : (p : DiskState) (a : Reply) (more : List Reply) (k : EventLog) (image : List ℕ) → ((found : Events) → IsPrefix k found → StartsFromEvents p found) → BeginWith (acknowledged_at p) k.acknowledged → BeginWith (ran_at p) k.ran
+    → StandsForPrefix k (events_of a.outcome) image → StandsForAll p (a ∷ more) image
 stands_for_reached p a more k image finds known ran of = record {
   events = of.events ++ of.more;
   within = inl (of.events, of.more, of.left, finds of.events of.prefix, of.begins, refl);
@@ -171,29 +171,29 @@ stands_for_reached p a more k image finds known ran of = record {
 
 module _ {D : Type 0} (v : Device D) (laws : IsDevice v) where
   -- each image where the disk stands
-  held_images : (p : Place) (disk : D) → IsKnown p → Holds v p disk → (c : List ℕ) → v.may_leave disk c → StandsForAll p [] c
-  held_images (raw bytes) disk known holds c now = absurd known
-  held_images (closed s) disk known holds c now = stands_for (closed s) s c (λ found is. is) (with_themselves s.known.acknowledged) (with_themselves s.known.ran) (holds c now)
+  held_images : (p : DiskState) (disk : D) → IsKnown p → DiskIsIn v p disk → (c : List ℕ) → v.may_leave disk c → StandsForAll p [] c
+  held_images (unknown_bytes bytes) disk known holds c now = absurd known
+  held_images (not_booted s) disk known holds c now = stands_for (not_booted s) s c (λ found is. is) (with_themselves s.known.acknowledged) (with_themselves s.known.ran) (holds c now)
   held_images (running events extent ps) disk known holds c now =
-      stands_for (running events extent ps) (certain events extent) c (λ found. ⊎_elim (λ is. is) (λ is. is)) (with_themselves events) (with_themselves events) (holds c now)
+      stands_for (running events extent ps) (store_without_doubt events extent) c (λ found. ⊎_elim (λ is. is) (λ is. is)) (with_themselves events) (with_themselves events) (holds c now)
   held_images (dead s) disk known holds c now = stands_for (dead s) s c (λ found is. is) (with_themselves s.known.acknowledged) (with_themselves s.known.ran) (holds c now)
 
   -- and at each moment of a command
-  command_images : (p : Place) (a : Reply) (more : List Reply) (old new : D) → IsKnown p → Moments v p a.outcome old new → LeavesOnly v old new (StandsForAll p (a ∷ more))
-  command_images (raw bytes) a more old new known moments = absurd known
-  command_images (closed s) a more old new known moments =
-      weakened v old new (IsReached s.known (events_of a.outcome)) (StandsForAll (closed s) (a ∷ more))
-      (λ c. stands_for_reached (closed s) a more s.known c (prefix_is s.known) (with_themselves s.known.acknowledged) (with_themselves s.known.ran)) moments
+  command_images : (p : DiskState) (a : Reply) (more : List Reply) (old new : D) → IsKnown p → CrashSafeDuring v p a.outcome old new → LeavesOnly v old new (StandsForAll p (a ∷ more))
+  command_images (unknown_bytes bytes) a more old new known moments = absurd known
+  command_images (not_booted s) a more old new known moments =
+      weakened v old new (StandsForPrefix s.known (events_of a.outcome)) (StandsForAll (not_booted s) (a ∷ more))
+      (λ c. stands_for_reached (not_booted s) a more s.known c (prefix_is s.known) (with_themselves s.known.acknowledged) (with_themselves s.known.ran)) moments
   command_images (running events extent ps) a more old new known moments =
-      weakened v old new (IsReached (settled events) (events_of a.outcome)) (StandsForAll (running events extent ps) (a ∷ more))
-      (λ c. stands_for_reached (running events extent ps) a more (settled events) c (λ found prefix. ⊎_elim (λ is. is) (λ is. is) (prefix_is (settled events) found prefix)) (with_themselves events) (with_themselves events)) moments
+      weakened v old new (StandsForPrefix (log_without_doubt events) (events_of a.outcome)) (StandsForAll (running events extent ps) (a ∷ more))
+      (λ c. stands_for_reached (running events extent ps) a more (log_without_doubt events) c (λ found prefix. ⊎_elim (λ is. is) (λ is. is) (prefix_is (log_without_doubt events) found prefix)) (with_themselves events) (with_themselves events)) moments
   command_images (dead s) a more old new known moments =
-      weakened v old new (IsReached s.known (events_of a.outcome)) (StandsForAll (dead s) (a ∷ more))
+      weakened v old new (StandsForPrefix s.known (events_of a.outcome)) (StandsForAll (dead s) (a ∷ more))
       (λ c. stands_for_reached (dead s) a more s.known c (prefix_is s.known) (with_themselves s.known.acknowledged) (with_themselves s.known.ran)) moments
 
   -- and so at each moment of a session
-  pub session_images : (base : Source) (files : Files) (p : Place) (commands : Feed Command) (ending : Ending) (replies : List Reply) (old new : D) → Replies base files p commands ending replies
-      → IsKnown p → Holds v p old → Executes v p replies old new → LeavesOnly v old new (StandsForAll p replies)
+  pub session_images : (base : Source) (files : Files) (p : DiskState) (commands : Feed Command) (ending : Ending) (replies : List Reply) (old new : D) → AreReplies base files p commands ending replies
+      → IsKnown p → DiskIsIn v p old → CommandsRun v p replies old new → LeavesOnly v old new (StandsForAll p replies)
   session_images base files p commands ending [] old new right known holds (leaves, then, counted) =
       weakened v old new (v.may_leave old) (StandsForAll p []) (held_images p old known holds) leaves
   session_images base files p commands ending (a ∷ more) old new right known holds (mid, happens, leads) =
@@ -204,8 +204,8 @@ module _ {D : Type 0} (v : Device D) (laws : IsDevice v) where
       (session_images base (files_behind files n.command) a.after n.rest ending more mid new n.right (keeps.known (inl known)) happens.holds leads))
 
   -- a session in two parts
-  pub parts : (p : Place) (first rest : List Reply) (old new : D) → Holds v p old → Executes v p (first ++ rest) old new
-      → (mid : D) × Executes v p first old mid × Executes v (place_after p first) rest mid new × Holds v (place_after p first) mid
+  pub parts : (p : DiskState) (first rest : List Reply) (old new : D) → DiskIsIn v p old → CommandsRun v p (first ++ rest) old new
+      → (mid : D) × CommandsRun v p first old mid × CommandsRun v (place_after p first) rest mid new × DiskIsIn v (place_after p first) mid
   parts p [] rest old new holds leads = (old, (still v laws old, holds, omega arith), leads, holds)
   parts p (a ∷ first) rest old new holds (here, happens, leads) =
       let (mid, before, behind, then) = parts a.after first rest here new happens.holds leads in
@@ -226,13 +226,13 @@ module _ {D : Type 0} (v : Device D) (laws : IsDevice v) where
       }
 
   -- the disk after a session
-  pub handed_back : (p : Place) (replies : List Reply) (old new : D) → Executes v p replies old new → Holds v (place_after p replies) new
+  pub handed_back : (p : DiskState) (replies : List Reply) (old new : D) → CommandsRun v p replies old new → DiskIsIn v (place_after p replies) new
   handed_back p [] old new (leaves, then, counted) = then
   handed_back p (a ∷ more) old new (mid, happens, leads) = handed_back a.after more mid new leads
 
-  pub starts_at_rest : (p : Place) (disk : D) → Holds v p disk → Starts v (at_rest p) disk
-  starts_at_rest (raw bytes) disk holds = holds
-  starts_at_rest (closed s) disk holds = holds
+  pub starts_at_rest : (p : DiskState) (disk : D) → DiskIsIn v p disk → Starts v (at_rest p) disk
+  starts_at_rest (unknown_bytes bytes) disk holds = holds
+  starts_at_rest (not_booted s) disk holds = holds
   starts_at_rest (running events extent ps) disk holds = holds
   starts_at_rest (dead s) disk holds = holds
 
@@ -240,7 +240,7 @@ module _ {D : Type 0} (v : Device D) (laws : IsDevice v) where
   begins_where_one_ended p replies old new leads = starts_at_rest (place_after p replies) new (handed_back p replies old new leads)
 
   pub begins_behind_a_crash : BeginsBehindACrash v
-  begins_behind_a_crash p replies image disk of only = λ c now. subst (IsStoredAs (store_left p replies image of)) (sym (only c now)) (record {
+  begins_behind_a_crash p replies image disk of only = λ c now. subst (IsCrashImageOf (store_left p replies image of)) (sym (only c now)) (record {
     events = of.events;
     has = (with_first (ran_at p) of.start.before of.events of.start.since (of.start.later, of.start.is), inl (refl, refl));
     list = of.list;
@@ -249,20 +249,20 @@ module _ {D : Type 0} (v : Device D) (laws : IsDevice v) where
     start = of.start;
   })
 
-  known_at_rest : (p : Place) → IsKnown p → (s : Stored) × (at_rest p ≡ closed s) × (s.known.acknowledged ≡ acknowledged_at p) × (s.known.ran ≡ ran_at p)
-  known_at_rest (raw bytes) known = absurd known
-  known_at_rest (closed s) known = (s, refl, refl, refl)
-  known_at_rest (running events extent ps) known = (certain events extent, refl, refl, refl)
+  known_at_rest : (p : DiskState) → IsKnown p → (s : StoreState) × (at_rest p ≡ not_booted s) × (s.known.acknowledged ≡ acknowledged_at p) × (s.known.ran ≡ ran_at p)
+  known_at_rest (unknown_bytes bytes) known = absurd known
+  known_at_rest (not_booted s) known = (s, refl, refl, refl)
+  known_at_rest (running events extent ps) known = (store_without_doubt events extent, refl, refl, refl)
   known_at_rest (dead s) known = (s, refl, refl, refl)
 
-  is_handed_back : (p : Place) (replies : List Reply) → IsStill p replies → (s : Stored) × IsHandedBack p replies s
+  is_handed_back : (p : DiskState) (replies : List Reply) → IsStill p replies → (s : StoreState) × IsHandedBack p replies s
   is_handed_back p replies (known, more, is, ran) =
       let (s, rests, are, last) = known_at_rest (place_after p replies) known in
       (s, record { is = sym rests; begins = (more, are ∙ is); ran = subst (BeginWith (ran_at p)) (sym last) ran })
 
   -- a next session goes on so, where each that begins with a store does
-  goes_on : (p : Place) (replies : List Reply) (old new : D) (Next : Stored → D → Type 0) → LeavesOnly v old new (StandsForAll p replies) → IsStill p replies → Holds v (place_after p replies) new
-      → ((s : Stored) (disk : D) → Starts v (closed s) disk → Next s disk) → GoesOn v p replies old new Next
+  goes_on : (p : DiskState) (replies : List Reply) (old new : D) (Next : StoreState → D → Type 0) → LeavesOnly v old new (StandsForAll p replies) → IsStill p replies → DiskIsIn v (place_after p replies) new
+      → ((s : StoreState) (disk : D) → Starts v (not_booted s) disk → Next s disk) → GoesOn v p replies old new Next
   goes_on p replies old new Next moments stays holds begins =
       let (s, back) = is_handed_back p replies stays in (
         (s, back, begins s new (subst (λ q. Starts v q new) (sym back.is) (starts_at_rest (place_after p replies) new holds))),
@@ -276,11 +276,11 @@ module _ {D : Type 0} (v : Device D) (laws : IsDevice v) where
   loses_nothing_ever base (suc n) s disk starts = (
     starts,
     λ files commands ending first rest mid new right before behind.
-        let (fs, left, right_then) = rest_right base files (closed s) commands ending first rest right in
-        let known = becomes_known base files (closed s) commands ending first rest right (known_first (closed s) first tt) in
-        let then = place_after (closed s) first in
-        let moments = session_images base fs then left ending rest mid new right_then known (handed_back (closed s) first disk mid before) behind in (
-          have_all base files (closed s) commands ending first rest right,
+        let (fs, left, right_then) = rest_right base files (not_booted s) commands ending first rest right in
+        let known = becomes_known base files (not_booted s) commands ending first rest right (known_first (not_booted s) first tt) in
+        let then = place_after (not_booted s) first in
+        let moments = session_images base fs then left ending rest mid new right_then known (handed_back (not_booted s) first disk mid before) behind in (
+          have_all base files (not_booted s) commands ending first rest right,
           goes_on then rest mid new (λ t later. Lasts v base n t later) moments (stays_known base fs then left ending rest right_then known) (handed_back then rest mid new behind)
               (λ t later begins. loses_nothing_ever base n t later begins),
         ),

@@ -34,11 +34,11 @@ use Rattle.rel_unpack.specs.Refusal.Refusal.{missing_file, bad_file, vsn_mismatc
 use Rattle.rel_unpack.specs.Source.{Source, GivesOne, GivesEach}
 use Rattle.relup_command.proofs.RelupLines.{IsLineAnswer, good_answer}
 use Rattle.relup_command.proofs.RelupOutcomes.{one_answer, some_answer}
-use Rattle.rel_session.specs.Node.{Place, releases_after}
-use Rattle.rel_session.specs.Node.Place.{raw, closed, running, dead}
+use Rattle.rel_session.specs.Node.{DiskState, releases_after}
+use Rattle.rel_session.specs.Node.DiskState.{unknown_bytes, not_booted, running, dead}
 use Rattle.node_answer.specs.Refusals.{refusal_for}
 use Rattle.node_answer.specs.Lines.{check_line}
-use Rattle.rel_session.specs.Transition.{Action, ComesTo, OnNode, reported, creation, unpacking, relup_telling}
+use Rattle.rel_session.specs.Transition.{Action, MeansAction, OnNode, answer_of_node, creation, unpack_action, relup_telling}
 use Rattle.rel_session.specs.Transition.Action.{answers, makes_node, changes_node, installs, reboots_node, boots_node, reports_start, calls}
 use Rattle.session_laws.proofs.ProcessLines.{processes_whole, modules_whole, peek_whole}
 use Rattle.session_laws.proofs.AnswerLines.{HasLine, IsWhole, check_whole, refusal_whole, listing_whole, translation_whole}
@@ -50,9 +50,9 @@ pub data Kind : Type 0 where
   runs : Kind
   fails : Kind
 
-abbrev pub kind_of : Place → Kind
-kind_of (raw x) = of_bytes
-kind_of (closed s) = at_rest
+abbrev pub kind_of : DiskState → Kind
+kind_of (unknown_bytes x) = of_bytes
+kind_of (not_booted s) = at_rest
 kind_of (running events extent ps) = runs
 kind_of (dead s) = fails
 
@@ -61,23 +61,23 @@ abbrev pub runs_node : Kind → Bool
 runs_node runs = true
 runs_node kind = false
 
-on_node : (P : Action → Type 0) (x y : Action) (p q : Place) → runs_node (kind_of p) ≡ runs_node (kind_of q) → (P x → P y → x ≡ y) → OnNode p P x → OnNode q P y → x ≡ y
+on_node : (P : Action → Type 0) (x y : Action) (p q : DiskState) → runs_node (kind_of p) ≡ runs_node (kind_of q) → (P x → P y → x ≡ y) → OnNode p P x → OnNode q P y → x ≡ y
 on_node P x y (running events extent ps) (running others stop qs) kinds one is also = one is also
 on_node P x y (running events extent ps) q kinds one is also = absurd cc
 on_node P x y p (running others stop qs) kinds one is also = absurd cc
 on_node P x y p q kinds one is also = is ∙ sym also
 
 -- what a node is asked is answered by its releases and its processes
-abbrev pub AreReported : Place → Place → Action → Action → Type 0
-AreReported p q x y = (says : Releases → Processes → List ℕ) × (x ≡ answers (reported says p)) × (y ≡ answers (reported says q))
+abbrev pub AreReported : DiskState → DiskState → Action → Action → Type 0
+AreReported p q x y = (says : Releases → Processes → List ℕ) × (x ≡ answers (answer_of_node says p)) × (y ≡ answers (answer_of_node says q))
 
 -- Where a node runs at both places or at neither, a command comes to one action, but where it asks the node.
-pub one_action : (source : Source) → GivesOne source → (p q : Place) (c : Command) (x y : Action) → runs_node (kind_of p) ≡ runs_node (kind_of q) → ComesTo source p c x → ComesTo source q c y
+pub one_action : (source : Source) → GivesOne source → (p q : DiskState) (c : Command) (x y : Action) → runs_node (kind_of p) ≡ runs_node (kind_of q) → MeansAction source p c x → MeansAction source q c y
     → (x ≡ y) ⊎ AreReported p q x y
 one_action source one p q (file path f) x y kinds is also = inl (is ∙ sym also)
 one_action source one p q (create path) x y kinds (found, there, is) (again, there_too, also) = inl (is ∙ ap creation (one_brought source one path found again there there_too) ∙ sym also)
 one_action source one p q (set_unpacked path) x y kinds is also =
-    inl (on_node _ x y p q kinds (λ here here_too. here.2 ∙ ap unpacking (one_brought source one path here.0 here_too.0 here.1 here_too.1) ∙ sym here_too.2) is also)
+    inl (on_node _ x y p q kinds (λ here here_too. here.2 ∙ ap unpack_action (one_brought source one path here.0 here_too.0 here.1 here_too.1) ∙ sym here_too.2) is also)
 one_action source one p q (check vsn) x y kinds is also = inr ((λ list ps. check_line vsn list), is, also)
 one_action source one p q (install vsn) x y kinds is also = inl (is ∙ sym also)
 one_action source one p q (permanent vsn) x y kinds is also = inl (is ∙ sym also)
@@ -98,7 +98,7 @@ one_action source one p q bad x y kinds is also = inl (is ∙ sym also)
 
 -- A change of a node has a record, and no restart.
 abbrev pub HasRecordOf : Action → Type 0
-HasRecordOf (changes_node c) = (p : Place) → LeavesCompactStore (c.event ∷ []) p → IsCompact p
+HasRecordOf (changes_node c) = (p : DiskState) → LeavesCompactStore (c.event ∷ []) p → IsCompact p
 HasRecordOf does = Unit {0}
 
 record_as : (x y : Action) → x ≡ y → HasRecordOf y → HasRecordOf x
@@ -108,7 +108,7 @@ record_of_creation : (brought : Result Brought Refusal) → HasRecordOf (creatio
 record_of_creation (Err why) = tt
 record_of_creation (Ok b) = tt
 
-record_of_unpacking : (brought : Result Brought Refusal) → HasRecordOf (unpacking brought)
+record_of_unpacking : (brought : Result Brought Refusal) → HasRecordOf (unpack_action brought)
 record_of_unpacking (Err why) = tt
 record_of_unpacking (Ok b) = λ p small. small tt
 
@@ -116,11 +116,11 @@ record_of_telling : (found : Result (List ℕ) Refusal) → HasRecordOf (relup_t
 record_of_telling (Err why) = tt
 record_of_telling (Ok text) = tt
 
-pub has_record : (source : Source) (p : Place) (c : Command) (does : Action) → ComesTo source p c does → HasRecordOf does
+pub has_record : (source : Source) (p : DiskState) (c : Command) (does : Action) → MeansAction source p c does → HasRecordOf does
 has_record source p (create path) does (found, there, is) = record_as does _ is (record_of_creation found)
 has_record source (running events extent ps) (set_unpacked path) does (found, there, is) = record_as does _ is (record_of_unpacking found)
-has_record source (raw x) (set_unpacked path) does is = record_as does _ is tt
-has_record source (closed s) (set_unpacked path) does is = record_as does _ is tt
+has_record source (unknown_bytes x) (set_unpacked path) does is = record_as does _ is tt
+has_record source (not_booted s) (set_unpacked path) does is = record_as does _ is tt
 has_record source (dead s) (set_unpacked path) does is = record_as does _ is tt
 has_record source p (relup new ups downs) does (found, there, is) = record_as does _ is (record_of_telling found)
 has_record source p (file path f) does is = record_as does _ is tt
@@ -141,12 +141,12 @@ has_record source p bad does is = record_as does _ is tt
 has_record source p quit does is = absurd is
 
 -- Each command but `quit` comes to an action.
-pub some_action : (source : Source) → GivesEach source → (p : Place) (c : Command) → (c ≡ quit) ⊎ ((does : Action) × ComesTo source p c does)
+pub some_action : (source : Source) → GivesEach source → (p : DiskState) (c : Command) → (c ≡ quit) ⊎ ((does : Action) × MeansAction source p c does)
 some_action source each p (file path f) = inr (_, refl)
 some_action source each p (create path) = let (brought, there) = some_brought source each path in inr (creation brought, (brought, there, refl))
-some_action source each (running events extent ps) (set_unpacked path) = let (brought, there) = some_brought source each path in inr (unpacking brought, (brought, there, refl))
-some_action source each (raw x) (set_unpacked path) = inr (_, refl)
-some_action source each (closed s) (set_unpacked path) = inr (_, refl)
+some_action source each (running events extent ps) (set_unpacked path) = let (brought, there) = some_brought source each path in inr (unpack_action brought, (brought, there, refl))
+some_action source each (unknown_bytes x) (set_unpacked path) = inr (_, refl)
+some_action source each (not_booted s) (set_unpacked path) = inr (_, refl)
 some_action source each (dead s) (set_unpacked path) = inr (_, refl)
 some_action source each p (check vsn) = inr (_, refl)
 some_action source each p (install vsn) = inr (_, refl)
@@ -257,7 +257,7 @@ good_creation source path (Ok b) brings good = (
   files_line (own_refusal b) (refusal_line_with true b good),
 )
 
-good_unpacking : (source : Source) (path : List ℕ) (brought : Result Brought Refusal) → Brings source path brought → IsGood IsLineBrought brought → IsGoodAction (unpacking brought)
+good_unpacking : (source : Source) (path : List ℕ) (brought : Result Brought Refusal) → Brings source path brought → IsGood IsLineBrought brought → IsGoodAction (unpack_action brought)
 good_unpacking source path (Err why) brings good = refusal_whole (refusal_for why) (reported_line why good)
 good_unpacking source path (Ok b) brings good = (
   λ list next free allowed. of_files source path b brings good.found.versions (taken_in b list next free allowed),
@@ -274,18 +274,18 @@ good_telling (Err why) good = refusal_whole (refusal_for why) (reported_line why
 good_telling (Ok text) (t, line, is) = subst IsWhole (sym is) (translation_whole t line)
 
 -- what a node is asked is answered whole, where it is on a node that runs
-whole_reported : (says : Releases → Processes → List ℕ) (p : Place) → HasModuleVersionsAt p → ((list : Releases) (ps : Processes) → HaveModuleVersions ps → IsWhole (says list ps)) → IsWhole (reported says p)
-whole_reported says (raw x) lines whole behind = refl
-whole_reported says (closed s) lines whole behind = refl
+whole_reported : (says : Releases → Processes → List ℕ) (p : DiskState) → HasModuleVersionsAt p → ((list : Releases) (ps : Processes) → HaveModuleVersions ps → IsWhole (says list ps)) → IsWhole (answer_of_node says p)
+whole_reported says (unknown_bytes x) lines whole behind = refl
+whole_reported says (not_booted s) lines whole behind = refl
 whole_reported says (running events extent ps) lines whole behind = whole (releases_after events) ps lines behind
 whole_reported says (dead s) lines whole behind = refl
 
-pub good_action : (source : Source) (p : Place) (c : Command) (does : Action) → HasLinePath c → HasModuleVersionsAt p → ComesTo source p c does → IsGoodAction does
+pub good_action : (source : Source) (p : DiskState) (c : Command) (does : Action) → HasLinePath c → HasModuleVersionsAt p → MeansAction source p c does → IsGoodAction does
 good_action source p (file path f) does line reports is = good_as does _ is (λ behind. refl)
 good_action source p (create path) does line reports (found, there, is) = good_as does _ is (good_creation source path found there (good_brought source path line found there))
 good_action source (running events extent ps) (set_unpacked path) does line reports (found, there, is) = good_as does _ is (good_unpacking source path found there (good_brought source path line found there))
-good_action source (raw x) (set_unpacked path) does line reports is = good_as does _ is (λ behind. refl)
-good_action source (closed s) (set_unpacked path) does line reports is = good_as does _ is (λ behind. refl)
+good_action source (unknown_bytes x) (set_unpacked path) does line reports is = good_as does _ is (λ behind. refl)
+good_action source (not_booted s) (set_unpacked path) does line reports is = good_as does _ is (λ behind. refl)
 good_action source (dead s) (set_unpacked path) does line reports is = good_as does _ is (λ behind. refl)
 good_action source p (check vsn) does line reports is = good_as does _ is (whole_reported _ p reports (λ list ps lines. check_whole vsn list))
 good_action source p (install vsn) does line reports is = good_as does _ is tt

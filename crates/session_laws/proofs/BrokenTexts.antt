@@ -7,10 +7,10 @@ use Rattle.session_input.specs.Commands.{Command}
 use Rattle.session_input.specs.Feed.{Feed}
 use Rattle.session_input.specs.Feed.Feed.{over, cut, next}
 use Rattle.rel_session.specs.Files.{Files, files_behind, source_of}
-use Rattle.rel_session.specs.Node.{Place, Reply}
-use Rattle.rel_session.specs.Run.{IsTextOf, Replies, Ending, answers_of, events_of}
+use Rattle.rel_session.specs.Node.{DiskState, Reply}
+use Rattle.rel_session.specs.Run.{IsTextOf, AreReplies, Ending, answers_of, events_of}
 use Rattle.rel_session.specs.Run.Ending.{ended, cut_off, unread, unwritten, out_of_memory, going_on}
-use Rattle.rel_session.specs.Transition.{Action, Acts, ComesToOrLacks, Transition}
+use Rattle.rel_session.specs.Transition.{Action, NodeReplies, ComesToOrLacks, Transition}
 use Rattle.rel_session.specs.Transition.Action.{answers, makes_node, changes_node, installs, reboots_node, boots_node, reports_start, calls}
 use Rattle.session_laws.specs.AnswerLaws.{AreSame, HaveLinePaths, HasLinePath, HasModuleVersionsAt, HasVersionsAt, IsOneOrNone, RestartAlike, Shows, ShowsOneRun, EachTextShows, have_restart}
 use Rattle.session_laws.proofs.AcknowledgedEvents.{none_left}
@@ -26,18 +26,18 @@ use Rattle.session_laws.proofs.SourceLemmas.{gives_one}
 use Rattle.session_laws.proofs.Versions.{LinesOf, each_good}
 
 -- each of these replies is one to its command
-abbrev AreTransitions : Source → Files → Place → List Reply → Feed Command → Type 0
+abbrev AreTransitions : Source → Files → DiskState → List Reply → Feed Command → Type 0
 AreTransitions base files p [] commands = Unit {0}
 AreTransitions base files p (a ∷ more) (next c rest) = Transition (source_of base files) p c a × AreTransitions base (files_behind files c) a.after more rest
 AreTransitions base files p (a ∷ more) commands = ⊥
 
-all_right : (base : Source) (files : Files) (p : Place) (commands : Feed Command) (ending : Ending) (replies : List Reply) → Replies base files p commands ending replies → AreTransitions base files p replies commands
+all_right : (base : Source) (files : Files) (p : DiskState) (commands : Feed Command) (ending : Ending) (replies : List Reply) → AreReplies base files p commands ending replies → AreTransitions base files p replies commands
 all_right base files p commands ending [] right = tt
 all_right base files p over ending (a ∷ more) right = absurd (none_left base files p over ending a more (inl refl) right)
 all_right base files p cut ending (a ∷ more) right = absurd (none_left base files p cut ending a more (inr refl) right)
 all_right base files p (next c rest) ending (a ∷ more) right = (right.0, all_right base (files_behind files c) a.after rest ending more right.1)
 
-first_right : (base : Source) (files : Files) (p : Place) (commands : Feed Command) (ending : Ending) (first : List Reply) (last : Reply) → Replies base files p commands ending (first ++ last ∷ []) → AreTransitions base files p first commands
+first_right : (base : Source) (files : Files) (p : DiskState) (commands : Feed Command) (ending : Ending) (first : List Reply) (last : Reply) → AreReplies base files p commands ending (first ++ last ∷ []) → AreTransitions base files p first commands
 first_right base files p commands ending [] last right = tt
 first_right base files p over ending (a ∷ first) last right = absurd (none_left base files p over ending a (first ++ last ∷ []) (inl refl) right)
 first_right base files p cut ending (a ∷ first) last right = absurd (none_left base files p cut ending a (first ++ last ∷ []) (inr refl) right)
@@ -48,7 +48,7 @@ answers-append [] more = refl
 answers-append (a ∷ first) more = ap (λ t. a.answer ++ t) (answers-append first more) ∙ sym (append_assoc a.answer (answers_of first) (answers_of more))
 
 -- what a text shows of the replies of a session that wrote it
-record IsShown (base : Source) (files : Files) (p : Place) (commands : Feed Command) (text : List ℕ) (replies : List Reply) : Type 0 where
+record IsShown (base : Source) (files : Files) (p : DiskState) (commands : Feed Command) (text : List ℕ) (replies : List Reply) : Type 0 where
   shows : Shows text replies
   right : AreTransitions base files p shows.whole commands
 
@@ -78,7 +78,7 @@ shows_but_last text replies first last part left are answer is broke = record {
   not_whole = broke;
 }
 
-is_shown : (base : Source) (files : Files) (p : Place) (commands : Feed Command) (ending : Ending) (text : List ℕ) (replies : List Reply) → Replies base files p commands ending replies → IsTextOf ending replies text
+is_shown : (base : Source) (files : Files) (p : DiskState) (commands : Feed Command) (ending : Ending) (text : List ℕ) (replies : List Reply) → AreReplies base files p commands ending replies → IsTextOf ending replies text
     → IsShown base files p commands text replies
 is_shown base files p commands ended text replies right is = record { shows = shows_all text replies is; right = all_right base files p commands ended replies right }
 is_shown base files p commands cut_off text replies right is = record { shows = shows_all text replies is; right = all_right base files p commands cut_off replies right }
@@ -90,12 +90,12 @@ is_shown base files p commands unwritten text replies right (first, last, part, 
     record { shows = shows_all text replies all; right = all_right base files p commands unwritten replies right }
 is_shown base files p commands unwritten text replies right (first, last, part, x ∷ left, are, parts, is) = record {
   shows = shows_but_last text replies first last part (x ∷ left) are (sym parts) is (λ none. absurd cc);
-  right = first_right base files p commands unwritten first last (subst (Replies base files p commands unwritten) are right);
+  right = first_right base files p commands unwritten first last (subst (AreReplies base files p commands unwritten) are right);
 }
 is_shown base files p commands out_of_memory text replies right (inl is) = record { shows = shows_all text replies is; right = all_right base files p commands out_of_memory replies right }
 is_shown base files p commands out_of_memory text replies right (inr (first, last, are, is)) = record {
   shows = shows_but_last text replies first last [] last.answer are refl (is ∙ sym (append-nil (answers_of first))) (λ none. refl);
-  right = first_right base files p commands out_of_memory first last (subst (Replies base files p commands out_of_memory) are right);
+  right = first_right base files p commands out_of_memory first last (subst (AreReplies base files p commands out_of_memory) are right);
 }
 
 -- no answer is empty
@@ -151,9 +151,9 @@ as_second [] s more alike = tt
 as_second (r ∷ broken) s more alike = sym alike.0
 
 -- Where the whole answer to a command stands in a text, no run that wrote the text broke off within that command.
-module _ (base : Source) (single : GivesOne base) (files : Files) (p q : Place) (kinds : kind_of p ≡ kind_of q) (all : HasVersionsAt p) (reports : HasModuleVersionsAt p) (c : Command) (line : HasLinePath c) where
-  never_broken : (rest : Feed Command) (ending : Ending) (broken : List Reply) (part : List ℕ) (s : Reply) (tail : List ℕ) (again : Action) → Replies base files p (next c rest) ending broken → IsCut broken part
-      → ComesToOrLacks (source_of base files) q c again → Acts q again s → LinesOf again s → RestartsAs broken s → part ≡ s.answer ++ tail → ⊥
+module _ (base : Source) (single : GivesOne base) (files : Files) (p q : DiskState) (kinds : kind_of p ≡ kind_of q) (all : HasVersionsAt p) (reports : HasModuleVersionsAt p) (c : Command) (line : HasLinePath c) where
+  never_broken : (rest : Feed Command) (ending : Ending) (broken : List Reply) (part : List ℕ) (s : Reply) (tail : List ℕ) (again : Action) → AreReplies base files p (next c rest) ending broken → IsCut broken part
+      → ComesToOrLacks (source_of base files) q c again → NodeReplies q again s → LinesOf again s → RestartsAs broken s → part ≡ s.answer ++ tail → ⊥
   never_broken rest ending [] part s tail again right broke comes acts_there of alike is =
       let none : [] ≡ s.answer ++ (tail ++ broke.left) = broke.answer ∙ ap (λ t. t ++ broke.left) is ∙ append_assoc s.answer tail broke.left in
       not_empty again s of (front_of_none s.answer (tail ++ broke.left) none)
@@ -171,8 +171,8 @@ module _ (base : Source) (single : GivesOne base) (files : Files) (p q : Place) 
           not_empty again s of (front_of_none s.answer tail (sym (broke.not_whole (back_of_none tail broke.left none)) ∙ is))
 
 -- Two runs from places of one kind show the same whole answers, with the same events.
-same_shown : (base : Source) → GivesOne base → (files : Files) (p q : Place) (commands : Feed Command) (a b : Ending) (first broken second torn : List Reply) (part rest : List ℕ) → kind_of p ≡ kind_of q → HasVersionsAt p → HasVersionsAt q
-    → HasModuleVersionsAt p → HasModuleVersionsAt q → HaveLinePaths commands → RestartAlike (first ++ broken) (second ++ torn) → Replies base files p commands a (first ++ broken) → Replies base files q commands b (second ++ torn)
+same_shown : (base : Source) → GivesOne base → (files : Files) (p q : DiskState) (commands : Feed Command) (a b : Ending) (first broken second torn : List Reply) (part rest : List ℕ) → kind_of p ≡ kind_of q → HasVersionsAt p → HasVersionsAt q
+    → HasModuleVersionsAt p → HasModuleVersionsAt q → HaveLinePaths commands → RestartAlike (first ++ broken) (second ++ torn) → AreReplies base files p commands a (first ++ broken) → AreReplies base files q commands b (second ++ torn)
     → AreTransitions base files p first commands → AreTransitions base files q second commands → IsCut broken part → IsCut torn rest → answers_of first ++ part ≡ answers_of second ++ rest → AreSame first second
 same_shown base single files p q commands a b [] broken [] torn part rest kinds all all_too reports reports_too paths restarts right right_too are are_too broke broke_too same = tt
 same_shown base single files p q over a b [] broken (s ∷ second) torn part rest kinds all all_too reports reports_too paths restarts right right_too are are_too broke broke_too same = absurd are_too
@@ -223,6 +223,6 @@ shows_one_run base single files p commands a b first second text all reports pat
       two.shows,
       same_shown base single files p p commands a b one.shows.whole one.shows.broken two.shows.whole two.shows.broken one.shows.part two.shows.part refl all all reports reports paths
           (subst (λ (l : List Reply). RestartAlike l (two.shows.whole ++ two.shows.broken)) one.shows.are (subst (RestartAlike first) two.shows.are restarts))
-          (subst (Replies base files p commands a) one.shows.are right) (subst (Replies base files p commands b) two.shows.are right_too) one.right two.right
+          (subst (AreReplies base files p commands a) one.shows.are right) (subst (AreReplies base files p commands b) two.shows.are right_too) one.right two.right
           (cut_of text first one.shows) (cut_of text second two.shows) (sym one.shows.written ∙ two.shows.written),
     )

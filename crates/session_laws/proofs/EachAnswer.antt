@@ -8,9 +8,9 @@ use Rattle.rel_list.specs.Event.{entry}
 use Rattle.rel_list.specs.declared.status.Status.TheVariants.{Permanent}
 use Rattle.rel_handler.specs.declared.error.BootError.{BootError}
 use Rattle.node_command.specs.declared.error.HandlerError.{HandlerError}
-use Rattle.node_store.specs.Events.{Events, BeginWith, at_rest_since, certain}
-use Rattle.node_store.specs.Compaction.{compacted}
-use Rattle.node_store.specs.Image.{Extent, booted_extent, extent_behind, extent_of, first_extent, HasSpace, holds_a_store, IsImageOf}
+use Rattle.node_store.specs.Events.{Events, BeginWith, at_rest_since, store_without_doubt}
+use Rattle.node_store.specs.Compaction.{compacted_extent}
+use Rattle.node_store.specs.Image.{Extent, booted_extent, extent_after, extent_of, first_extent, HasSpace, holds_a_store, IsImageOf}
 use Rattle.rel_handler.proofs.BootLists.{extent_of_none, fits_or_not}
 use Rattle.node_command.specs.Files.{bundle_brought, made_size}
 use Rattle.node_command.specs.Place.{own_refusal}
@@ -28,8 +28,8 @@ use Rattle.session_laws.specs.LawsBelow.{BootLaws}
 use Rattle.node_processes.specs.Calls.{Calls, left_by}
 use Rattle.node_processes.specs.Fresh.{fresh_processes}
 use Rattle.node_processes.specs.Processes.{Processes}
-use Rattle.rel_session.specs.Node.{Place, Reply, reply, nothing, releases_after, list_or_none, behind}
-use Rattle.rel_session.specs.Node.Place.{raw, closed, running, dead}
+use Rattle.rel_session.specs.Node.{DiskState, Reply, reply, no_outcome, releases_after, list_or_none, after_commit}
+use Rattle.rel_session.specs.Node.DiskState.{unknown_bytes, not_booted, running, dead}
 use Rattle.rel_session.specs.Booting.{BootsStore, boot_line}
 use Rattle.rel_session.specs.Run.Ending.{ended, cut_off}
 use Rattle.session_laws.specs.AnswerLaws.{EachHasAnAnswer, HasAnswer, HasList, IsCertain, IsCompact, LeavesCompactStore, RunsOneShot}
@@ -55,9 +55,9 @@ use Rattle.rel_session.proofs.ExtentLemmas.{booted_reach, compacted_twice, none_
 use Rattle.rel_session.proofs.LoopLemmas.{replies_next}
 
 -- Where the device does not fail, the place after a reply is one of these again.
-pub data IsFair : Place → Type 0 where
-  of_raw : (x : List ℕ) → IsFair (raw x)
-  rests : (ran events : Events) (extent : Extent) (list : Releases) → BeginWith ran events → list_after events ≡ Some list → IsFair (closed (at_rest_since ran events extent))
+pub data IsFair : DiskState → Type 0 where
+  of_raw : (x : List ℕ) → IsFair (unknown_bytes x)
+  rests : (ran events : Events) (extent : Extent) (list : Releases) → BeginWith ran events → list_after events ≡ Some list → IsFair (not_booted (at_rest_since ran events extent))
   runs : (events : Events) (extent : Extent) (ps : Processes) (list : Releases) → list_after events ≡ Some list → IsFair (running events extent ps)
   died : (ran events : Events) (extent : Extent) (list : Releases) → BeginWith ran events → list_after events ≡ Some list → IsFair (dead (at_rest_since ran events extent))
 
@@ -70,7 +70,7 @@ pub record Has (P : Reply → Type 0) : Type 0 where
   pub compact : LeavesCompactStore given.outcome.acknowledged given.after
 
 -- so it is where the store is as short, whatever the events
-leaves_compact : (events : Events) (p : Place) → IsCompact p → LeavesCompactStore events p
+leaves_compact : (events : Events) (p : DiskState) → IsCompact p → LeavesCompactStore events p
 leaves_compact [] p compact = λ r. compact
 leaves_compact (made b ∷ events) p compact = λ r. compact
 leaves_compact (unpacked b ∷ events) p compact = λ r. compact
@@ -85,15 +85,15 @@ fair_reply : (P : Reply → Type 0) (a : Reply) → P a → a.outcome.failed ≡
 fair_reply P a is works fair compact = record { given = a; is = is; works = works; fair = fair; compact = compact }
 
 -- an answer alone
-reported_reply : (P : Reply → Type 0) (text : List ℕ) (p : Place) → P (reply text nothing p) → IsFair p → Has P
-reported_reply P text p is fair = fair_reply P (reply text nothing p) is refl fair (λ r. absurd r)
+reported_reply : (P : Reply → Type 0) (text : List ℕ) (p : DiskState) → P (reply text no_outcome p) → IsFair p → Has P
+reported_reply P text p is fair = fair_reply P (reply text no_outcome p) is refl fair (λ r. absurd r)
 
 mapped : (P Q : Reply → Type 0) → ((a : Reply) → P a → Q a) → Has P → Has Q
 mapped P Q f has = record { given = has.given; is = f has.given has.is; works = has.works; fair = has.fair; compact = has.compact }
 
 -- how far the store reaches after a commit, once it was compacted
 abbrev reach : Events → Extent → Event → ℕ → Extent
-reach events extent e size = compacted (extent_behind extent size) (releases_after (events ++ e ∷ []))
+reach events extent e size = compacted_extent (extent_after extent size) (releases_after (events ++ e ∷ []))
 
 -- a commit has one where what is committed has one
 commits : (events : Events) (extent : Extent) (ps : Processes) (list : Releases) (c : Event) (size : ℕ) (P : Extent → Reply → Type 0) → list_after events ≡ Some list
@@ -113,15 +113,15 @@ commits events extent ps list c size P after done = by_list (commanded c (releas
     by_list (Ok grown) e = by_room grown e (fits_or_not extent size)
 
 -- so short it is after a commit
-stays_compact : (events : Events) (extent : Extent) (e : Event) (size : ℕ) → reach events extent e size ≡ compacted (reach events extent e size) (releases_after (events ++ e ∷ []))
-stays_compact events extent e size = compacted_twice (extent_behind extent size) (releases_after (events ++ e ∷ []))
+stays_compact : (events : Events) (extent : Extent) (e : Event) (size : ℕ) → reach events extent e size ≡ compacted_extent (reach events extent e size) (releases_after (events ++ e ∷ []))
+stays_compact events extent e size = compacted_twice (extent_after extent size) (releases_after (events ++ e ∷ []))
 
-changes : (events : Events) (extent : Extent) (ps : Processes) (list : Releases) (c : Transition.Change) (f : Option Refusal) → list_after events ≡ Some list → Has (Transition.Changes events extent ps c (releases_after events) f (commanded c.event (releases_after events)))
+changes : (events : Events) (extent : Extent) (ps : Processes) (list : Releases) (c : Transition.ListChange) (f : Option Refusal) → list_after events ≡ Some list → Has (Transition.RepliesToChange events extent ps c (releases_after events) f (commanded c.event (releases_after events)))
 changes events extent ps list c (Some why) after = reported_reply _ _ _ refl (runs events extent ps list after)
 changes events extent ps list c None after =
     let size = c.size (releases_after events) in
-    commits events extent ps list c.event size (λ x a. a ≡ Transition.changed events x ps c (releases_after events)) after (λ grown then.
-    fair_reply _ (Transition.changed events (reach events extent c.event size) ps c (releases_after events)) refl refl (runs (events ++ c.event ∷ []) (reach events extent c.event size) ps grown then)
+    commits events extent ps list c.event size (λ x a. a ≡ Transition.reply_to_change events x ps c (releases_after events)) after (λ grown then.
+    fair_reply _ (Transition.reply_to_change events (reach events extent c.event size) ps c (releases_after events)) refl refl (runs (events ++ c.event ∷ []) (reach events extent c.event size) ps grown then)
     (leaves_compact (c.event ∷ []) (running (events ++ c.event ∷ []) (reach events extent c.event size) ps) (stays_compact events extent c.event size)))
 
 makes_with : (x : List ℕ) (p : Bundle) (size : ℕ) (why : Option Refusal) → Has (Transition.MakesWith x p size why)
@@ -129,16 +129,16 @@ makes_with x p size (Some why) = reported_reply _ _ _ refl (of_raw x)
 makes_with x p size None = go (fits_or_not first_extent size)
   where
     go : HasSpace first_extent size ⊎ (HasSpace first_extent size → ⊥) → Has (Transition.MakesWith x p size None)
-    go (inl fits) = fair_reply _ _ (inl (fits, inl refl)) refl (runs (made p ∷ booting ∷ []) (extent_behind first_extent size) (fresh_processes (entry p Permanent ∷ [])) (entry p Permanent ∷ []) refl) (λ r. refl)
+    go (inl fits) = fair_reply _ _ (inl (fits, inl refl)) refl (runs (made p ∷ booting ∷ []) (extent_after first_extent size) (fresh_processes (entry p Permanent ∷ [])) (entry p Permanent ∷ []) refl) (λ r. refl)
     go (inr over_it) = reported_reply _ _ _ (inr (over_it, refl)) (of_raw x)
 
 makes_on : (x : List ℕ) (b : Brought) (there : Bool) → Has (Transition.MakesOn x b there)
 makes_on x b true = reported_reply _ _ _ refl (of_raw x)
 makes_on x b false = makes_with x (bundle_brought b) (made_size b) (own_refusal b)
 
-makes : (p : Place) (found : Brought) → IsFair p → Has (Transition.MakesNode p found)
+makes : (p : DiskState) (found : Brought) → IsFair p → Has (Transition.MakesNode p found)
 makes p found (of_raw x) =
-    mapped (Transition.MakesOn x found (holds_a_store x)) (Transition.MakesNode (raw x) found) (λ a is. inl is) (makes_on x found (holds_a_store x))
+    mapped (Transition.MakesOn x found (holds_a_store x)) (Transition.MakesNode (unknown_bytes x) found) (λ a is. inl is) (makes_on x found (holds_a_store x))
 makes p found (rests ran events extent list since after) = reported_reply _ _ _ (inl refl) (rests ran events extent list since after)
 makes p found (runs events extent ps list after) = reported_reply _ _ _ refl (runs events extent ps list after)
 makes p found (died ran events extent list since after) = reported_reply _ _ _ refl (died ran events extent list since after)
@@ -156,20 +156,20 @@ boots_bytes laws x = go (laws.either x)
         let (events, before) = events_of_image x es image still in
         let extent = extent_of x in
         mapped (Transition.AnswersBoot events extent) (Transition.BootsBytes x) (λ a is. inl (events, es, extent, before, record { image_of = image; reaches = refl }, is)) (booted_there events extent es before)
-    go (inr (why, is)) = reported_reply _ (boot_line why) (raw x) (inr (inl (why, is, refl))) (of_raw x)
+    go (inr (why, is)) = reported_reply _ (boot_line why) (unknown_bytes x) (inr (inl (why, is, refl))) (of_raw x)
 
-boots : BootLaws → (p : Place) → IsFair p → Has (Transition.Boots p)
+boots : BootLaws → (p : DiskState) → IsFair p → Has (Transition.Boots p)
 boots laws p (of_raw x) = boots_bytes laws x
 boots laws p (rests ran events extent list since after) = mapped (Transition.AnswersBoot events extent) (Transition.BootsStore (at_rest_since ran events extent)) (λ a is. inl (events, extent, (since, inl (refl, refl)), is)) (booted_there events extent list after)
 boots laws p (died ran events extent list since after) = mapped (Transition.AnswersBoot events extent) (Transition.BootsStore (at_rest_since ran events extent)) (λ a is. inl (events, extent, (since, inl (refl, refl)), is)) (booted_there events extent list after)
-boots laws p (runs events extent ps list after) = mapped (Transition.AnswersBoot events extent) (Transition.BootsStore (certain events extent)) (λ a is. inl (events, extent, (with_themselves events, inl (refl, refl)), is)) (booted_there events extent list after)
+boots laws p (runs events extent ps list after) = mapped (Transition.AnswersBoot events extent) (Transition.BootsStore (store_without_doubt events extent)) (λ a is. inl (events, extent, (with_themselves events, inl (refl, refl)), is)) (booted_there events extent list after)
 
 -- A boot of a list without a one-shot writes no record, so the store stays as short.
-booted_compact : (events : Events) (x : Extent) (list : Releases) → has_one_shot (releases_after events) ≡ false → list_after events ≡ Some list → x ≡ compacted x (releases_after events)
+booted_compact : (events : Events) (x : Extent) (list : Releases) → has_one_shot (releases_after events) ≡ false → list_after events ≡ Some list → x ≡ compacted_extent x (releases_after events)
     → IsCompact (running (events ++ booting ∷ []) (booted_extent x list) (fresh_processes (releases_after (events ++ booting ∷ []))))
 booted_compact events x list none after compact =
     let free : has_one_shot list ≡ false = ap (λ o. has_one_shot (list_or_none o)) (sym after) ∙ none in
-    subst (λ y. y ≡ compacted y (releases_after (events ++ booting ∷ []))) (sym (extent_of_none x list free)) (compact ∙ sym (booted_reach x events none))
+    subst (λ y. y ≡ compacted_extent y (releases_after (events ++ booting ∷ []))) (sym (extent_of_none x list free)) (compact ∙ sym (booted_reach x events none))
 
 reboots : (events : Events) (extent : Extent) (ps : Processes) (list : Releases) (vsn : List ℕ) → list_after events ≡ Some list
     → Has (Transition.Reboots events extent ps vsn (releases_after events) (commanded (rebooting vsn) (releases_after events)))
@@ -179,24 +179,24 @@ reboots events extent ps list vsn after =
     let x = reach events extent e size in
     commits events extent ps list e size _ after (λ grown then.
     let booted = booted_there (events ++ e ∷ []) x grown then in
-    fair_reply _ (behind e booted.given) (booted.given, inl (events ++ e ∷ [], x, (with_themselves (events ++ e ∷ []), inl (refl, refl)), booted.is), refl) booted.works booted.fair
+    fair_reply _ (after_commit e booted.given) (booted.given, inl (events ++ e ∷ [], x, (with_themselves (events ++ e ∷ []), inl (refl, refl)), booted.is), refl) booted.works booted.fair
     (λ r. subst (λ (t : Reply). IsCompact t.after) (sym booted.is.2)
     (booted_compact (events ++ e ∷ []) x booted.is.0 (none_rebooted events vsn) booted.is.1 (stays_compact events extent e size))))
 
-rebooted : (p : Place) (vsn : List ℕ) → IsFair p → Has (Transition.Acts p (reboots_node vsn))
+rebooted : (p : DiskState) (vsn : List ℕ) → IsFair p → Has (Transition.NodeReplies p (reboots_node vsn))
 rebooted p vsn (of_raw x) = reported_reply _ _ _ refl (of_raw x)
 rebooted p vsn (rests ran events extent list since after) = reported_reply _ _ _ refl (rests ran events extent list since after)
 rebooted p vsn (died ran events extent list since after) = reported_reply _ _ _ refl (died ran events extent list since after)
 rebooted p vsn (runs events extent ps list after) = reboots events extent ps list vsn after
 
-changed : (p : Place) (c : Transition.Change) → IsFair p → Has (Transition.Acts p (changes_node c))
+changed : (p : DiskState) (c : Transition.ListChange) → IsFair p → Has (Transition.NodeReplies p (changes_node c))
 changed p c (of_raw x) = reported_reply _ _ _ refl (of_raw x)
 changed p c (rests ran events extent list since after) = reported_reply _ _ _ refl (rests ran events extent list since after)
 changed p c (died ran events extent list since after) = reported_reply _ _ _ refl (died ran events extent list since after)
 changed p c (runs events extent ps list after) = changes events extent ps list c (c.files (releases_after events)) after
 
 -- After an installation with a restart the node boots: it starts a one-shot, or the store is as short as it was.
-restart_compact : (events : Events) (x : Extent) → x ≡ compacted x (releases_after events) → (b : Reply) → Transition.AnswersBoot events x b → RunsOneShot b.after ⊎ IsCompact b.after
+restart_compact : (events : Events) (x : Extent) → x ≡ compacted_extent x (releases_after events) → (b : Reply) → Transition.AnswersBoot events x b → RunsOneShot b.after ⊎ IsCompact b.after
 restart_compact events x compact b (list, after, is) = by_one_shot (has_one_shot (releases_after events)) refl
   where
     by_one_shot : (c : Bool) → has_one_shot (releases_after events) ≡ c → RunsOneShot b.after ⊎ IsCompact b.after
@@ -245,25 +245,25 @@ installs_there events extent ps list vsn after = by_found (installation vsn (rel
     by_found (Err why) found = reported_reply _ _ _ refl (runs events extent ps list after)
     by_found (Ok f) found = by_failure f found (script_failure vsn (releases_after events) f)
 
-installed_there : (p : Place) (vsn : List ℕ) → IsFair p → Has (Transition.Acts p (installs vsn))
+installed_there : (p : DiskState) (vsn : List ℕ) → IsFair p → Has (Transition.NodeReplies p (installs vsn))
 installed_there p vsn (of_raw x) = reported_reply _ _ _ refl (of_raw x)
 installed_there p vsn (rests ran events extent list since after) = reported_reply _ _ _ refl (rests ran events extent list since after)
 installed_there p vsn (died ran events extent list since after) = reported_reply _ _ _ refl (died ran events extent list since after)
 installed_there p vsn (runs events extent ps list after) = installs_there events extent ps list vsn after
 
-reported : (p : Place) → IsFair p → Has (Transition.Acts p reports_start)
+reported : (p : DiskState) → IsFair p → Has (Transition.NodeReplies p reports_start)
 reported p (of_raw x) = reported_reply _ _ _ refl (of_raw x)
 reported p (rests ran events extent list since after) = reported_reply _ _ _ refl (rests ran events extent list since after)
 reported p (died ran events extent list since after) = reported_reply _ _ _ refl (died ran events extent list since after)
 reported p (runs events extent ps list after) = reported_reply _ _ _ (inl refl) (runs events extent ps list after)
 
-called_there : (p : Place) (c : Calls) → IsFair p → Has (Transition.Acts p (calls c))
+called_there : (p : DiskState) (c : Calls) → IsFair p → Has (Transition.NodeReplies p (calls c))
 called_there p c (of_raw x) = reported_reply _ _ _ refl (of_raw x)
 called_there p c (rests ran events extent list since after) = reported_reply _ _ _ refl (rests ran events extent list since after)
 called_there p c (died ran events extent list since after) = reported_reply _ _ _ refl (died ran events extent list since after)
 called_there p c (runs events extent ps list after) = reported_reply _ _ _ refl (runs events extent (left_by c ps) list after)
 
-acts : BootLaws → (p : Place) (does : Transition.Action) → IsFair p → Has (Transition.Acts p does)
+acts : BootLaws → (p : DiskState) (does : Transition.Action) → IsFair p → Has (Transition.NodeReplies p does)
 acts laws p (answers text) fair = reported_reply _ text p refl fair
 acts laws p (makes_node found) fair = makes p found fair
 acts laws p (changes_node c) fair = changed p c fair
@@ -274,7 +274,7 @@ acts laws p reports_start fair = reported p fair
 acts laws p (calls c) fair = called_there p c fair
 
 -- A reply to the first command, and what follows it.
-one_more : (base : Source) (files : Files) (p : Place) (c : Command) (rest : Feed Command) (a : Reply) → Transition.Transition (source_of base files) p c a → a.outcome.failed ≡ false → LeavesCompactStore a.outcome.acknowledged a.after → HasAnswer base (files_behind files c) a.after rest → HasAnswer base files p (next c rest)
+one_more : (base : Source) (files : Files) (p : DiskState) (c : Command) (rest : Feed Command) (a : Reply) → Transition.Transition (source_of base files) p c a → a.outcome.failed ≡ false → LeavesCompactStore a.outcome.acknowledged a.after → HasAnswer base (files_behind files c) a.after rest → HasAnswer base files p (next c rest)
 one_more base files p c rest a is works compact behind = record {
   ending = behind.ending;
   whole = behind.whole;
@@ -284,20 +284,20 @@ one_more base files p c rest a is works compact behind = record {
   right = replies_next base files p c rest behind.ending a behind.replies is behind.right;
 }
 
-each : BootLaws → (base : Source) → GivesEach base → (files : Files) (p : Place) (commands : Feed Command) → IsFair p → HasAnswer base files p commands
+each : BootLaws → (base : Source) → GivesEach base → (files : Files) (p : DiskState) (commands : Feed Command) → IsFair p → HasAnswer base files p commands
 each laws base some files p over fair = record { ending = ended; whole = tt; replies = []; works = tt; compact = tt; right = refl }
 each laws base some files p cut fair = record { ending = cut_off; whole = tt; replies = []; works = tt; compact = tt; right = refl }
 each laws base some files p (next c rest) fair = by_action (some_action (source_of base files) (gives_each base files some) p c) (λ next_files q there. each laws base some next_files q rest there)
   where
-    by_action : (c ≡ quit) ⊎ ((does : Transition.Action) × Transition.ComesTo (source_of base files) p c does) → ((next_files : Files) (q : Place) → IsFair q → HasAnswer base next_files q rest) → HasAnswer base files p (next c rest)
+    by_action : (c ≡ quit) ⊎ ((does : Transition.Action) × Transition.MeansAction (source_of base files) p c does) → ((next_files : Files) (q : DiskState) → IsFair q → HasAnswer base next_files q rest) → HasAnswer base files p (next c rest)
     by_action (inl is) behind = record { ending = ended; whole = tt; replies = []; works = tt; compact = tt; right = (is, refl) }
     by_action (inr (does, comes)) behind =
         let has = acts laws p does fair in
         one_more base files p c rest has.given (does, inl comes, has.is) has.works has.compact (behind (files_behind files c) has.given.after has.fair)
 
-fair_place : (p : Place) → IsCertain p → HasList p → IsFair p
-fair_place (raw x) sure has = of_raw x
-fair_place (closed s) sure (list, after) = subst (λ t. IsFair (closed t)) (sym sure.0) (rests s.known.ran s.known.acknowledged s.extent list sure.1 after)
+fair_place : (p : DiskState) → IsCertain p → HasList p → IsFair p
+fair_place (unknown_bytes x) sure has = of_raw x
+fair_place (not_booted s) sure (list, after) = subst (λ t. IsFair (not_booted t)) (sym sure.0) (rests s.known.ran s.known.acknowledged s.extent list sure.1 after)
 fair_place (running events extent ps) sure (list, after) = runs events extent ps list after
 fair_place (dead s) sure (list, after) = subst (λ t. IsFair (dead t)) (sym sure.0) (died s.known.ran s.known.acknowledged s.extent list sure.1 after)
 

@@ -7,7 +7,7 @@ use Rattle.node_command.specs.declared.error.HandlerError.{HandlerError}
 use Rattle.rel_handler.specs.declared.error.BootError.TheVariants as boot_error
 use Rattle.rel_session.specs.Booting.{Lack, boot_undone}
 use Rattle.rel_session.specs.Booting.Lack.{device_failed, memory_refused}
-use Rattle.node_store.specs.Events.{Events, Stored, certain, uncertain_boot}
+use Rattle.node_store.specs.Events.{Events, StoreState, store_without_doubt, store_with_boot_in_doubt}
 use Rattle.node_store.specs.Image.{Extent, holds_a_store}
 use Rattle.node_command.specs.Files.{bundle_brought, made_size}
 use Rattle.node_command.specs.Place.{own_refusal}
@@ -23,10 +23,10 @@ use Rattle.node_processes.specs.Processes.{Processes}
 use Rattle.node_processes.specs.Scripts.{behind_run}
 use Rattle.node_upgrade.specs.Stale.{stale_modules}
 use Rattle.relup_file.specs.Search.{FoundForm}
-use Rattle.rel_session.specs.Installation.{restarted, restarted_reply}
-use Rattle.rel_session.specs.Node.{Place, Reply, releases_after}
-use Rattle.rel_session.specs.Node.Place.{raw, closed, running, dead}
-use Rattle.rel_session.specs.Run.{Executes}
+use Rattle.rel_session.specs.Installation.{store_after_restart, restarted_reply}
+use Rattle.rel_session.specs.Node.{DiskState, Reply, releases_after}
+use Rattle.rel_session.specs.Node.DiskState.{unknown_bytes, not_booted, running, dead}
+use Rattle.rel_session.specs.Run.{CommandsRun}
 use Rattle.session_laws.specs.AnswerLaws.{DoubtsBoot, FailsOnlyWithTheDevice, ReportsBoot, ReportsDoubt, ReportsFailure}
 use Rattle.rel_session.specs.Transition
 use Rattle.rel_session.specs.Transition.Action.{answers, makes_node, changes_node, installs, reboots_node, boots_node, reports_start, calls}
@@ -48,7 +48,7 @@ commits events extent ps e size (Ok list) P done a (inl (fits, inl (x, reach, is
 commits events extent ps e size (Ok list) P done a (inl (fits, inr is)) = plain a _ is (inr (inl (refl, inl refl)))
 commits events extent ps e size (Ok list) P done a (inr (over, is)) = plain a _ is (inl refl)
 
-changes : (events : Events) (extent : Extent) (ps : Processes) (c : Transition.Change) (l : Releases) (f : Option Refusal) (o : Result Releases HandlerError) (a : Reply) → Transition.Changes events extent ps c l f o a → IsPlain a
+changes : (events : Events) (extent : Extent) (ps : Processes) (c : Transition.ListChange) (l : Releases) (f : Option Refusal) (o : Result Releases HandlerError) (a : Reply) → Transition.RepliesToChange events extent ps c l f o a → IsPlain a
 changes events extent ps c l (Some why) o a is = plain a _ is (inl refl)
 changes events extent ps c l None o a is = commits events extent ps c.event (c.size l) o _ (λ x a is. plain a _ is (inl refl)) a is
 
@@ -66,51 +66,51 @@ makes_fails : (bytes : List ℕ) (p : Bundle) (why : Option Refusal) (a : Reply)
 makes_fails bytes p (Some why) a is = plain a _ is (inl refl)
 makes_fails bytes p None a (torn, kept, is) = plain a _ is (inr (inl (refl, inl refl)))
 
-makes : (p : Place) (found : Brought) (a : Reply) → Transition.MakesNode p found a → IsPlain a
-makes (raw bytes) found a (inl is) = makes_on bytes found (holds_a_store bytes) a is
-makes (raw bytes) found a (inr is) = makes_fails bytes (bundle_brought found) (own_refusal found) a is
-makes (closed s) found a (inl is) = plain a _ is (inl refl)
-makes (closed s) found a (inr is) = plain a _ is (inl refl)
+makes : (p : DiskState) (found : Brought) (a : Reply) → Transition.MakesNode p found a → IsPlain a
+makes (unknown_bytes bytes) found a (inl is) = makes_on bytes found (holds_a_store bytes) a is
+makes (unknown_bytes bytes) found a (inr is) = makes_fails bytes (bundle_brought found) (own_refusal found) a is
+makes (not_booted s) found a (inl is) = plain a _ is (inl refl)
+makes (not_booted s) found a (inr is) = plain a _ is (inl refl)
 makes (running events extent ps) found a is = plain a _ is (inl refl)
 makes (dead s) found a is = plain a _ is (inl refl)
 
 -- a boot that was not done
-undone_plain : (lack : Lack) (q : Place) → IsPlain (boot_undone lack q)
+undone_plain : (lack : Lack) (q : DiskState) → IsPlain (boot_undone lack q)
 undone_plain device_failed q = inr (inl (refl, inr (inl refl)))
 undone_plain memory_refused q = inr (inr (refl, (refl, inl refl)))
 
-boots_store : (s : Stored) (a : Reply) → Transition.BootsStore s a → IsPlain a
+boots_store : (s : StoreState) (a : Reply) → Transition.BootsStore s a → IsPlain a
 boots_store s a (inl (events, extent, has, (list, after, is))) = plain a _ is (inl refl)
-boots_store s a (inr (lack, inl is)) = plain a _ is (undone_plain lack (closed s))
-boots_store s a (inr (lack, inr (events, extent, has, is))) = plain a _ is (undone_plain lack (closed (uncertain_boot s.known.ran events extent)))
+boots_store s a (inr (lack, inl is)) = plain a _ is (undone_plain lack (not_booted s))
+boots_store s a (inr (lack, inr (events, extent, has, is))) = plain a _ is (undone_plain lack (not_booted (store_with_boot_in_doubt s.known.ran events extent)))
 
 -- a boot after an installation
-undone_behind : (vsn : List ℕ) (list : Releases) (f : FoundForm) (ps : Processes) (lack : Lack) (q : Place) → IsPlain (restarted_reply vsn list f ps (boot_undone lack q))
+undone_behind : (vsn : List ℕ) (list : Releases) (f : FoundForm) (ps : Processes) (lack : Lack) (q : DiskState) → IsPlain (restarted_reply vsn list f ps (boot_undone lack q))
 undone_behind vsn list f ps device_failed q = inr (inl (refl, inr (inr (f.other, f.descr, stale_modules ps.modules (libraries_at vsn list), refl))))
 undone_behind vsn list f ps memory_refused q = inr (inr (refl, (refl, inr (f.other, f.descr, stale_modules ps.modules (libraries_at vsn list), refl))))
 
-restarts : (vsn : List ℕ) (list : Releases) (f : FoundForm) (ps : Processes) (s : Stored) (b : Reply) → Transition.BootsStore s b → IsPlain (restarted_reply vsn list f ps b)
+restarts : (vsn : List ℕ) (list : Releases) (f : FoundForm) (ps : Processes) (s : StoreState) (b : Reply) → Transition.BootsStore s b → IsPlain (restarted_reply vsn list f ps b)
 restarts vsn list f ps s b (inl (events, extent, has, (then, after, is))) = subst (λ (t : Reply). IsPlain (restarted_reply vsn list f ps t)) (sym is) (inl refl)
-restarts vsn list f ps s b (inr (lack, inl is)) = subst (λ (t : Reply). IsPlain (restarted_reply vsn list f ps t)) (sym is) (undone_behind vsn list f ps lack (closed s))
+restarts vsn list f ps s b (inr (lack, inl is)) = subst (λ (t : Reply). IsPlain (restarted_reply vsn list f ps t)) (sym is) (undone_behind vsn list f ps lack (not_booted s))
 restarts vsn list f ps s b (inr (lack, inr (events, extent, has, is))) =
-    subst (λ (t : Reply). IsPlain (restarted_reply vsn list f ps t)) (sym is) (undone_behind vsn list f ps lack (closed (uncertain_boot s.known.ran events extent)))
+    subst (λ (t : Reply). IsPlain (restarted_reply vsn list f ps t)) (sym is) (undone_behind vsn list f ps lack (not_booted (store_with_boot_in_doubt s.known.ran events extent)))
 
 reboots : (events : Events) (extent : Extent) (ps : Processes) (vsn : List ℕ) (l : Releases) (o : Result Releases HandlerError) (a : Reply) → Transition.Reboots events extent ps vsn l o a → IsPlain a
-reboots events extent ps vsn l o = commits events extent ps (rebooting vsn) _ o _ (λ x a (b, boot, is). plain a _ is (boots_store (Transition.rebooted events x vsn) b boot))
+reboots events extent ps vsn l o = commits events extent ps (rebooting vsn) _ o _ (λ x a (b, boot, is). plain a _ is (boots_store (Transition.store_after_reboot events x vsn) b boot))
 
-boots : (p : Place) (a : Reply) → Transition.Boots p a → IsPlain a
-boots (raw bytes) a (inl (events, list, extent, after, image, (list_then, after_then, is))) = plain a _ is (inl refl)
-boots (raw bytes) a (inr (inl (why, reported, is))) = plain a _ is (inl refl)
-boots (raw bytes) a (inr (inr (lack, torn, left, is))) = plain a _ is (undone_plain lack (raw torn))
-boots (closed s) a is = boots_store s a is
-boots (running events extent ps) a is = boots_store (certain events extent) a is
+boots : (p : DiskState) (a : Reply) → Transition.Boots p a → IsPlain a
+boots (unknown_bytes bytes) a (inl (events, list, extent, after, image, (list_then, after_then, is))) = plain a _ is (inl refl)
+boots (unknown_bytes bytes) a (inr (inl (why, reported, is))) = plain a _ is (inl refl)
+boots (unknown_bytes bytes) a (inr (inr (lack, torn, left, is))) = plain a _ is (undone_plain lack (unknown_bytes torn))
+boots (not_booted s) a is = boots_store s a is
+boots (running events extent ps) a is = boots_store (store_without_doubt events extent) a is
 boots (dead s) a is = boots_store s a is
 
-acts : (p : Place) (does : Transition.Action) (a : Reply) → Transition.Acts p does a → IsPlain a
+acts : (p : DiskState) (does : Transition.Action) (a : Reply) → Transition.NodeReplies p does a → IsPlain a
 acts p (answers text) a is = plain a _ is (inl refl)
 acts p (makes_node found) a is = makes p found a is
-acts (raw bytes) (changes_node c) a is = plain a _ is (inl refl)
-acts (closed s) (changes_node c) a is = plain a _ is (inl refl)
+acts (unknown_bytes bytes) (changes_node c) a is = plain a _ is (inl refl)
+acts (not_booted s) (changes_node c) a is = plain a _ is (inl refl)
 acts (running events extent ps) (changes_node c) a is = changes events extent ps c (releases_after events) (c.files (releases_after events)) (commanded c.event (releases_after events)) a is
 acts (dead s) (changes_node c) a is = plain a _ is (inl refl)
 acts (running events extent ps) (installs vsn) a is =
@@ -121,28 +121,28 @@ acts (running events extent ps) (installs vsn) a is =
       over_full = inl refl;
       broken = λ f. inl refl;
       done_so = λ f r reach found comes. inl refl;
-      restarted_so = λ f r reach b found comes boot. restarts vsn (releases_after events) f (behind_run r) (restarted events reach vsn) b boot;
+      restarted_so = λ f r reach b found comes boot. restarts vsn (releases_after events) f (behind_run r) (store_after_restart events reach vsn) b boot;
       doubted_so = λ f restart found. inr (inl (refl, inl refl));
     }) a is
-acts (raw bytes) (installs vsn) a is = plain a _ is (inl refl)
-acts (closed s) (installs vsn) a is = plain a _ is (inl refl)
+acts (unknown_bytes bytes) (installs vsn) a is = plain a _ is (inl refl)
+acts (not_booted s) (installs vsn) a is = plain a _ is (inl refl)
 acts (dead s) (installs vsn) a is = plain a _ is (inl refl)
 acts (running events extent ps) (reboots_node vsn) a is = reboots events extent ps vsn (releases_after events) (commanded (rebooting vsn) (releases_after events)) a is
-acts (raw bytes) (reboots_node vsn) a is = plain a _ is (inl refl)
-acts (closed s) (reboots_node vsn) a is = plain a _ is (inl refl)
+acts (unknown_bytes bytes) (reboots_node vsn) a is = plain a _ is (inl refl)
+acts (not_booted s) (reboots_node vsn) a is = plain a _ is (inl refl)
 acts (dead s) (reboots_node vsn) a is = plain a _ is (inl refl)
 acts p boots_node a is = boots p a is
 acts (running events extent ps) reports_start a (inl is) = plain a _ is (inl refl)
 acts (running events extent ps) reports_start a (inr is) = plain a _ is (inl refl)
-acts (raw bytes) reports_start a is = plain a _ is (inl refl)
-acts (closed s) reports_start a is = plain a _ is (inl refl)
+acts (unknown_bytes bytes) reports_start a is = plain a _ is (inl refl)
+acts (not_booted s) reports_start a is = plain a _ is (inl refl)
 acts (dead s) reports_start a is = plain a _ is (inl refl)
 acts (running events extent ps) (calls c) a is = plain a _ is (inl refl)
-acts (raw bytes) (calls c) a is = plain a _ is (inl refl)
-acts (closed s) (calls c) a is = plain a _ is (inl refl)
+acts (unknown_bytes bytes) (calls c) a is = plain a _ is (inl refl)
+acts (not_booted s) (calls c) a is = plain a _ is (inl refl)
 acts (dead s) (calls c) a is = plain a _ is (inl refl)
 
-is_plain : (source : Source) (p : Place) (c : Command) (a : Reply) → Transition.Transition source p c a → IsPlain a
+is_plain : (source : Source) (p : DiskState) (c : Command) (a : Reply) → Transition.Transition source p c a → IsPlain a
 is_plain source p c a (does, comes, is) = acts p does a is
 
 same_event : (e f : Event) → Some e ≡ Some f → e ≡ f
@@ -157,7 +157,7 @@ reports_doubt source p c a e is doubt = go (is_plain source p c a is)
     go (inr (inr (works, (own, reported)))) = inr (same_event e booting (sym doubt ∙ own), works, reported)
 
 -- a reply in which the device does not fail leaves nothing in doubt but a boot that had no memory
-pub no_doubt : (source : Source) (p : Place) (c : Command) (a : Reply) → Transition.Transition source p c a → a.outcome.failed ≡ false → (a.outcome.in_doubt ≡ None) ⊎ DoubtsBoot a
+pub no_doubt : (source : Source) (p : DiskState) (c : Command) (a : Reply) → Transition.Transition source p c a → a.outcome.failed ≡ false → (a.outcome.in_doubt ≡ None) ⊎ DoubtsBoot a
 no_doubt source p c a is works = go (is_plain source p c a is)
   where
     go : IsPlain a → (a.outcome.in_doubt ≡ None) ⊎ DoubtsBoot a
@@ -171,7 +171,7 @@ works true P cause never = absurd (never (cause refl))
 works false P cause never = refl
 
 module _ {D : Type 0} (v : Device D) where
-  rises : (p : Place) (replies : List Reply) (old new : D) → Executes v p replies old new → v.failures old ≤ v.failures new
+  rises : (p : DiskState) (replies : List Reply) (old new : D) → CommandsRun v p replies old new → v.failures old ≤ v.failures new
   rises p [] old new (leaves, then, counted) = counted
   rises p (a ∷ more) old new (mid, happens, leads) = omega (arith, happens.counted, rises a.after more mid new leads)
 

@@ -13,32 +13,32 @@ use Rattle.node_upgrade.specs.Failure.Why.{fails}
 use Rattle.script_progress.specs.Fault.Cause.{no_memory}
 use Rattle.rel_session.specs.Booting.{BootsStore}
 use Rattle.node_upgrade.specs.Upgrade.{script_failure}
-use Rattle.node_store.specs.Events.{Events, certain, uncertain}
+use Rattle.node_store.specs.Events.{Events, store_without_doubt, store_with_doubt}
 use Rattle.node_store.specs.Image.{Extent}
 use Rattle.relup_exec.specs.Alone.{Outcome}
 use Rattle.relup_exec.specs.Alone.Outcome.{ends, refuses, breaks}
 use Rattle.relup_file.specs.Search.{FoundForm}
 use Rattle.script_progress.specs.Script.{Run}
-use Rattle.rel_session.specs.Installation.{RunsUnless, Installs, IsInstallationReply, RepliesTo, installed_reply, restarted, restarted_reply, upgrade_outcome}
+use Rattle.rel_session.specs.Installation.{RunsUnless, Installs, IsInstallationReply, RepliesTo, installed_reply, store_after_restart, restarted_reply, upgrade_outcome}
 use Rattle.rel_handler.specs.Installing.{install_size, installation_event, needs_restart}
-use Rattle.rel_session.specs.Node.{Reply, refused, failed}
-use Rattle.rel_session.specs.Node.Place.{running, dead}
+use Rattle.rel_session.specs.Node.{Reply, refusal_reply, failure_reply}
+use Rattle.rel_session.specs.Node.DiskState.{running, dead}
 use Rattle.node_answer.specs.Refusals.{refusal_of}
 use Rattle.node_answer.specs.Refusals.NodeRefusal.{full, no_matching_relup, script_refused, must_reboot}
 
 -- What holds of each reply that there may be holds of the reply.
 module _ (K : Reply → Type 0) (events : Events) (extent : Extent) (ps : Processes) (vsn : List ℕ) (list : Releases) where
   pub record OfEach : Type 0 where
-    pub listed : (why : ListError) → K (refused (refusal_of (list_refusal why)) (running events extent ps))
-    pub unmatched : K (refused no_matching_relup (running events extent ps))
-    pub not_run : (f : Failure) → K (refused (script_refused f) (running events extent ps))
-    pub over_full : K (refused full (running events extent ps))
-    pub broken : (f : Failure) → K (refused (must_reboot f) (dead (certain events extent)))
+    pub listed : (why : ListError) → K (refusal_reply (refusal_of (list_refusal why)) (running events extent ps))
+    pub unmatched : K (refusal_reply no_matching_relup (running events extent ps))
+    pub not_run : (f : Failure) → K (refusal_reply (script_refused f) (running events extent ps))
+    pub over_full : K (refusal_reply full (running events extent ps))
+    pub broken : (f : Failure) → K (refusal_reply (must_reboot f) (dead (store_without_doubt events extent)))
     pub done_so : (f : FoundForm) (r : Run) (reach : Extent) → installation vsn list ≡ Ok f → upgrade_outcome vsn list f ps ≡ ends r → K (installed_reply events reach vsn list f (behind_run r))
-    pub restarted_so : (f : FoundForm) (r : Run) (reach : Extent) (b : Reply) → installation vsn list ≡ Ok f → upgrade_outcome vsn list f ps ≡ ends r → BootsStore (restarted events reach vsn) b
+    pub restarted_so : (f : FoundForm) (r : Run) (reach : Extent) (b : Reply) → installation vsn list ≡ Ok f → upgrade_outcome vsn list f ps ≡ ends r → BootsStore (store_after_restart events reach vsn) b
         → K (restarted_reply vsn list f (behind_run r) b)
     pub doubted_so : (f : FoundForm) (restarts : Bool) → installation vsn list ≡ Ok f
-        → K (failed (Some (installation_event restarts vsn)) (dead (uncertain events extent (installation_event restarts vsn) (install_size vsn list))))
+        → K (failure_reply (Some (installation_event restarts vsn)) (dead (store_with_doubt events extent (installation_event restarts vsn) (install_size vsn list))))
 
   so : (a b : Reply) → a ≡ b → K b → K a
   so a b is of = subst K (sym is) of

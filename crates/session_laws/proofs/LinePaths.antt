@@ -10,7 +10,7 @@ use Rattle.rel_files.specs.Name.{is_text}
 use Rattle.rel_list.specs.Releases.{Releases}
 use Rattle.rel_list.specs.Event.{list_after}
 use Rattle.node_store.specs.Image.{Extent, extent_of}
-use Rattle.node_store.specs.Events.{Stored, Events, MayHave, IsStoredAs, at_rest_since}
+use Rattle.node_store.specs.Events.{StoreState, Events, MayHoldEvents, IsCrashImageOf, at_rest_since}
 use Rattle.session_input.specs.Commands.{Command, ParsedLine, parse_line, parse_words, parse_command, parse_process_command, parse_path_command, parse_peek, parse_call, parse_flood, call_of, flood_of, names_process, input_of, times_of, parse_change, change_named, with_word, without_words, path_of, path_in, paths_of, is_path, relup_of, parse_relup, split_at, version_in, is_blank, words_of, is_end, file_of, most_line, put_parsed, commands_of, commands_behind}
 use Rattle.session_input.specs.Commands.Command.{file, create, set_unpacked, check, install, permanent, remove, reboot_old, boot, start, releases, procs, modules, peek, call, flood, quit, bad}
 use Rattle.session_input.specs.Commands.ParsedLine.{blank, file_begins, whole_command}
@@ -20,10 +20,10 @@ use Rattle.session_input.specs.Feed.{Feed, bytes_within}
 use Rattle.session_input.specs.Feed.Feed.{over, cut, next}
 use Rattle.session_input.specs.Input.{most_bytes}
 use Rattle.session_input.specs.Lines.{onto, lines_of}
-use Rattle.rel_session.specs.Node.Place.{raw, closed, running, dead}
+use Rattle.rel_session.specs.Node.DiskState.{unknown_bytes, not_booted, running, dead}
 use Rattle.session_laws.specs.AnswerLaws.{HasNoDoubt, HasLinePath, HaveLinePaths, ReadsLinePaths, AreFromFiles, HasVersionsAt, HasModuleVersionsAt, KeepsVersions, RepliesKeepVersions}
-use Rattle.session_laws.specs.RunLaws.{MayBe}
-use Rattle.rel_session.specs.Node.{Place}
+use Rattle.session_laws.specs.RunLaws.{MayBeEventsOf}
+use Rattle.rel_session.specs.Node.{DiskState}
 use Rattle.rel_session.specs.Run.{Starts}
 use Rattle.rel_unpack.specs.Source.{Source}
 use Rattle.rel_session.proofs.DeviceLemmas.{IsDevice}
@@ -232,37 +232,37 @@ pub reads_line_paths : ReadsLinePaths
 reads_line_paths input = (commands_plain (lines_of (bytes_within most_bytes input)) (lines_plain (bytes_within most_bytes input))).0
 
 -- the list of events that an image stands for
-image_versions : (ran events : Events) (extent : Extent) (c : List ℕ) → IsStoredAs (at_rest_since ran events extent) c → (list : Releases) → list_after events ≡ Some list → AreFromFiles list
+image_versions : (ran events : Events) (extent : Extent) (c : List ℕ) → IsCrashImageOf (at_rest_since ran events extent) c → (list : Releases) → list_after events ≡ Some list → AreFromFiles list
 image_versions ran events extent c of list after =
     let versions = of_image c of.list of.image_of in
     let same : Some of.list ≡ Some list = sym of.after ∙ ap list_after (only of.has) ∙ after in
     let one : of.list ≡ list = cc in
     subst AreFromFiles one versions
   where
-    only : MayHave (at_rest_since ran events extent) of.events (extent_of c) → of.events ≡ events
+    only : MayHoldEvents (at_rest_since ran events extent) of.events (extent_of c) → of.events ≡ events
     only (since, inl has) = has.0
     only (since, inr has) = has.0
 
 -- a store with nothing in doubt
-store_at_rest : {D : Type 0} (v : Device D) → IsDevice v → (s : Stored) (disk : D) → HasNoDoubt s → ((c : List ℕ) → v.may_leave disk c → IsStoredAs s c) → HasVersionsAt (closed s)
+store_at_rest : {D : Type 0} (v : Device D) → IsDevice v → (s : StoreState) (disk : D) → HasNoDoubt s → ((c : List ℕ) → v.may_leave disk c → IsCrashImageOf s c) → HasVersionsAt (not_booted s)
 store_at_rest v laws s disk sure holds =
-    subst (λ t. HasVersionsAt (closed t)) (sym sure.0) (λ events list is after.
-    image_versions s.known.ran s.known.acknowledged s.extent (v.seen disk) (subst (λ t. IsStoredAs t (v.seen disk)) sure.0 (holds (v.seen disk) (laws.reads_an_image disk))) list (sym (ap list_after (only events is)) ∙ after))
+    subst (λ t. HasVersionsAt (not_booted t)) (sym sure.0) (λ events list is after.
+    image_versions s.known.ran s.known.acknowledged s.extent (v.seen disk) (subst (λ t. IsCrashImageOf t (v.seen disk)) sure.0 (holds (v.seen disk) (laws.reads_an_image disk))) list (sym (ap list_after (only events is)) ∙ after))
   where
-    only : (events : Events) → MayBe (at_rest_since s.known.ran s.known.acknowledged s.extent) events → events ≡ s.known.acknowledged
+    only : (events : Events) → MayBeEventsOf (at_rest_since s.known.ran s.known.acknowledged s.extent) events → events ≡ s.known.acknowledged
     only events (inl same) = same
     only events (inr same) = same
 
 pub keeps_versions : {D : Type 0} (v : Device D) → IsDevice v → KeepsVersions v
-keeps_versions v laws (raw x) disk sure holds = tt
+keeps_versions v laws (unknown_bytes x) disk sure holds = tt
 keeps_versions v laws (running events extent ps) disk sure holds = image_versions events events extent (v.seen disk) (holds (v.seen disk) (laws.reads_an_image disk))
 keeps_versions v laws (dead s) disk sure holds = store_at_rest v laws s disk sure holds
-keeps_versions v laws (closed s) disk sure holds = store_at_rest v laws s disk sure holds
+keeps_versions v laws (not_booted s) disk sure holds = store_at_rest v laws s disk sure holds
 
 -- where a session begins there are no processes
-no_processes : {D : Type 0} (v : Device D) (p : Place) (disk : D) → Starts v p disk → HasModuleVersionsAt p
-no_processes v (raw x) disk starts = tt
-no_processes v (closed s) disk starts = tt
+no_processes : {D : Type 0} (v : Device D) (p : DiskState) (disk : D) → Starts v p disk → HasModuleVersionsAt p
+no_processes v (unknown_bytes x) disk starts = tt
+no_processes v (not_booted s) disk starts = tt
 no_processes v (running events extent ps) disk starts = absurd starts
 no_processes v (dead s) disk starts = tt
 

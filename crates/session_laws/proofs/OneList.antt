@@ -1,19 +1,20 @@
--- The list of a disk decides what a session answers, where the device does not fail and no answer is that a record does not fit.
+-- The list of a disk decides what a session answers, where the device does not fail and no answer is that a record does not
+-- fit.
 use Rattle.std.proofs.Common.{◌≡◌, ◌≢◌, inl, inr, ℕ, false, true, List, [], ◌∷◌, ◌++◌, Some, refl, sym, ap, ◌∙◌, subst, append_assoc}
 use Rattle.std.specs.Option.{option_map}
 use Rattle.rel_list.specs.Releases.{Releases}
 use Rattle.rel_list.specs.Event.{booted, list_after}
-use Rattle.node_store.specs.Events.{Stored, booted_or_same}
+use Rattle.node_store.specs.Events.{StoreState, booted_or_same}
 use Rattle.node_store.specs.Image.{Extent, booted_extent, extent_of, holds_a_store}
 use Rattle.rel_unpack.specs.Source.{Source}
 use Rattle.node_answer.specs.Refusals.{refusal_line}
 use Rattle.node_answer.specs.Refusals.NodeRefusal.{full}
-use Rattle.session_laws.specs.AnswerLaws.{AreRefusedAlike, BootsTo, HaveOneList, HasNoLackLine, ListDecidesAnswers, ListDecidesText, NoneIsFull, NoneLacksMemory, StoreBootsTo}
+use Rattle.session_laws.specs.AnswerLaws.{AreRefusedAlike, BootsToList, HaveOneList, HasNoLackLine, ListDecidesAnswers, ListDecidesText, NoneIsFull, NoneLacksMemory, StoreBootsTo}
 use Rattle.rel_session.specs.Booting.{boot_line}
 use Rattle.rel_session.specs.Device.{Device}
 use Rattle.session_laws.specs.LawsBelow.{BootLaws}
-use Rattle.rel_session.specs.Node.{Place, Reply}
-use Rattle.rel_session.specs.Node.Place.{raw, closed, running, dead}
+use Rattle.rel_session.specs.Node.{DiskState, Reply}
+use Rattle.rel_session.specs.Node.DiskState.{unknown_bytes, not_booted, running, dead}
 use Rattle.rel_session.specs.Run.{answers_of}
 use Rattle.session_laws.proofs.Failures.{fails_only_with_the_device}
 use Rattle.session_laws.proofs.IdlePlaces.{IsFound, IsFoundIn}
@@ -23,22 +24,22 @@ use Rattle.session_laws.proofs.OneAnswer.Alike.{both_idle}
 use Rattle.session_laws.proofs.OneText.{none_lacks, same_text, whole_text}
 
 -- a boot finds the list that it leads to
-found_in : (s : Stored) (list : Releases) → StoreBootsTo s list → (x : Extent) × IsFoundIn s (listed (Some list) x)
+found_in : (s : StoreState) (list : Releases) → StoreBootsTo s list → (x : Extent) × IsFoundIn s (listed (Some list) x)
 found_in s list (sure, (before, after, leads)) =
     (booted_or_same s.extent (list_after s.known.acknowledged), (sure.0, ap (option_map booted) after ∙ ap (λ l. Some l) leads, refl))
 
-found_at : (p : Place) (list : Releases) → BootsTo p list → (x : Extent) × IsFound p (listed (Some list) x)
-found_at (raw bytes) list (before, image, leads) = (booted_extent (extent_of bytes) before, (before, image, ap (λ l. Some l) leads, refl))
-found_at (closed s) list there = found_in s list there
+found_at : (p : DiskState) (list : Releases) → BootsToList p list → (x : Extent) × IsFound p (listed (Some list) x)
+found_at (unknown_bytes bytes) list (before, image, leads) = (booted_extent (extent_of bytes) before, (before, image, ap (λ l. Some l) leads, refl))
+found_at (not_booted s) list there = found_in s list there
 found_at (running events extent ps) list there = absurd there
 found_at (dead s) list there = found_in s list there
 
-alike_refused : (p q : Place) → AreRefusedAlike p q → Alike false p q
-alike_refused (raw x) (raw y) (why, other, refuses, refuses_too, lines, held) =
-    both_idle (raw x) (raw y) (unlisted (holds_a_store x) (boot_line why)) (unlisted (holds_a_store y) (boot_line other)) (refl, (why, refuses, refl)) (refl, (other, refuses_too, refl)) (held, lines)
+alike_refused : (p q : DiskState) → AreRefusedAlike p q → Alike false p q
+alike_refused (unknown_bytes x) (unknown_bytes y) (why, other, refuses, refuses_too, lines, held) =
+    both_idle (unknown_bytes x) (unknown_bytes y) (unlisted (holds_a_store x) (boot_line why)) (unlisted (holds_a_store y) (boot_line other)) (refl, (why, refuses, refl)) (refl, (other, refuses_too, refl)) (held, lines)
 alike_refused p q never = absurd never
 
-alike_lists : (p q : Place) → HaveOneList p q → Alike false p q
+alike_lists : (p q : DiskState) → HaveOneList p q → Alike false p q
 alike_lists p q (inl (list, there, there_too)) =
     let (x, here) = found_at p list there in
     let (y, here_too) = found_at q list there_too in

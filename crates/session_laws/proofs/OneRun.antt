@@ -5,10 +5,10 @@ use Rattle.session_input.specs.Feed.{Feed}
 use Rattle.session_input.specs.Feed.Feed.{over, cut, next}
 use Rattle.rel_unpack.specs.Source.{Source, GivesOne}
 use Rattle.rel_session.specs.Files.{Files, files_behind, source_of}
-use Rattle.rel_session.specs.Node.{Place, Reply}
-use Rattle.rel_session.specs.Run.{EndsInFull, Replies, Ending, answers_of, events_of}
+use Rattle.rel_session.specs.Node.{DiskState, Reply}
+use Rattle.rel_session.specs.Run.{EndsInFull, AreReplies, Ending, answers_of, events_of}
 use Rattle.session_laws.specs.AnswerLaws.{HaveLinePaths, HasVersionsAt, HasModuleVersionsAt, AreSame, RestartAlike, DeterminesOneRun, have_restart}
-use Rattle.rel_session.specs.Transition.{Action, Acts, ComesToOrLacks}
+use Rattle.rel_session.specs.Transition.{Action, NodeReplies, ComesToOrLacks}
 use Rattle.rel_session.specs.Transition.Action.{answers, makes_node, changes_node, installs, reboots_node, boots_node, reports_start, calls}
 use Rattle.session_laws.proofs.AcknowledgedEvents.{next_answered, none_left}
 use Rattle.session_laws.proofs.OneAnswer.{ends, one_end, never_goes_on}
@@ -32,7 +32,7 @@ same_answer reports_start r s of of_too alike x y same = one_front r.answer s.an
 same_answer (calls c) r s of of_too alike x y same = one_front r.answer s.answer of of_too x y same
 
 -- Two replies to one command, from places of one kind, answer the same in front of the same text.
-pub one_answer : (source : Source) → GivesOne source → (p q : Place) (c : Command) (does again : Action) (r s : Reply) → kind_of p ≡ kind_of q → ComesToOrLacks source p c does → ComesToOrLacks source q c again → Acts p does r → Acts q again s → LinesOf does r → LinesOf again s
+pub one_answer : (source : Source) → GivesOne source → (p q : DiskState) (c : Command) (does again : Action) (r s : Reply) → kind_of p ≡ kind_of q → ComesToOrLacks source p c does → ComesToOrLacks source q c again → NodeReplies p does r → NodeReplies q again s → LinesOf does r → LinesOf again s
     → have_restart (events_of r.outcome) ≡ have_restart (events_of s.outcome) → (x y : List ℕ) → r.answer ++ x ≡ s.answer ++ y → r.answer ≡ s.answer
 one_answer source single p q c does again r s kinds (inl comes) (inl comes_too) acts acts_too of of_too alike x y same = go (one_action source single p q c does again (ap runs_node kinds) comes comes_too)
   where
@@ -40,14 +40,14 @@ one_answer source single p q c does again r s kinds (inl comes) (inl comes_too) 
     go (inl one) = same_answer again r s (subst (λ d. LinesOf d r) one of) of_too alike x y same
     go (inr (says, here, here_too)) = one_front r.answer s.answer (subst (λ d. LinesOf d r) here of) (subst (λ d. LinesOf d s) here_too of_too) x y same
 one_answer source single p q c does again r s kinds (inr (line, told, answered)) comes_too acts acts_too of of_too alike x y same =
-    let idle = ap (λ (t : Reply). t.outcome) (subst (λ d. Acts p d r) answered acts) in
+    let idle = ap (λ (t : Reply). t.outcome) (subst (λ d. NodeReplies p d r) answered acts) in
     same_answer again r s (lines_of_idle again r (subst (λ d. LinesOf d r) answered of) idle) of_too alike x y same
 one_answer source single p q c does again r s kinds (inl comes) (inr (line, told, answered)) acts acts_too of of_too alike x y same =
-    let idle = ap (λ (t : Reply). t.outcome) (subst (λ d. Acts q d s) answered acts_too) in
+    let idle = ap (λ (t : Reply). t.outcome) (subst (λ d. NodeReplies q d s) answered acts_too) in
     same_answer does r s of (lines_of_idle does s (subst (λ d. LinesOf d s) answered of_too) idle) alike x y same
 
-one_run : (base : Source) → GivesOne base → (files : Files) (p q : Place) (commands : Feed Command) (a b : Ending) (first second : List Reply) → kind_of p ≡ kind_of q → HasVersionsAt p → HasVersionsAt q → HasModuleVersionsAt p → HasModuleVersionsAt q → HaveLinePaths commands
-    → EndsInFull a → EndsInFull b → RestartAlike first second → Replies base files p commands a first → Replies base files q commands b second → answers_of first ≡ answers_of second → (a ≡ b) × AreSame first second
+one_run : (base : Source) → GivesOne base → (files : Files) (p q : DiskState) (commands : Feed Command) (a b : Ending) (first second : List Reply) → kind_of p ≡ kind_of q → HasVersionsAt p → HasVersionsAt q → HasModuleVersionsAt p → HasModuleVersionsAt q → HaveLinePaths commands
+    → EndsInFull a → EndsInFull b → RestartAlike first second → AreReplies base files p commands a first → AreReplies base files q commands b second → answers_of first ≡ answers_of second → (a ≡ b) × AreSame first second
 one_run base single files p q commands a b [] [] kinds all all_too reports reports_too lines not_a not_b restarts right right_too same = (one_end commands a b (ends base files p commands a not_a right) (ends base files q commands b not_b right_too), tt)
 one_run base single files p q commands a b [] (s ∷ second) kinds all all_too reports reports_too lines not_a not_b restarts right right_too same = absurd (never_goes_on base files q commands a b s second not_b (ends base files p commands a not_a right) right_too)
 one_run base single files p q commands a b (r ∷ first) [] kinds all all_too reports reports_too lines not_a not_b restarts right right_too same = absurd (never_goes_on base files p commands b a r first not_a (ends base files q commands b not_b right_too) right)

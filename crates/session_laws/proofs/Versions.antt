@@ -26,16 +26,16 @@ use Rattle.node_store.proofs.Commits.{have_versions}
 use Rattle.rel_handler.proofs.RepairLemmas.{permanent_versions}
 use Rattle.node_command.specs.declared.error.HandlerError.{HandlerError}
 use Rattle.node_command.specs.declared.error.HandlerError.TheVariants as handler_error
-use Rattle.node_store.specs.Events.{Events, Stored, MayHave, certain, uncertain, uncertain_boot}
-use Rattle.node_store.specs.Image.{Extent, extent_behind, first_extent, holds_a_store, IsImageOf}
+use Rattle.node_store.specs.Events.{Events, StoreState, MayHoldEvents, store_without_doubt, store_with_doubt, store_with_boot_in_doubt}
+use Rattle.node_store.specs.Image.{Extent, extent_after, first_extent, holds_a_store, IsImageOf}
 use Rattle.node_processes.specs.Processes.{Processes}
 use Rattle.node_command.specs.Taking.{commanded}
 use Rattle.session_input.specs.Commands.{Command}
 use Rattle.rel_unpack.specs.Refusal.{Refusal}
 use Rattle.rel_unpack.specs.Unpacking.{Brought}
 use Rattle.rel_unpack.specs.Source.{Source}
-use Rattle.rel_session.specs.Node.{Place, Reply, nothing, refused, failed, releases_after, list_or_none}
-use Rattle.rel_session.specs.Node.Place.{raw, closed, running, dead}
+use Rattle.rel_session.specs.Node.{DiskState, Reply, no_outcome, refusal_reply, failure_reply, releases_after, list_or_none}
+use Rattle.rel_session.specs.Node.DiskState.{unknown_bytes, not_booted, running, dead}
 use Rattle.node_answer.specs.Refusals.{refusal_of, refusal_for, refusal_line}
 use Rattle.node_answer.specs.Refusals.NodeRefusal.{device, bad_status, script_refused, must_reboot, dead as no_node}
 use Rattle.rel_handler.specs.declared.error.BootError.TheVariants as boot_error
@@ -55,7 +55,7 @@ use Rattle.node_upgrade.specs.Stale.{stale_modules}
 use Rattle.relup_file.specs.Search.{FoundForm}
 use Rattle.rel_handler.specs.Installing.{install_size, installation_event}
 use Rattle.node_answer.specs.Lines.{installed_line}
-use Rattle.rel_session.specs.Installation.{restarted, restarted_reply}
+use Rattle.rel_session.specs.Installation.{store_after_restart, restarted_reply}
 use Rattle.session_laws.proofs.InstallLines.{InstallLines, restart_first}
 use Rattle.session_laws.proofs.InstallLines.InstallLines.{one_line, two_lines, doubt_line}
 use Rattle.session_laws.proofs.InstallationLemmas.{each_reply}
@@ -118,7 +118,7 @@ list_versions events e of all list is = go (list_after events) refl (sym (list_a
     go (Some es) after is = step_versions e es list of (all es after) is
 
 -- and a store one of those of its list
-pub stored_versions : (s : Stored) → HasVersionsAt (closed s) → (events : Events) (extent : Extent) → MayHave s events extent → OfList events
+pub stored_versions : (s : StoreState) → HasVersionsAt (not_booted s) → (events : Events) (extent : Extent) → MayHoldEvents s events extent → OfList events
 stored_versions s all events extent has list is = all events list (may_have s events extent has) is
 
 -- the version of the release that runs
@@ -169,7 +169,7 @@ device_line : IsWhole (refusal_line device)
 device_line behind = refl
 
 -- with this event or without
-uncertain_versions : (events : Events) (extent : Extent) (e : Event) (size : ℕ) → OfEvent e → OfList events → HasVersionsAt (dead (uncertain events extent e size))
+uncertain_versions : (events : Events) (extent : Extent) (e : Event) (size : ℕ) → OfEvent e → OfList events → HasVersionsAt (dead (store_with_doubt events extent e size))
 uncertain_versions events extent e size of all es l (inl same) after = all l (ap list_after (sym same) ∙ after)
 uncertain_versions events extent e size of all es l (inr same) after = list_versions events e of all l (ap list_after (sym same) ∙ after)
 
@@ -180,15 +180,15 @@ commits events extent ps e size (Ok next) P plain done of all a (inl (fits, inl 
 commits events extent ps e size (Ok next) P plain done of all a (inl (fits, inr is)) = good_as a _ is (device_line, uncertain_versions events extent e size (of next refl) all)
 commits events extent ps e size (Ok next) P plain done of all a (inr (over_it, is)) = good_as a _ is ((λ behind. refl), all)
 
-changes : (events : Events) (extent : Extent) (ps : Processes) (c : Transition.Change) (list : Releases) (f : Option Refusal) (o : Result Releases HandlerError) → IsListAnswer o → ((next : Releases) → f ≡ None → o ≡ Ok next → OfEvent c.event) → ReportsFilesLine f
-    → is_one_line (c.details list) ≡ true → OfList events → (a : Reply) → Transition.Changes events extent ps c list f o a → IsGood a
+changes : (events : Events) (extent : Extent) (ps : Processes) (c : Transition.ListChange) (list : Releases) (f : Option Refusal) (o : Result Releases HandlerError) → IsListAnswer o → ((next : Releases) → f ≡ None → o ≡ Ok next → OfEvent c.event) → ReportsFilesLine f
+    → is_one_line (c.details list) ≡ true → OfList events → (a : Reply) → Transition.RepliesToChange events extent ps c list f o a → IsGood a
 changes events extent ps c list (Some why) o plain of reported line all a is = good_as a _ is (refusal_whole (refusal_for why) reported, all)
 changes events extent ps c list None o plain of reported line all a is =
     commits events extent ps c.event (c.size list) o _ plain (λ next x a taken is. good_as a _ is (done_whole (c.details list) line, list_versions events c.event (of next refl taken) all))
     (λ next taken. of next refl taken) all a is
 
 -- a store with nothing in doubt
-pub certain_versions : (events : Events) (extent : Extent) → OfList events → HasVersionsAt (closed (certain events extent))
+pub certain_versions : (events : Events) (extent : Extent) → OfList events → HasVersionsAt (not_booted (store_without_doubt events extent))
 certain_versions events extent all es l (inl same) after = all l (ap list_after (sym same) ∙ after)
 certain_versions events extent all es l (inr same) after = all l (ap list_after (sym same) ∙ after)
 
@@ -200,7 +200,7 @@ makes_with : (x : List ℕ) (p : Bundle) (size : ℕ) (why : Option Refusal) →
 makes_with x p size (Some why) of reported a is = good_as a _ is (refusal_whole (refusal_for why) reported, tt)
 makes_with x p size None of reported a (inl (fits, inl is)) = good_as a _ is (ok_whole p.release.vsn (version_line p.release.vsn (of refl).0.own), made_versions p (of refl))
 makes_with x p size None of reported a (inl (fits, inr is)) =
-    good_as a _ is (boot_line_whole boot_error.NoMemory, certain_versions (made p ∷ booting ∷ []) (extent_behind first_extent size) (made_versions p (of refl)))
+    good_as a _ is (boot_line_whole boot_error.NoMemory, certain_versions (made p ∷ booting ∷ []) (extent_after first_extent size) (made_versions p (of refl)))
 makes_with x p size None of reported a (inr (over_it, is)) = good_as a _ is ((λ behind. refl), tt)
 
 makes_on : (x : List ℕ) (b : Brought) (there : Bool) → IsGoodAction (makes_node b) → (a : Reply) → Transition.MakesOn x b there a → IsGood a
@@ -211,11 +211,11 @@ makes_fails : (x : List ℕ) (p : Bundle) (why : Option Refusal) (a : Reply) →
 makes_fails x p (Some why) a is = good_as a _ is ((λ behind. refl), tt)
 makes_fails x p None a (torn, kept, is) = good_as a _ is ((λ behind. refl), tt)
 
-makes : (p : Place) (found : Brought) → IsGoodAction (makes_node found) → HasVersionsAt p → (a : Reply) → Transition.MakesNode p found a → IsGood a
-makes (raw x) found good all a (inl is) = makes_on x found (holds_a_store x) good a is
-makes (raw x) found good all a (inr is) = makes_fails x (bundle_brought found) (own_refusal found) a is
-makes (closed s) found good all a (inl is) = good_as a _ is ((λ behind. refl), all)
-makes (closed s) found good all a (inr is) = good_as a _ is ((λ behind. refl), all)
+makes : (p : DiskState) (found : Brought) → IsGoodAction (makes_node found) → HasVersionsAt p → (a : Reply) → Transition.MakesNode p found a → IsGood a
+makes (unknown_bytes x) found good all a (inl is) = makes_on x found (holds_a_store x) good a is
+makes (unknown_bytes x) found good all a (inr is) = makes_fails x (bundle_brought found) (own_refusal found) a is
+makes (not_booted s) found good all a (inl is) = good_as a _ is ((λ behind. refl), all)
+makes (not_booted s) found good all a (inr is) = good_as a _ is ((λ behind. refl), all)
 makes (running events extent ps) found good all a is = good_as a _ is ((λ behind. refl), all)
 makes (dead s) found good all a is = good_as a _ is ((λ behind. refl), all)
 
@@ -226,11 +226,11 @@ boots_to events extent all a (list, after, is) =
     good_as a _ is (ok_whole (Transition.version_of (running_release (booted list))) (running_version (booted list) (behind (booted list) grown)), behind)
 
 -- a store whose boot is in doubt
-uncertain_boot_versions : (ran events : Events) (extent : Extent) → OfList events → HasVersionsAt (closed (uncertain_boot ran events extent))
+uncertain_boot_versions : (ran events : Events) (extent : Extent) → OfList events → HasVersionsAt (not_booted (store_with_boot_in_doubt ran events extent))
 uncertain_boot_versions ran events extent all es l (inl same) after = all l (ap list_after (sym same) ∙ after)
 uncertain_boot_versions ran events extent all es l (inr same) after = list_versions events booting tt all l (ap list_after (sym same) ∙ after)
 
-boots_store : (s : Stored) → HasVersionsAt (closed s) → (a : Reply) → Transition.BootsStore s a → IsGood a
+boots_store : (s : StoreState) → HasVersionsAt (not_booted s) → (a : Reply) → Transition.BootsStore s a → IsGood a
 boots_store s all a (inl (events, extent, has, is)) = boots_to events extent (stored_versions s all events extent has) a is
 boots_store s all a (inr (lack, inl is)) = good_as a _ is (boot_line_whole (lack_error lack), all)
 boots_store s all a (inr (lack, inr (events, extent, has, is))) = good_as a _ is (boot_line_whole (lack_error lack), uncertain_boot_versions s.known.ran events extent (stored_versions s all events extent has))
@@ -239,7 +239,7 @@ reboots : (events : Events) (extent : Extent) (ps : Processes) (vsn : List ℕ) 
 reboots events extent ps vsn list o plain all =
     let e = reboot_old vsn in
     commits events extent ps e _ o _ plain (λ next x a taken (b, boot, is).
-    good_as a _ is (boots_store (Transition.rebooted events x vsn) (certain_versions (events ++ e ∷ []) x (list_versions events e tt all)) b boot)) (λ next taken. tt) all
+    good_as a _ is (boots_store (Transition.store_after_reboot events x vsn) (certain_versions (events ++ e ∷ []) x (list_versions events e tt all)) b boot)) (λ next taken. tt) all
 
 -- the list of an image
 pub of_image : (image : List ℕ) (es : Releases) → IsImageOf image es → AreFromFiles es
@@ -249,14 +249,14 @@ of_image image es of = both es (have_versions (format_of image) of.bodies es of.
     both [] versions start = tt
     both (e ∷ es) versions start = ((versions.0, of_applications e.release.apps e.libraries start.0.complete.libraries), both es versions.1 start.1)
 
-boots : (p : Place) → HasVersionsAt p → (a : Reply) → Transition.Boots p a → IsGood a
-boots (raw x) all a (inl (events, list, extent, after, image, is)) =
+boots : (p : DiskState) → HasVersionsAt p → (a : Reply) → Transition.Boots p a → IsGood a
+boots (unknown_bytes x) all a (inl (events, list, extent, after, image, is)) =
     let versions = of_image x list image.image_of in
     boots_to events extent (λ l e. let same : list ≡ l = cc in subst AreFromFiles same versions) a is
-boots (raw x) all a (inr (inl (why, refusal, is))) = good_as a _ is (boot_line_whole why, tt)
-boots (raw x) all a (inr (inr (lack, torn, left, is))) = good_as a _ is (boot_line_whole (lack_error lack), tt)
-boots (closed s) all a is = boots_store s all a is
-boots (running events extent ps) all a is = boots_store (certain events extent) (certain_versions events extent all) a is
+boots (unknown_bytes x) all a (inr (inl (why, refusal, is))) = good_as a _ is (boot_line_whole why, tt)
+boots (unknown_bytes x) all a (inr (inr (lack, torn, left, is))) = good_as a _ is (boot_line_whole (lack_error lack), tt)
+boots (not_booted s) all a is = boots_store s all a is
+boots (running events extent ps) all a is = boots_store (store_without_doubt events extent) (certain_versions events extent all) a is
 boots (dead s) all a is = boots_store s all a is
 
 versions_of : (es : Releases) → AreFromFiles es → HaveVersions es
@@ -290,30 +290,30 @@ LinesOf does a = IsWhole a.answer
 abbrev IsGoodInstall : Reply → Type 0
 IsGoodInstall a = InstallLines a × HasVersionsAt a.after
 
-not_installed : (p : Place) → HasVersionsAt p → (a : Reply) → a ≡ refused no_node p → IsGoodInstall a
+not_installed : (p : DiskState) → HasVersionsAt p → (a : Reply) → a ≡ refusal_reply no_node p → IsGoodInstall a
 not_installed p all a is = subst IsGoodInstall (sym is) (one_line (λ behind. refl) refl, all)
 
 -- one whose event is in doubt
 install_in_doubt : (events : Events) (extent : Extent) (vsn : List ℕ) (size : ℕ) (restarts : Bool) → OfList events
-    → IsGoodInstall (failed (Some (installation_event restarts vsn)) (dead (uncertain events extent (installation_event restarts vsn) size)))
+    → IsGoodInstall (failure_reply (Some (installation_event restarts vsn)) (dead (store_with_doubt events extent (installation_event restarts vsn) size)))
 install_in_doubt events extent vsn size false all = (one_line device_line refl, uncertain_versions events extent (installed vsn) size tt all)
 install_in_doubt events extent vsn size true all = (doubt_line refl refl, uncertain_versions events extent (restart_installed vsn) size tt all)
 
 -- one with a restart
-install_restarts : (events : Events) (extent : Extent) (vsn : List ℕ) (list : Releases) (f : FoundForm) (ps : Processes) (b : Reply) → OfList events → Transition.BootsStore (restarted events extent vsn) b
+install_restarts : (events : Events) (extent : Extent) (vsn : List ℕ) (list : Releases) (f : FoundForm) (ps : Processes) (b : Reply) → OfList events → Transition.BootsStore (store_after_restart events extent vsn) b
     → IsGoodInstall (restarted_reply vsn list f ps b)
 install_restarts events extent vsn list f ps b all boot =
     let e = restart_installed vsn in
     let stale = stale_modules ps.modules (libraries_at vsn list) in
-    let (whole, versions) = boots_store (restarted events extent vsn) (certain_versions (events ++ e ∷ []) extent (list_versions events e tt all)) b boot in
+    let (whole, versions) = boots_store (store_after_restart events extent vsn) (certain_versions (events ++ e ∷ []) extent (list_versions events e tt all)) b boot in
     (two_lines (installed_line f stale) b.answer (installed_whole f.other f.descr stale) whole (λ behind. refl) refl (restart_first vsn b.outcome.acknowledged b.outcome.in_doubt), versions)
 
-acts : (p : Place) (does : Transition.Action) → IsGoodAction does → HasVersionsAt p → (a : Reply) → Transition.Acts p does a → LinesOf does a × HasVersionsAt a.after
+acts : (p : DiskState) (does : Transition.Action) → IsGoodAction does → HasVersionsAt p → (a : Reply) → Transition.NodeReplies p does a → LinesOf does a × HasVersionsAt a.after
 acts p (answers text) good all a is = good_as a _ is (good, all)
 acts p (makes_node found) good all a is = makes p found good all a is
 acts (running events extent ps) (changes_node c) good all a is = changes events extent ps c (releases_after events) (c.files (releases_after events)) (commanded c.event (releases_after events)) (of_command c.event (releases_after events)) (good.0 (releases_after events)) (good.1 (releases_after events)) (good.2 (releases_after events)) all a is
-acts (raw x) (changes_node c) good all a is = good_as a _ is ((λ behind. refl), all)
-acts (closed s) (changes_node c) good all a is = good_as a _ is ((λ behind. refl), all)
+acts (unknown_bytes x) (changes_node c) good all a is = good_as a _ is ((λ behind. refl), all)
+acts (not_booted s) (changes_node c) good all a is = good_as a _ is ((λ behind. refl), all)
 acts (dead s) (changes_node c) good all a is = good_as a _ is ((λ behind. refl), all)
 acts (running events extent ps) (installs vsn) good all a is =
     let e = installed vsn in
@@ -328,32 +328,32 @@ acts (running events extent ps) (installs vsn) good all a is =
       restarted_so = λ f r reach b found comes boot. install_restarts events reach vsn (releases_after events) f (behind_run r) b all boot;
       doubted_so = λ f restarts found. install_in_doubt events extent vsn (install_size vsn (releases_after events)) restarts all;
     }) a is
-acts (raw x) (installs vsn) good all a is = not_installed (raw x) all a is
-acts (closed s) (installs vsn) good all a is = not_installed (closed s) all a is
+acts (unknown_bytes x) (installs vsn) good all a is = not_installed (unknown_bytes x) all a is
+acts (not_booted s) (installs vsn) good all a is = not_installed (not_booted s) all a is
 acts (dead s) (installs vsn) good all a is = not_installed (dead s) all a is
 acts (running events extent ps) (reboots_node vsn) good all a is = reboots events extent ps vsn (releases_after events) (commanded (reboot_old vsn) (releases_after events)) (of_command (reboot_old vsn) (releases_after events)) all a is
-acts (raw x) (reboots_node vsn) good all a is = good_as a _ is ((λ behind. refl), all)
-acts (closed s) (reboots_node vsn) good all a is = good_as a _ is ((λ behind. refl), all)
+acts (unknown_bytes x) (reboots_node vsn) good all a is = good_as a _ is ((λ behind. refl), all)
+acts (not_booted s) (reboots_node vsn) good all a is = good_as a _ is ((λ behind. refl), all)
 acts (dead s) (reboots_node vsn) good all a is = good_as a _ is ((λ behind. refl), all)
 acts p boots_node good all a is = boots p all a is
 acts (running events extent ps) reports_start good all a (inl is) = good_as a _ is (ok_whole _ (start_plain (releases_after events) (listed_versions events all)), all)
 acts (running events extent ps) reports_start good all a (inr is) = good_as a _ is (device_line, certain_versions events extent all)
-acts (raw x) reports_start good all a is = good_as a _ is ((λ behind. refl), all)
-acts (closed s) reports_start good all a is = good_as a _ is ((λ behind. refl), all)
+acts (unknown_bytes x) reports_start good all a is = good_as a _ is ((λ behind. refl), all)
+acts (not_booted s) reports_start good all a is = good_as a _ is ((λ behind. refl), all)
 acts (dead s) reports_start good all a is = good_as a _ is ((λ behind. refl), all)
 acts (running events extent ps) (calls c) good all a is = good_as a _ is (calls_whole c ps, all)
-acts (raw x) (calls c) good all a is = good_as a _ is ((λ behind. refl), all)
-acts (closed s) (calls c) good all a is = good_as a _ is ((λ behind. refl), all)
+acts (unknown_bytes x) (calls c) good all a is = good_as a _ is ((λ behind. refl), all)
+acts (not_booted s) (calls c) good all a is = good_as a _ is ((λ behind. refl), all)
 acts (dead s) (calls c) good all a is = good_as a _ is ((λ behind. refl), all)
 
 -- Each reply to what a command comes to consists of lines, and has only versions of files after it.
-pub each_good : (source : Source) (p : Place) (c : Command) (does : Transition.Action) → HasLinePath c → HasVersionsAt p → HasModuleVersionsAt p → Transition.ComesToOrLacks source p c does → (a : Reply)
-    → Transition.Acts p does a → LinesOf does a × HasVersionsAt a.after
+pub each_good : (source : Source) (p : DiskState) (c : Command) (does : Transition.Action) → HasLinePath c → HasVersionsAt p → HasModuleVersionsAt p → Transition.ComesToOrLacks source p c does → (a : Reply)
+    → Transition.NodeReplies p does a → LinesOf does a × HasVersionsAt a.after
 each_good source p c does line all reports (inl comes) a is = acts p does (good_action source p c does line reports comes) all a is
 each_good source p c does line all reports (inr (text, told, answered)) a is = acts p does (subst IsGoodAction (sym answered) (report_whole p c text told)) all a is
 
 -- A reply that does nothing is so for every action, where its answer is whole.
-pub lines_of_idle : (does : Transition.Action) (a : Reply) → IsWhole a.answer → a.outcome ≡ nothing → LinesOf does a
+pub lines_of_idle : (does : Transition.Action) (a : Reply) → IsWhole a.answer → a.outcome ≡ no_outcome → LinesOf does a
 lines_of_idle (answers text) a whole none = whole
 lines_of_idle (makes_node found) a whole none = whole
 lines_of_idle (changes_node c) a whole none = whole

@@ -4,7 +4,7 @@ use Rattle.rel_disk.proofs.Moments.{weakened}
 use Rattle.rel_list.specs.Releases.{has_one_shot}
 use Rattle.rel_list.proofs.BootLaws.{boot_leaves_no_one_shot}
 use Rattle.rel_store.specs.Contents.{HasOnlyRead}
-use Rattle.node_store.specs.Events.{IsStoredAs}
+use Rattle.node_store.specs.Events.{IsCrashImageOf}
 use Rattle.node_store.specs.Image.{IsLeftByBoot}
 use Rattle.rel_handler.specs.Moments.{KeepsStore, SettlesAt}
 use Rattle.rel_handler.specs.Refusals.{BootRefused}
@@ -24,7 +24,7 @@ returns-in-Err-clause-recovers g c = λ k all.
 
 pub returns-in-Err-clause-stored : goal.returns-in-Err-clause-stored
 returns-in-Err-clause-stored g c = λ s here.
-    inl (weakened g.D.Disk.moment g.D.Disk.left_since c.args.disk _ (g.D.Disk.may_leave c.args.disk) (IsStoredAs s) here c.in-Err.ensures.any_moment)
+    inl (weakened g.D.Disk.moment g.D.Disk.left_since c.args.disk _ (g.D.Disk.may_leave c.args.disk) (IsCrashImageOf s) here c.in-Err.ensures.any_moment)
 
 -- there is no room for the record of the boot, or no memory
 pub returns-in-Err-boot_record-clause-only : goal.returns-in-Err-boot_record-clause-only
@@ -53,7 +53,7 @@ returns-in-Err-boot_record-clause-any_moment g c =
 pub returns-in-Err-boot_record-clause-stored : goal.returns-in-Err-boot_record-clause-stored
 returns-in-Err-boot_record-clause-stored g c = λ s here.
     subst (KeepsStore g.D.Disk s c.args.disk) (sym c.into_disk.ensures)
-    (inl (weakened g.D.Disk.moment g.D.Disk.left_since c.args.disk _ (g.D.Disk.may_leave c.args.disk) (IsStoredAs s) here c.in-Ok.ensures.opened.only_read.any_moment))
+    (inl (weakened g.D.Disk.moment g.D.Disk.left_since c.args.disk _ (g.D.Disk.may_leave c.args.disk) (IsCrashImageOf s) here c.in-Ok.ensures.opened.only_read.any_moment))
 
 -- it can be finished
 pub finish-requires-clause-ready : goal.finish-requires-clause-ready

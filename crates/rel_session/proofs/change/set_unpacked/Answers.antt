@@ -2,7 +2,7 @@ use Rattle.std.proofs.Common.{◌≡◌, ◌++◌, refl, sym, subst, string_byte
 use Rattle.std.specs.Prelude.{IfOk}
 use Rattle.session_input.specs.Commands.Command.{set_unpacked}
 use Rattle.rel_session.specs.InMemory.{Answers}
-use Rattle.rel_session.specs.Node.{Place, Reply}
+use Rattle.rel_session.specs.Node.{DiskState, Reply}
 use Rattle.node_answer.specs.Lines.{ok_line}
 use Rattle.rel_session.specs.Transition.{Transition}
 use Rattle.rel_session.specs.declared.place.Place.TheVariants as memory
@@ -17,7 +17,7 @@ pub returns-in_err-line-clause-unpacked : goal.returns-in_err-line-clause-unpack
 returns-in_err-line-clause-unpacked g c =
     let laws : IsDevice g.D.Disk = record { reads_an_image = g.met.D.Disk.reads_an_image; counts_now = g.met.D.Disk.counts_now; only_now = g.met.D.Disk.only_now } in
     let n = c.args.node.now in
-    let Does : Place → Reply → Type 0 = λ p a. Transition (g.F.Files.gives c.args.files.now) p (set_unpacked c.args.path.now) a in
+    let Does : DiskState → Reply → Type 0 = λ p a. Transition (g.F.Files.gives c.args.files.now) p (set_unpacked c.args.path.now) a in
     subst (λ r. Answers g.D.Disk Does r (memory.Made n) (memory.Made n)) (sym (reported_so c.from_residual.result unanswered.NoMemory c.from_residual.ensures.1))
     (changes_no_memory g.D.Disk laws Does (memory.Made n))
 

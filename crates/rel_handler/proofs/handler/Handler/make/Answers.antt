@@ -6,7 +6,7 @@ use Rattle.node_command.specs.Files.{bundle_brought, made_size}
 use Rattle.rel_handler.specs.Moments.{WritesNothing}
 use Rattle.rel_handler.specs.Refusals.{MakingRefused, reported_create}
 use Rattle.rel_handler.proofs.Boots.{unwritten, nothing_begun, sound_so, begins_at, begins, made_new, fits_in_a_slot, is_create_error, making_refused}
-use Rattle.node_store.specs.Image.{extent_behind, first_extent, HasSpace, IsStarted, start_bytes}
+use Rattle.node_store.specs.Image.{extent_after, first_extent, HasSpace, IsStarted, start_bytes}
 use Rattle.node_store.specs.State.{store_extent}
 use Rattle.node_store.proofs.Images.{each_image, no_boot_space, same_extent}
 use Rattle.rel_handler.proofs.NewNodes.{started_new}
@@ -60,7 +60,7 @@ returns-in-Ok-create-clause-extent g c =
     let long : length c.as_bytes.result.now ≡ made_size (brought_of c.args.brought) = ap length c.as_bytes.ensures.value ∙ c.in-Ok.ensures.body in
     let first = c.as_bytes.result.now in
     let new = c.in-Ok-create.ensures in
-    same_extent (store_extent c.in-Ok-create.store) (extent_behind first_extent (length first)) new.base new.end (ap (λ bodies. length bodies) new.records) ∙ ap (λ n. extent_behind first_extent n) long
+    same_extent (store_extent c.in-Ok-create.store) (extent_after first_extent (length first)) new.base new.end (ap (λ bodies. length bodies) new.records) ∙ ap (λ n. extent_after first_extent n) long
 
 pub returns-in-Ok-create-clause-taken : goal.returns-in-Ok-create-clause-taken
 returns-in-Ok-create-clause-taken g c = c.in-Ok-create.ensures.taken

@@ -2,7 +2,7 @@ use Rattle.std.proofs.Common.{inl, refl, sym, ap, ◌∙◌, map, subst, string_
 use Rattle.session_input.specs.Commands.{command_of}
 use Rattle.session_input.specs.Commands.Command.{create, install, reboot_old, boot, releases, relup, bad}
 use Rattle.rel_session.specs.InMemory.{AnswersAfter}
-use Rattle.rel_session.specs.Transition.{Boots, Transition, listed}
+use Rattle.rel_session.specs.Transition.{Boots, Transition, releases_answer}
 use Rattle.rel_session.specs.Transition.Action.{answers, installs, reboots_node, boots_node}
 use Rattle.rel_session.proofs.DeviceLemmas.{IsDevice}
 use Rattle.rel_session.proofs.Replies.{answers_line, changes_no_memory}
@@ -45,7 +45,7 @@ returns-in-Releases-clause-answered g c =
     let laws : IsDevice g.D.Disk = record { reads_an_image = g.met.D.Disk.reads_an_image; counts_now = g.met.D.Disk.counts_now; only_now = g.met.D.Disk.only_now } in
     let source = g.F.Files.gives c.args.files.now in
     answers_command g.D.Disk c.args.self c.args.self source (command_of c.args.command.now) releases c.answer_of-in-Releases.result (ap command_of c.in-Releases.is)
-    (answers_still g.D.Disk laws c.args.self listed (λ p a. Transition source p releases a) (λ p. (answers (listed p), inl refl, refl)) c.releases-lines.result c.answer_of-in-Releases.result
+    (answers_still g.D.Disk laws c.args.self releases_answer (λ p a. Transition source p releases a) (λ p. (answers (releases_answer p), inl refl, refl)) c.releases-lines.result c.answer_of-in-Releases.result
     c.answer_of-in-Releases.ensures.same c.releases-lines.ensures)
 
 pub returns-in-Relup-clause-answered : goal.returns-in-Relup-clause-answered
