@@ -59,7 +59,7 @@ FaultIs (NoTable m) f = f ≡ Some (no_table m.now)
 FaultIs Unsupported f = f ≡ Some unsupported
 FaultIs NoMemory f = Unit {0}
 
--- So many members are counted, in however many supervisors they stand, if nothing is wrong; else an error reports what is.
+-- A count has so many members, in however many supervisors they stand, if nothing is wrong; else an error reports what is.
 abbrev pub Counts : Option StartFault → (ℕ → List walk.NewMember) → Result ℕ MembersError → Type 0
 Counts fault members (Ok count) = (fault ≡ None) × ((depth : ℕ) → count ≡ counted (length (members depth)))
 Counts fault members (Err e) = FaultIs e fault

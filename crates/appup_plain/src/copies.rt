@@ -64,7 +64,8 @@ fn copy_added(app: &AddedApp) -> Result<AddedApp, AllocError>
     })
 }
 
-fn copy_appup_instr(alloc: Global, instr: &AppupInstr) -> Result<AppupInstr, AllocError>
+/// A copy of an instruction.
+pub fn copy_appup_instr(alloc: Global, instr: &AppupInstr) -> Result<AppupInstr, AllocError>
     ensures { IfOk result (λ i. appup_instruction_of i ≡ appup_instruction_of instr.now) }
 {
     match instr {

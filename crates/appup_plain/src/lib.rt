@@ -15,5 +15,6 @@ mod fault;
 pub mod laws;
 mod plain;
 
+pub use copies::copy_appup_instr;
 pub use fault::PlainError;
 pub use plain::plain_entries;

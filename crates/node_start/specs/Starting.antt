@@ -45,7 +45,7 @@ HaveMemory tables ps ns = ⊥
 abbrev pub number_to_begin : List NewApp → ℕ
 number_to_begin ns = sum_by (λ (n : NewApp). length (to_begin n.prepared.items)) ns
 
--- They began, one application after another.
+-- The applications began, one after another.
 abbrev pub AppsBegan : List NewApp → View → List App → View → Type 0
 AppsBegan [] v [] w = w ≡ v
 AppsBegan (n ∷ ns) v (a ∷ as') w = (u : View) × AppBegan n v a u × AppsBegan ns u as' w

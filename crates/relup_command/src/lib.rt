@@ -6,6 +6,8 @@
 //! [`relup_answer`] prints it in lines, as a session answers (`answered`): a file that says it, where its term keeps the limits of
 //! a reader, and then `ok` (`read_back`).
 //!
+//! [`read_releases`] gives the releases alone, for other translations.
+//!
 //! The law of `laws` says that a relup that is made has names and versions, whatever the files say.
 //!
 //! Only tested: that files are read where memory is there. Trusted: the toolchain and `thiserror`.
@@ -20,4 +22,5 @@ mod relup;
 
 pub use answer::relup_answer;
 pub use error::RelupError;
+pub use releases::{Releases, read_releases};
 pub use relup::make_relup_of_files;

@@ -14,10 +14,10 @@ use relup_translate::{ModuleNames, RelupApp, RelupRelease};
 use std::alloc::{AllocError, Global};
 
 /// A release with its appups, those that it comes from, and those that it goes back to.
-pub(crate) struct Releases {
-    pub(crate) new: RelupRelease,
-    pub(crate) ups: Vec<RelupRelease>,
-    pub(crate) downs: Vec<RelupRelease>,
+pub struct Releases {
+    pub new: RelupRelease,
+    pub ups: Vec<RelupRelease>,
+    pub downs: Vec<RelupRelease>,
 }
 
 // Let go by one call: a derived drop would stand field by field at each exit of a caller.
@@ -32,7 +32,7 @@ impl Drop for Releases {
 }
 
 /// The releases of these paths. The appups of the new one are read after all other files.
-pub(crate) fn read_releases<F: Files>(
+pub fn read_releases<F: Files>(
     alloc: Global,
     files: &F,
     new: &str,

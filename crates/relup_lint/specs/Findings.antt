@@ -1,7 +1,7 @@
 -- What systools refuses of a script (OTP: systools_rc, check_syntax, check_script, translate_application_instrs,
 -- make_dependency_graph and merge_load_object_code).
-use Rattle.std.specs.Prelude.{◌≡◌, ◌<◌, ◌≤◌, ℕ, ◌+◌, nat_eq, nat_lt, Bool, true, false, not, List, [], ◌∷◌, ◌++◌, map, filter, Option, Some, None, is_some}
-use Rattle.std.specs.List.{AllByRecursion}
+use Rattle.std.specs.Prelude.{◌≡◌, ◌<◌, ◌≤◌, ℕ, ◌+◌, nat_eq, nat_lt, Bool, true, false, not, List, [], ◌∷◌, ◌++◌, map, filter, Option, Some, None, is_some, ◌&&◌, if◌then◌else◌}
+use Rattle.std.specs.List.{AllByRecursion, list_any}
 use Rattle.std.specs.Map.{lookup}
 use Rattle.std.specs.Str.{bytes_eq}
 use Rattle.relup_instruction.specs.Instruction.Instruction.{load_object_code}
@@ -9,7 +9,7 @@ use Rattle.appup_file.specs.Instruction.{AppupInstruction}
 use Rattle.appup_file.specs.Instruction.AppupInstruction.{remove_application, low_level}
 use Rattle.relup_lint.specs.declared.parts.Part.{Part}
 use Rattle.relup_lint.specs.declared.parts.Part.TheVariants.{Changed, Fetched, Suspended, Resumed, Stopped, Started}
-use Rattle.relup_lint.specs.Script.{PlacedForm, TargetForm, ScriptForm, has_app}
+use Rattle.relup_lint.specs.Script.{PlacedForm, TargetForm, ScriptForm, has_app, modules_of}
 use Rattle.relup_lint.specs.Parts.{names_of, changed_names, needed_part, needing_names, names_without_time}
 
 -- a refusal, with the module, application or library that it is about
@@ -24,6 +24,7 @@ pub data RefusalForm : Type 0 where
   not_alone : List ℕ → RefusalForm
   not_changed : List ℕ → RefusalForm
   not_one_version : List ℕ → RefusalForm
+  not_of_target : List ℕ → RefusalForm
 
 pub record FindingForm : Type 0 where
   pub app : List ℕ
@@ -48,8 +49,12 @@ abbrev pub versions : List PlacedForm → List (List ℕ × List ℕ)
 versions [] = []
 versions (p ∷ ps) = version_in p.instr ++ versions ps
 
+-- the applications of a target, with their versions
+abbrev pub target_versions : List TargetForm → List (List ℕ × List ℕ)
+target_versions ts = map (λ (t : TargetForm). (t.name, t.vsn)) ts
+
 -- What a script mentions: the names of each part with their places, the libraries that it fetches with their versions, and the
--- target.
+-- target with its versions.
 pub record MentionsForm : Type 0 where
   pub target : List TargetForm
   pub changed : List (List ℕ × ℕ)
@@ -59,6 +64,7 @@ pub record MentionsForm : Type 0 where
   pub stopped : List (List ℕ × ℕ)
   pub started : List (List ℕ × ℕ)
   pub versions : List (List ℕ × List ℕ)
+  pub target_versions : List (List ℕ × List ℕ)
 
 abbrev pub mentions : ScriptForm → MentionsForm
 mentions s = record {
@@ -70,6 +76,7 @@ mentions s = record {
   stopped = places Stopped s.target 0 s.instrs;
   started = places Started s.target 0 s.instrs;
   versions = versions s.instrs;
+  target_versions = target_versions s.target;
 }
 
 abbrev pub of_part : Part → MentionsForm → List (List ℕ × ℕ)
@@ -112,10 +119,23 @@ abbrev pub only_if : Bool → RefusalForm → Option RefusalForm
 only_if true r = Some r
 only_if false r = None
 
+-- whether an instruction has a module of its own that the target has of a library: the translation fetches that library too
+abbrev pub is_changed : MentionsForm → List ℕ → Bool
+is_changed m name = is_some (lookup (bytes_eq name) m.changed)
+
+abbrev pub is_fetched_too : MentionsForm → List ℕ → Bool
+is_fetched_too m app = list_any (is_changed m) (modules_of app m.target)
+
+-- why a library is refused that is fetched in this version: in another one before, or in the target's too, which is another
+abbrev pub fetch_refusal : MentionsForm → List ℕ → List ℕ → Option RefusalForm
+fetch_refusal m app vsn =
+    if is_other vsn (lookup (bytes_eq app) m.versions) then Some (not_one_version app)
+    else only_if (is_other vsn (lookup (bytes_eq app) m.target_versions) && is_fetched_too m app) (not_of_target app)
+
 -- an application that is removed and kept, or a library of two versions
 abbrev pub single_refusal : MentionsForm → AppupInstruction → Option RefusalForm
 single_refusal m (remove_application name) = only_if (has_app name m.target) (not_removed name)
-single_refusal m (low_level (load_object_code f)) = only_if (is_other f.vsn (lookup (bytes_eq f.app) m.versions)) (not_one_version f.app)
+single_refusal m (low_level (load_object_code f)) = fetch_refusal m f.app f.vsn
 single_refusal m i = None
 
 abbrev pub option_row : Option RefusalForm → List RefusalForm
@@ -154,6 +174,7 @@ checks_before (not_removed name) = 6
 checks_before (not_alone name) = 7
 checks_before (not_changed name) = 8
 checks_before (not_one_version name) = 9
+checks_before (not_of_target name) = 9
 
 abbrev pub checks_of : FindingForm → ℕ
 checks_of f = checks_before f.refusal

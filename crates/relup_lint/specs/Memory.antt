@@ -2,10 +2,10 @@
 use Rattle.std.specs.Prelude.{List, map}
 use Rattle.relup_lint.specs.declared.index.ScriptIndex.{ScriptIndex}
 use Rattle.relup_lint.specs.declared.refusal.Refusal.{Refusal}
-use Rattle.relup_lint.specs.declared.refusal.Refusal.TheVariants.{NoTime, NotFetched, NotResumed, NotSuspended, NotStopped, NotStarted, NotRemoved, NotAlone, NotChanged, NotOneVersion}
+use Rattle.relup_lint.specs.declared.refusal.Refusal.TheVariants.{NoTime, NotFetched, NotResumed, NotSuspended, NotStopped, NotStarted, NotRemoved, NotAlone, NotChanged, NotOneVersion, NotOfTarget}
 use Rattle.relup_lint.specs.declared.refusal.Finding.{Finding}
 use Rattle.relup_lint.specs.Findings.{RefusalForm, FindingForm, MentionsForm}
-use Rattle.relup_lint.specs.Findings.RefusalForm.{no_time, not_fetched, not_resumed, not_suspended, not_stopped, not_started, not_removed, not_alone, not_changed, not_one_version}
+use Rattle.relup_lint.specs.Findings.RefusalForm.{no_time, not_fetched, not_resumed, not_suspended, not_stopped, not_started, not_removed, not_alone, not_changed, not_one_version, not_of_target}
 
 abbrev pub refusal_of : Refusal → RefusalForm
 refusal_of (NoTime name) = no_time name.now
@@ -18,6 +18,7 @@ refusal_of (NotRemoved name) = not_removed name.now
 refusal_of (NotAlone name) = not_alone name.now
 refusal_of (NotChanged name) = not_changed name.now
 refusal_of (NotOneVersion name) = not_one_version name.now
+refusal_of (NotOfTarget name) = not_of_target name.now
 
 abbrev pub finding_of : Finding → FindingForm
 finding_of f = record { app = f.app.now; number = f.number; refusal = refusal_of f.refusal }
@@ -35,4 +36,5 @@ mentions_of i = record {
   stopped = i.stopped;
   started = i.started;
   versions = i.versions;
+  target_versions = i.target_versions;
 }

@@ -15,6 +15,7 @@ pub record PlacedForm : Type 0 where
 -- an application of the release that the direction leads to
 pub record TargetForm : Type 0 where
   pub name : List ℕ
+  pub vsn : List ℕ
   pub modules : List (List ℕ)
 
 pub record ScriptForm : Type 0 where
@@ -28,7 +29,7 @@ abbrev pub all_placed : List PlacedInstr → List PlacedForm
 all_placed = map placed_of
 
 abbrev pub target_of : TargetApp → TargetForm
-target_of t = record { name = t.name.now; modules = map string_bytes t.modules.now }
+target_of t = record { name = t.name.now; vsn = t.vsn.now; modules = map string_bytes t.modules.now }
 
 abbrev pub all_targets : List TargetApp → List TargetForm
 all_targets = map target_of

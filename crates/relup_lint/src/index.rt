@@ -5,7 +5,7 @@ ghost use Rattle.std.specs.Str.{bytes_eq};
 ghost use Rattle.appup_file.specs.Instruction.{appup_instruction_of};
 ghost use Rattle.relup_lint.specs.Names.{texts, row_texts, version_texts};
 ghost use Rattle.relup_lint.specs.Script.{all_placed, all_targets};
-ghost use Rattle.relup_lint.specs.Findings.{places, placed_names, versions, version_in, mentions, of_part};
+ghost use Rattle.relup_lint.specs.Findings.{places, placed_names, versions, version_in, target_versions, mentions, of_part};
 ghost use Rattle.relup_lint.specs.Memory.{mentions_of};
 
 use crate::modules::Modules;
@@ -26,6 +26,7 @@ pub(crate) struct ScriptIndex<'s, 'a> {
     stopped: Places<'a>,
     started: Places<'a>,
     pub(crate) versions: Versions<'a>,
+    pub(crate) target_versions: Versions<'a>,
 }
 
 // Let go by one call: a derived drop would stand field by field at each exit of a caller.
@@ -40,6 +41,7 @@ impl Drop for ScriptIndex<'_, '_> {
             stopped: _stopped,
             started: _started,
             versions: _versions,
+            target_versions: _target_versions,
         } = self;
     }
 }
@@ -64,6 +66,7 @@ impl<'s, 'a> ScriptIndex<'s, 'a> {
         let stopped = places_of(alloc, Part::Stopped, &modules, script)?;
         let started = places_of(alloc, Part::Started, &modules, script)?;
         let versions = versions_of(alloc, script)?;
+        let target_versions = target_versions_of(alloc, target)?;
         Ok(ScriptIndex {
             modules,
             changed,
@@ -73,6 +76,7 @@ impl<'s, 'a> ScriptIndex<'s, 'a> {
             stopped,
             started,
             versions,
+            target_versions,
         })
     }
 
@@ -167,5 +171,29 @@ fn versions_of<'a>(alloc: Global, script: &[PlacedInstr<'a>]) -> Result<Versions
     ensures { IfOk result (λ found. found ≡ versions (all_placed script.now)) }
 {
     let rows = version_rows(alloc, script)?;
+    Versions::new(alloc, rows)
+}
+
+fn target_version_rows<'a>(
+    alloc: Global,
+    target: &[TargetApp<'a>],
+) -> Result<Vec<(&'a str, &'a str)>, AllocError>
+    ensures { IfOk result (λ rows.
+        version_texts rows.items ≡ target_versions (all_targets target.now)) }
+{
+    let mut rows = Vec::with_capacity(alloc, target.len())?;
+    for app in target {
+        rows.push((app.name, app.vsn))?;
+    }
+    Ok(rows)
+}
+
+fn target_versions_of<'a>(
+    alloc: Global,
+    target: &[TargetApp<'a>],
+) -> Result<Versions<'a>, AllocError>
+    ensures { IfOk result (λ found. found ≡ target_versions (all_targets target.now)) }
+{
+    let rows = target_version_rows(alloc, target)?;
     Versions::new(alloc, rows)
 }

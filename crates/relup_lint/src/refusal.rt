@@ -35,6 +35,9 @@ pub enum Refusal<'a> {
     /// This library is fetched in another version before (conflicting_versions).
     #[error("library {0} is fetched in another version before: fetch it in one")]
     NotOneVersion(&'a str),
+    /// This library is fetched in another version than the target's, of which modules are fetched too (conflicting_versions).
+    #[error("library {0} is fetched in the target's version too: fetch it in that one")]
+    NotOfTarget(&'a str),
 }
 
 /// A refusal, and the instruction that it is about.

@@ -19,6 +19,7 @@ pub struct PlacedInstr<'a> {
 #[derive(Clone, Copy)]
 pub struct TargetApp<'a> {
     pub name: &'a str,
+    pub vsn: &'a str,
     pub modules: &'a [String],
 }
 

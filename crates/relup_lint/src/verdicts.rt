@@ -6,13 +6,14 @@ ghost use Rattle.std.specs.Str.{bytes_eq};
 ghost use Rattle.appup_file.specs.Instruction.{appup_instruction_of};
 ghost use Rattle.relup_lint.specs.Names.{texts};
 ghost use Rattle.relup_lint.specs.Script.{all_placed, all_targets, placed_of};
-ghost use Rattle.relup_lint.specs.Findings.{changed_before, is_missing, refusal_without, is_other, single_refusal, option_row, finding, findings_at, findings, checks_before, IsReported, is_earlier};
+ghost use Rattle.relup_lint.specs.Findings.{changed_before, is_missing, refusal_without, is_other, is_fetched_too, fetch_refusal, single_refusal, option_row, finding, findings_at, findings, checks_before, IsReported, is_earlier};
 ghost use Rattle.relup_lint.specs.Parts.{changed_names, needed_part, needing_names, names_without_time};
 ghost use Rattle.relup_lint.specs.Findings.RefusalForm.{no_time, not_alone};
 ghost use Rattle.relup_lint.specs.Memory.{all_findings, finding_of, refusal_of, mentions_of};
 
 use crate::index::ScriptIndex;
 use crate::parts::{Part, names_of, names_without_time, needed_part, needing_names};
+use crate::places::Versions;
 use crate::{Finding, PlacedInstr, Refusal, TargetApp};
 use appup_file::AppupInstr;
 use relup_instruction::Instr;
@@ -154,14 +155,39 @@ fn push_missing<'a>(
     Ok(())
 }
 
-fn has_other_version<'a>(index: &ScriptIndex<'_, 'a>, app: &'a str, vsn: &str) -> bool
-    ensures { result
-        ≡ is_other vsn.now (lookup (bytes_eq app.now) (mentions_of index.now).versions) }
+// Whether one of these libraries and versions is first this library in another version.
+fn has_other_version<'a>(versions: &Versions<'a>, app: &'a str, vsn: &str) -> bool
+    ensures { result ≡ is_other vsn.now (lookup (bytes_eq app.now) versions.now) }
 {
-    match index.versions.first(app) {
+    match versions.first(app) {
         Some(first) => first != vsn,
         None => false,
     }
+}
+
+// Whether an instruction has a module of its own that the target has of a library.
+fn is_fetched_too<'a>(index: &ScriptIndex<'_, 'a>, app: &'a str) -> bool
+    ensures { result ≡ is_fetched_too (mentions_of index.now) app.now }
+{
+    for name in index.modules.of(app) {
+        if index.first_place(Part::Changed, name.as_str()).is_some() {
+            return true;
+        }
+    }
+    false
+}
+
+// Why a library that is fetched in this version is refused.
+fn fetch_refusal<'a>(index: &ScriptIndex<'_, 'a>, app: &'a str, vsn: &str) -> Option<Refusal<'a>>
+    ensures { fetch_refusal (mentions_of index.now) app.now vsn.now ≡ option_map refusal_of result }
+{
+    if has_other_version(&index.versions, app, vsn) {
+        return Some(Refusal::NotOneVersion(app));
+    }
+    if has_other_version(&index.target_versions, app, vsn) && is_fetched_too(index, app) {
+        return Some(Refusal::NotOfTarget(app));
+    }
+    None
 }
 
 // What is refused of an instruction by itself.
@@ -177,10 +203,7 @@ fn single_refusal<'a>(index: &ScriptIndex<'_, 'a>, instr: &'a AppupInstr) -> Opt
             None
         }
         AppupInstr::LowLevel(Instr::LoadObjectCode(fetch)) => {
-            if has_other_version(index, fetch.app.as_str(), fetch.vsn.as_str()) {
-                return Some(Refusal::NotOneVersion(fetch.app.as_str()));
-            }
-            None
+            fetch_refusal(index, fetch.app.as_str(), fetch.vsn.as_str())
         }
         _ => None,
     }
@@ -233,7 +256,7 @@ impl Refusal<'_> {
             Refusal::NotRemoved(_) => 6,
             Refusal::NotAlone(_) => 7,
             Refusal::NotChanged(_) => 8,
-            Refusal::NotOneVersion(_) => 9,
+            Refusal::NotOneVersion(_) | Refusal::NotOfTarget(_) => 9,
         }
     }
 }

@@ -52,7 +52,7 @@ ReportsBoot why answer = (answer ≡ boot_line why) ⊎ ReportsBootBehind why an
 abbrev pub ReportsFailure : List ℕ → Type 0
 ReportsFailure answer = (answer ≡ refusal_line device) ⊎ ReportsBoot boot_error.Device answer
 
--- These lines report that memory was refused: to a call of the node, to a relup, to a boot, or to a script after its point of
+-- The lines report that memory was refused: to a call of the node, to a relup, to a boot, or to a script after its point of
 -- no return.
 abbrev pub IsMemoryLine : List ℕ → Type 0
 IsMemoryLine line =

@@ -44,6 +44,7 @@ fn push_findings(
     for app in &release.apps {
         target.push(TargetApp {
             name: app.name.as_str(),
+            vsn: app.vsn.as_str(),
             modules: app.modules.as_slice(),
         })?;
         if let Some(appup) = &app.appup {

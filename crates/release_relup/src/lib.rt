@@ -1,0 +1,22 @@
+//! The relup of a release as a text, from the files of releases (OTP: systools:make_relup/3,4).
+//!
+//! [`make_relup_text`] reads the releases, takes the entries of appups by patterns, translates them over runtime systems, and
+//! judges the instructions as `systools` does. Its text is that of a relup that is made so of what the files say, and is read back
+//! as this relup (clause `made`); an error says the first refusal (`refused`). A [`Refusal`] has the file that it is about, and is
+//! shown in one line. Beside the text stands what `systools` warns of.
+//!
+//! Only tested: that files are read where memory is there, the file and the line of a refusal, and the warnings. Trusted: the
+//! toolchain and what `appup_match` trusts.
+#![tactic(auto)]
+
+mod error;
+mod judgement;
+mod making;
+mod refusal;
+mod scripts;
+mod warnings;
+
+pub use error::MakeError;
+pub use judgement::FoundInstr;
+pub use making::{MadeText, make_relup_text};
+pub use refusal::Refusal;

@@ -1,0 +1,3 @@
+pub mod EntryLemmas
+pub mod ScriptLemmas
+pub mod LawLemmas

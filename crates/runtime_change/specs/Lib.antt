@@ -1,0 +1,4 @@
+pub mod Runtime
+pub mod Settled
+pub mod Relup
+pub mod Laws
