@@ -57,7 +57,7 @@ pub fn flood<R: Threads + Wait + Sync>(
     ensures refused { OnErr result (IsBrokenOff pid input times seat.old.view seat.new.view) }
 {
     let (mut first, inbox) = mailbox(alloc)?;
-    let second = first.second()?;
+    let second = first.second(alloc)?;
     let lower = times / 2;
     let larger = times - lower;
     let pass = table.new_pass(seat);

@@ -57,8 +57,9 @@ impl Sender {
         }
     }
 
-    /// Another sender of the mailbox, for another thread. It has sent nothing.
-    pub fn second(&mut self) -> Result<Sender, AllocError>
+    /// Another sender of the mailbox, for another thread. It has sent nothing. It shares the mailbox's memory, so nothing of the
+    /// allocator is taken.
+    pub fn second(&mut self, _alloc: Global) -> Result<Sender, AllocError>
         ensures mailbox { mailbox_of self.new ≡ mailbox_of self.old }
         ensures second { MatchResult result
             (λ s. (mailbox_of s ≡ mailbox_of self.old)

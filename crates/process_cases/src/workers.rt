@@ -48,7 +48,7 @@ fn push_work<R: Wait>(
 // A mailbox with these notes, whose senders are gone.
 fn with_notes<R: Wait>(rt: &R, alloc: Global, pid: Pid, words: &str) -> Option<Inbox> {
     let (mut first, inbox) = mailbox(alloc).ok()?;
-    let mut second = first.second().ok()?;
+    let mut second = first.second(alloc).ok()?;
     send_notes(rt, &mut first, &mut second, pid, words)?;
     Some(inbox)
 }

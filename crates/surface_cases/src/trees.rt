@@ -1,0 +1,100 @@
+//! Applications and their supervisors: `sup_tree`.
+ghost use Rattle.std.specs.Prelude.{◌≡◌};
+
+use erl_term::read_record;
+use library::{Library, libraries_of_terms};
+use proc_table::{HandlerSeat, ProcTable};
+use rel_files::App;
+use rel_files::parts::list_in;
+use std::alloc::Global;
+use std::rc::Rc;
+use std::sync::Wait;
+use sup_tree::{Loaded, NoSuchApp, StartError, Tree};
+use text_cases::{Answer, first_word};
+
+/// Appends what comes of an application that is started, started again, looked at, stopped and stopped again. The text is an id, a
+/// module, and the list of the application's library as a record has it.
+pub(crate) fn push_applications<R: Wait>(rt: &R, alloc: Global, words: &str, answer: &mut Answer) {
+    let (id, words) = first_word(words);
+    let (module, terms) = first_word(words);
+    let Some(libraries) = libraries_in(alloc, terms) else {
+        return answer.push("no libraries");
+    };
+    let (Ok(loaded), Ok((table, mut seat))) = (
+        Loaded::of(alloc, libraries.as_slice()),
+        ProcTable::new(alloc),
+    ) else {
+        return answer.note_no_memory();
+    };
+    let [library] = libraries.as_slice() else {
+        return answer.push("not one library");
+    };
+    let app = &library.as_ref().app;
+    push_application(
+        rt, alloc, &table, &mut seat, app, &loaded, id, module, answer,
+    );
+}
+
+fn libraries_in(alloc: Global, terms: &str) -> Option<Vec<Rc<Library>>> {
+    let term = read_record(alloc, terms.as_bytes()).ok()?;
+    libraries_of_terms(alloc, list_in(&term)?).ok()?
+}
+
+fn push_application<R: Wait>(
+    rt: &R,
+    alloc: Global,
+    table: &ProcTable,
+    seat: &mut HandlerSeat,
+    app: &App,
+    loaded: &Loaded,
+    id: &str,
+    module: &str,
+    answer: &mut Answer,
+)
+    requires { seat.old.table ≡ table.now }
+{
+    let mut tree = Tree::new(alloc);
+    push_started(tree.start_app(rt, alloc, table, seat, app, loaded), answer);
+    push_started(tree.start_app(rt, alloc, table, seat, app, loaded), answer);
+    push_found(&tree, app, id, answer);
+    push_using(alloc, &tree, module, answer);
+    push_stopped(tree.stop_app(rt, table, seat, app.name.as_str()), answer);
+    push_stopped(tree.stop_app(rt, table, seat, app.name.as_str()), answer);
+}
+
+fn push_started(started: Result<(), StartError<'_>>, answer: &mut Answer) {
+    answer.push("start_app ");
+    match started {
+        Ok(()) => answer.push("ok"),
+        Err(StartError::NoTable(module)) => answer.push_after("NoTable ", module),
+        Err(StartError::NoMemory) => answer.note_no_memory(),
+        Err(error) => answer.push_shown(&error),
+    }
+    answer.push(", ");
+}
+
+fn push_found(tree: &Tree, app: &App, id: &str, answer: &mut Answer) {
+    answer.push("find ");
+    match tree.find(app.name.as_str(), id) {
+        Some(pid) => {
+            answer.push_counted("", pid.slot as u64);
+            answer.push_counted(" ", u64::from(pid.round));
+        }
+        None => answer.push("None"),
+    }
+}
+
+fn push_using(alloc: Global, tree: &Tree, module: &str, answer: &mut Answer) {
+    match tree.processes_using(alloc, module) {
+        Ok(pids) => answer.push_counted(", processes_using ", pids.len() as u64),
+        Err(_) => answer.note_no_memory(),
+    }
+}
+
+fn push_stopped(stopped: Result<(), NoSuchApp>, answer: &mut Answer) {
+    answer.push(", stop_app ");
+    match stopped {
+        Ok(()) => answer.push("ok"),
+        Err(NoSuchApp) => answer.push("NoSuchApp"),
+    }
+}
