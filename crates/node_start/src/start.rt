@@ -74,7 +74,8 @@ pub fn start_running<D: Disk, R: Wait>(
         started_in s seat.new.view ≡ fresh_processes (list_in handler.now)) }
 
     // Each of its processes has begun in the table once, and nothing else has happened there.
-    ensures begun { OnOk result (HaveJustBegun (fresh_beginnings (list_in handler.now)) seat.new.view) }
+    ensures begun { OnOk result
+        (HaveJustBegun (fresh_beginnings (list_in handler.now)) seat.new.view) }
 
     // Where memory is refused, no process has begun, and nothing was added to any history.
     ensures refused { IfErr result (λ _. seat.new.view ≡ seat.old.view) }

@@ -76,7 +76,8 @@ pub(crate) fn push_apps<'a>(
     script: &mut Vec<PlacedInstr<'a>>,
 ) -> Result<(), AllocError>
     ensures { OnOk result (all_placed script.new.items ≡ all_placed script.old.items
-        ++ flat_map (app_placed direction (relup_release_of other.now)) (map relup_app_of apps.now)) }
+        ++ flat_map (app_placed direction (relup_release_of other.now))
+        (map relup_app_of apps.now)) }
 {
     for app in apps {
         push_app(direction, other, app, script)?;

@@ -42,7 +42,8 @@ fn settled_entry(alloc: Global, entry: &AppupEntry) -> Result<AppupEntry, AllocE
 }
 
 fn settled_entries(alloc: Global, entries: &[AppupEntry]) -> Result<Vec<AppupEntry>, AllocError>
-    ensures { IfOk result (λ v. map entry_of v.items ≡ map settled_entry (map entry_of entries.now)) }
+    ensures { IfOk result (λ v.
+        map entry_of v.items ≡ map settled_entry (map entry_of entries.now)) }
 {
     let mut settled = Vec::with_capacity(alloc, entries.len())?;
     for entry in entries {
