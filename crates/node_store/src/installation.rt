@@ -44,8 +44,8 @@ impl<D: Disk> NodeStore<D> {
         ensures format { OnOk result
             (writes_one_shot (record_of (event_of event) (list_in self.old)) ≡ true
             → format_in self.new ≡ 2) }
-        ensures same_format { writes_one_shot (record_of (event_of event) (list_in self.old)) ≡ false
-            → format_in self.new ≡ format_in self.old }
+        ensures same_format { writes_one_shot (record_of (event_of event)
+            (list_in self.old)) ≡ false → format_in self.new ≡ format_in self.old }
         ensures started { OnOk result (HasStarted D.may_leave self.new) }
         ensures start { OnOk result (start_in D.seen self.new ≡ start_in D.seen self.old) }
         ensures device { IfErr result (λ e. e ≡ HandlerError.Device) }
@@ -84,8 +84,8 @@ impl<D: Disk> NodeStore<D> {
         ensures format { OnOk result
             (writes_one_shot (record_of (event_of event) (list_in self.old)) ≡ true
             → format_in self.new ≡ 2) }
-        ensures same_format { writes_one_shot (record_of (event_of event) (list_in self.old)) ≡ false
-            → format_in self.new ≡ format_in self.old }
+        ensures same_format { writes_one_shot (record_of (event_of event)
+            (list_in self.old)) ≡ false → format_in self.new ≡ format_in self.old }
         ensures dead { is_dead self.new ≡ true }
         ensures device { IfErr result (λ e. e ≡ HandlerError.Device) }
         ensures failed { IfErr result (λ _.
