@@ -33,7 +33,7 @@ use Rattle.started_members.specs.Ends.{EndedAt, EndedInOrder, stands}
 use Rattle.sup_tree.specs.Stops.{StopsApp}
 use Rattle.sup_tree.specs.Tree.{App, app_pids, members_of}
 use Rattle.started_members.specs.Members.{pids_of, process_and, process_in, processes_among}
-use Rattle.app_members.specs.Walk.{Start, app_members, app_starts}
+use Rattle.sup_tree.specs.Walk.{Start, app_members, app_starts}
 use Rattle.held_processes.specs.Applications.{StartsIn, all_begun, all_ended, all_stopped, begun_at, ended_at, held_ended, known, match_pid, pids_for, state_ended, round_in, scene_at, taken_at, with_stopped, with_stopped_app}
 use Rattle.held_processes.specs.Course.{Course, Courses, Hold, add_alone, added, course_after, if_held, let_go, add}
 use Rattle.held_processes.specs.Course.Hold.{not_held, until_point, until_resumed}

@@ -22,7 +22,7 @@ use Rattle.started_members.specs.Begins.{BeganInOrder, beginning_of}
 use Rattle.started_members.specs.Ends.{EndedInOrder, ending}
 use Rattle.sup_tree.specs.Stops.{StopsApp}
 use Rattle.sup_tree.specs.Tree.{App, app_pids}
-use Rattle.app_members.specs.Walk.{Start, app_starts}
+use Rattle.sup_tree.specs.Walk.{Start, app_starts}
 use Rattle.held_processes.specs.Following.{HoldsNothing}
 use Rattle.held_processes.specs.Laws.{StartsHoldNothing}
 

@@ -17,7 +17,7 @@ use Rattle.started_members.specs.Begins.{beginning_of, members_at}
 use Rattle.started_members.specs.Ends.{stands}
 use Rattle.sup_tree.specs.Tree.{App, app_named, app_pids, without}
 use Rattle.sup_tree.specs.Starts.{IsWhy}
-use Rattle.app_members.specs.Walk.{Start, app_fault, app_members, app_starts}
+use Rattle.sup_tree.specs.Walk.{Start, app_fault, app_members, app_starts}
 use Rattle.held_processes.specs.Course.{Courses, add_alone, added, if_held}
 use Rattle.held_processes.specs.Operations.{Values, give_up_at, values_seen}
 use Rattle.held_processes.specs.Following.{HeldSlots, AllFollow, Followed}

@@ -3,7 +3,7 @@ use Rattle.std.specs.Prelude.{◌≡◌, ℕ, ◌<◌, ◌≤◌, Bool, true, fa
 use Rattle.proc_table.specs.declared.pid.Pid.{Pid}
 use Rattle.proc_table.specs.declared.view.View.{View}
 use Rattle.mod_table.specs.Tables.{Tables}
-use Rattle.app_members.specs.Walk.{Start, starts_among}
+use Rattle.sup_tree.specs.Walk.{Start, starts_among}
 use Rattle.sup_tree.specs.declared.error.RestartError.{RestartError}
 use Rattle.sup_tree.specs.declared.error.RestartError.TheVariants.{NoSuper, NoSlot}
 use Rattle.started_members.specs.declared.looks.Stay.TheVariants.{UpOrTemporary}

@@ -3,7 +3,7 @@ ghost use Rattle.std.specs.Prelude.{◌≡◌, ◌<◌, length, slice_index_or};
 ghost use Rattle.rel_files.specs.AppInMemory.{specification_of};
 ghost use Rattle.held_processes.specs.Applications.{StartsIn, held_ended, scene_at, state_ended, with_stopped};
 ghost use Rattle.held_processes.specs.Following.{AllFollow, AreLonger, Followed};
-ghost use Rattle.loaded_modules.specs.Loaded.{modules_in, tables_of};
+ghost use Rattle.sup_tree.specs.Loaded.{modules_in, tables_of};
 ghost use Rattle.started_members.specs.Members.{pids_of, process_in, processes_among};
 ghost use Rattle.started_members.specs.declared.member.Member.{Member as Part};
 

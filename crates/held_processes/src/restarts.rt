@@ -3,7 +3,7 @@ ghost use Rattle.std.specs.Prelude.{◌≡◌};
 ghost use Rattle.held_processes.specs.Applications.{scene_at};
 ghost use Rattle.held_processes.specs.Following.{AllFollow, AreLonger, Followed};
 ghost use Rattle.held_processes.specs.Restarts.{RestartsIn, was_given_up};
-ghost use Rattle.loaded_modules.specs.Loaded.{modules_in, tables_of};
+ghost use Rattle.sup_tree.specs.Loaded.{modules_in, tables_of};
 
 use crate::children::HeldEnd;
 use crate::{ChildName, HeldProcesses};

@@ -10,8 +10,8 @@ use Rattle.rel_files.proofs.Options.{mapped, chained, passed, both, both_true}
 use Rattle.rel_files.proofs.TermParts.{from_list, from_triple, from_is_word}
 use Rattle.rel_files.specs.AppParts.{contents_in}
 use Rattle.rel_files.specs.AppFile.{Specification, IsAppTerm, specification_in, with_term}
-use Rattle.worker_table.specs.Same.{is_same}
-use Rattle.worker_table.proofs.Sameness.{same_are_equal}
+use Rattle.mod_table.specs.Same.{is_same}
+use Rattle.mod_table.proofs.Sameness.{same_are_equal}
 use Rattle.library.specs.Library.{Library, IsLibrary, TableTerm, HaveTables, tables_there, library_term, term_parts, are_same_tables, is_same_library}
 use Rattle.library.specs.Laws.{SaysOneLibrary, SameAreEqual}
 use Rattle.library.specs.Reading.{AreTables, SaysLibrary, placed}

@@ -12,7 +12,7 @@ use Rattle.mod_table.specs.declared.table.Table.{Table}
 pub use Rattle.mod_table.specs.File.{vsn_of}
 use Rattle.mod_table.specs.File.{IsTableTerm, name_of}
 use Rattle.rel_files.specs.Terms.{triple_term, list_of}
-use Rattle.worker_table.specs.Same.{is_same}
+use Rattle.mod_table.specs.Same.{is_same}
 
 -- what a `.mod` file says, and its whole term
 pub record TableTerm : Type 0 where

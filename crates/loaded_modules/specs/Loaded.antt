@@ -11,7 +11,7 @@ use Rattle.std.specs.Str.{bytes_eq}
 use Rattle.library.specs.Library.{Specification, vsn_of, Library, TableTerm}
 use Rattle.library.specs.Table.{Table}
 use Rattle.library.specs.InMemory.{shared_of}
-use Rattle.mod_table.specs.Tables.{Tables}
+use Rattle.library.specs.Tables.{Tables}
 use Rattle.loaded_modules.specs.declared.loaded.LoadedModule.{LoadedModule}
 use Rattle.loaded_modules.specs.declared.loaded.Loaded.{Loaded}
 

@@ -7,7 +7,7 @@ use Rattle.loaded_modules.specs.Loaded.{Module, NamedModules, module_named, with
 use Rattle.relup_instruction.specs.Instruction.{Instruction}
 use Rattle.relup_instruction.specs.Instruction.Instruction.{apply, code_change, load, remove}
 use Rattle.relup_file.specs.Script.{is_point}
-use Rattle.script_progress.specs.Script.{Run, Site, mode_of, run_after}
+use Rattle.relup_exec.specs.Script.{Run, Site, mode_of, run_after}
 use Rattle.relup_exec.specs.Outcome.{run_through}
 use Rattle.relup_exec.proofs.RunLemmas.{call_modules, changed_modules}
 use Rattle.node_upgrade.specs.Names.{is_among, sorted_names}

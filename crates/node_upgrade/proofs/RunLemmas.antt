@@ -1,6 +1,6 @@
 -- What stands where nothing was done.
 use Rattle.std.proofs.Common.{refl}
-use Rattle.held_processes.specs.Following.{HoldsNothing}
+use Rattle.relup_exec.specs.Following.{HoldsNothing}
 use Rattle.relup_exec.proofs.OutcomeLemmas.{nothing_held}
 use Rattle.node_upgrade.specs.Running.{IsUntouched, NodeState}
 

@@ -17,7 +17,7 @@ use Rattle.std.proofs.lemmas.List.Folds.{list_any-append}
 use Rattle.std.proofs.lemmas.Map.Made.{is_some-lookup}
 use Rattle.std.proofs.lemmas.Map.Text.{is_eq-slice_cmp}
 use Rattle.std.proofs.lemmas.Slice.Eq.{bytes_eq-Decides}
-use Rattle.script_progress.specs.Script.{version_in}
+use Rattle.relup_exec.specs.Script.{version_in}
 use Rattle.loaded_modules.specs.declared.loaded.Loaded.{Loaded}
 use Rattle.loaded_modules.specs.Loaded.{Module, NamedModules, listed_in, module_named, modules_in, name_and_version}
 use Rattle.node_upgrade.specs.Names.{is_among, AreNamesWith, sorted_names}

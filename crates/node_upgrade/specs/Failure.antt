@@ -2,8 +2,8 @@
 use Rattle.std.specs.Prelude.{ℕ, List, ◌++◌, codes, decimal}
 use Rattle.relup_file.specs.declared.script_fault.ScriptFault.{ScriptFault}
 use Rattle.relup_file.specs.declared.script_fault.ScriptFault.TheVariants.{NoPoint, TwoPoints, Misplaced, Unsupported}
-use Rattle.script_progress.specs.Fault.{Cause, cause_text}
-use Rattle.script_progress.specs.Fault.Cause.{unsupported}
+use Rattle.relup_exec.specs.Fault.{Cause, cause_text}
+use Rattle.relup_exec.specs.Fault.Cause.{unsupported}
 use Rattle.relup_exec.specs.InMemory.{cause_of}
 use Rattle.node_upgrade.specs.declared.error.ScriptFailure.{ScriptFailure}
 use Rattle.node_upgrade.specs.declared.error.Why.{Why as WhyInMemory}

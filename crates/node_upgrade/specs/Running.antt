@@ -2,14 +2,14 @@
 use Rattle.std.specs.Prelude.{◌≡◌, ◌≢◌, ◌⊎◌, ℕ, List, string_bytes}
 use Rattle.erl_term.specs.Value.{value_of}
 use Rattle.proc_table.specs.declared.view.View.{View}
-use Rattle.held_processes.specs.Following.{AreUntouched}
+use Rattle.relup_exec.specs.Following.{AreUntouched}
 use Rattle.relup_exec.specs.Outcome.{IsBroken, IsFinished, IsRefused, Start}
-use Rattle.script_progress.specs.Fault.{Cause}
-use Rattle.script_progress.specs.Fault.Cause.{no_memory}
+use Rattle.relup_exec.specs.Fault.{Cause}
+use Rattle.relup_exec.specs.Fault.Cause.{no_memory}
 use Rattle.relup_exec.specs.declared.site.Site.{Site}
 use Rattle.relup_exec.specs.Sites.{view_in}
 use Rattle.loaded_modules.specs.Loaded.{NamedModules, listed_in}
-use Rattle.sup_tree.specs.Tree.{App}
+use Rattle.relup_exec.specs.Tree.{App}
 use Rattle.node_command.specs.declared.error.HandlerError.TheVariants as command
 use Rattle.node_upgrade.specs.declared.error.InstallError.{InstallError}
 use Rattle.node_upgrade.specs.declared.error.InstallError.TheVariants.{Command, Refused, MustReboot}

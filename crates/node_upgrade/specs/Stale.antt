@@ -4,7 +4,7 @@ use Rattle.std.specs.Str.{bytes_eq}
 use Rattle.library.specs.Library.{Library}
 use Rattle.relup_instruction.specs.Instruction.{Instruction}
 use Rattle.relup_instruction.specs.Instruction.Instruction.{load}
-use Rattle.script_progress.specs.Script.{version_in}
+use Rattle.relup_exec.specs.Script.{version_in}
 use Rattle.loaded_modules.specs.Loaded.{Module, NamedModules, listed_modules}
 use Rattle.node_upgrade.specs.Names.{sorted_names}
 

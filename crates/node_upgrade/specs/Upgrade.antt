@@ -8,7 +8,7 @@ use Rattle.rel_list.specs.Releases.{Releases, release_at, running, libraries_at}
 use Rattle.relup_file.specs.Script.{IsRunnable, script_fault}
 use Rattle.relup_file.specs.Search.{FoundForm}
 use Rattle.node_command.specs.Installing.{installation}
-use Rattle.script_progress.specs.Script.{Site}
+use Rattle.relup_exec.specs.Script.{Site}
 use Rattle.loaded_modules.specs.Loaded.{NamedModules}
 use Rattle.node_upgrade.specs.declared.error.InstallError.{InstallError}
 use Rattle.node_upgrade.specs.declared.error.InstallError.TheVariants.{Command, Refused, MustReboot}

@@ -1,7 +1,7 @@
 //! The script by which a release is installed.
 ghost use Rattle.std.specs.Prelude.{◌≡◌, IfErr, IfOk, OnOk};
 ghost use Rattle.std.specs.Option.{option_map, option_copied};
-ghost use Rattle.held_processes.specs.Following.{HoldsNothing};
+ghost use Rattle.relup_exec.specs.Following.{HoldsNothing};
 ghost use Rattle.node_upgrade.specs.Failure.{failure_of};
 ghost use Rattle.node_upgrade.specs.InMemory.{upgrade_of};
 ghost use Rattle.node_upgrade.specs.Running.{IsCarriedOut, IsInstalled, RunRefused, ReportsRefusal, start_in, state, state_in};

@@ -3,7 +3,7 @@ use denote.Param.Send.{IsSend, sendable}
 use denote.Param.SendFields.{declared_send}
 use Rattle.std.proofs.option.Option.TheSendSync as option
 use Rattle.mod_table.proofs.child.Restart.TheSendSync as restart
-use Rattle.worker_table.proofs.ThreadLemmas.{worker_send}
+use Rattle.mod_table.proofs.ThreadLemmas.{worker_send}
 use Rattle.proc_history.specs.contracts.value.Now as Now
 use Rattle.proc_history.specs.contracts.value.Value as Value
 use Rattle.proc_history.proofs.name.Name.TheSendSync as name

@@ -4,7 +4,7 @@ use Rattle.std.specs.Coded.{Coded, coded×, coded_ℕ, coded_list, code_by}
 use base.Stored.{Gv, gnil, gnum, gcons}
 use Rattle.mod_table.specs.declared.child.Restart.{Restart}
 use Rattle.mod_table.specs.declared.child.Restart.TheVariants.{Permanent, Transient, Temporary}
-use Rattle.worker_table.specs.Codes.{text_code, value_tree, one_value, version_tree, one_version, worker_tree, one_worker}
+use Rattle.mod_table.specs.Codes.{text_code, value_tree, one_value, version_tree, one_version, worker_tree, one_worker}
 use Rattle.proc_history.specs.declared.beginning.Beginning.{Beginning}
 use Rattle.proc_history.specs.declared.value.Outcome.{Outcome}
 use Rattle.proc_history.specs.declared.value.Outcome.TheVariants.{Done, Crashed, Ended}

@@ -7,7 +7,7 @@ use Rattle.mod_table.specs.declared.child.Restart.TheVariants.{Permanent, Transi
 use Rattle.mod_table.specs.Step.{Step}
 use Rattle.mod_table.specs.Step.TheVariants.{Next, Ends, Crashes}
 use Rattle.mod_table.specs.Table.{OldVersion}
-use Rattle.worker_table.specs.Decide.{step_of, change_of}
+use Rattle.mod_table.specs.Decide.{step_of, change_of}
 use Rattle.proc_history.specs.declared.value.Standing.{Standing}
 use Rattle.proc_history.specs.declared.value.Standing.TheVariants.{Up, Down, Stopped}
 use Rattle.proc_history.specs.declared.beginning.Beginning.{Beginning}

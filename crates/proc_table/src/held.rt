@@ -1,7 +1,7 @@
 //! A process that the handler holds.
 ghost use Rattle.std.specs.Prelude.{◌≡◌, ◌<◌, ◌↔◌, IsTrue, true, false, List, [], ◌++◌, MatchOption};
 ghost use Rattle.erl_term.specs.Value.{value_of};
-ghost use Rattle.mod_table.specs.InMemory.{old_of};
+ghost use Rattle.proc_history.specs.InMemory.{old_of};
 ghost use Rattle.proc_table.specs.Agrees.{slots};
 ghost use Rattle.proc_history.specs.Events.{ByHandler, HistoryEntry};
 ghost use Rattle.proc_history.specs.Events.Event.{changed, loaded, stopped, started, given_up};

@@ -7,7 +7,7 @@
 // unless it is the permanent one: the next boot starts it, and has room for its record, which was asked for together with that of
 // the installation (`install_room`).
 ghost use Rattle.std.specs.Prelude.{◌≡◌, ◌≢◌, true, false, IfErr, IfOk, OnOk};
-ghost use Rattle.held_processes.specs.Following.{HoldsNothing};
+ghost use Rattle.node_upgrade.specs.Following.{HoldsNothing};
 ghost use Rattle.loaded_modules.specs.Loaded.{listed_in};
 ghost use Rattle.node_upgrade.specs.Running.{state};
 ghost use Rattle.node_store.specs.Commits.{Commits, IsDone};

@@ -6,7 +6,7 @@ use Rattle.std.specs.Str.{bytes_eq}
 use Rattle.std.proofs.lemmas.Bool.{and_parts, and_from}
 use Rattle.std.proofs.lemmas.Bool.Decides.{nat_tests}
 use Rattle.std.proofs.lemmas.Slice.Eq.{bytes_eq-Decides}
-use Rattle.erl_token.specs.Lexing.{is_in}
+use Rattle.erl_term.specs.Lexing.{is_in}
 use Rattle.erl_term.specs.Lines.{is_one_line}
 use Rattle.erl_term.specs.Value.{Value}
 use Rattle.erl_term.proofs.Lines.{append_line}

@@ -12,7 +12,7 @@ use Rattle.sup_tree.specs.declared.error.StartError.TheVariants.{AlreadyStarted,
 use Rattle.loaded_modules.specs.Loaded.{Module, Modules, module_named, tables_of}
 use Rattle.sup_tree.specs.Starts.{IsWhy}
 use Rattle.sup_tree.specs.Tree.{App, app_named}
-use Rattle.app_members.specs.Walk.{StartFault, app_fault, app_starts}
+use Rattle.sup_tree.specs.Walk.{StartFault, app_fault, app_starts}
 use Rattle.script_progress.specs.Apps.{StartsFrom, start_cause}
 use Rattle.script_progress.specs.Fault.{Cause, app_start_fault, start_fault, start_fault_or}
 use Rattle.script_progress.specs.Fault.Cause.{no_table, no_slot, unsupported, no_memory}

@@ -3,15 +3,15 @@ use Rattle.std.proofs.Common.{◌≡◌, ◌≢◌, ℕ, Bool, ◌&&◌, not, tr
 use Rattle.std.proofs.lemmas.Bool.{le-ltb, lt-ltb}
 use Rattle.proc_table.specs.declared.view.View.{View}
 use Rattle.mod_table.specs.Tables.{Tables}
-use Rattle.app_members.specs.Walk.{StartFault}
+use Rattle.sup_tree.specs.Walk.{StartFault}
 use Rattle.sup_tree.specs.Walk as walk
 use Rattle.loaded_modules.specs.Loaded.{Modules, module_named, tables_of}
 use Rattle.sup_tree.specs.declared.error.RestartError.{RestartError}
 use Rattle.sup_tree.specs.declared.error.RestartError.TheVariants.{NoSuper, NoTable, Unsupported, NoSlot, NoMemory}
 use Rattle.sup_tree.specs.Stay.TheVariants.{UpOrTemporary}
-use Rattle.started_members.specs.Places.{Place}
+use Rattle.sup_tree.specs.Places.{Place}
 use Rattle.sup_tree.specs.Children.{child_place, has_one_supervisor}
-use Rattle.started_members.specs.Begins.{restart_fault}
+use Rattle.sup_tree.specs.Begins.{restart_fault}
 use Rattle.sup_tree.specs.Tree.{App}
 use Rattle.held_processes.specs.declared.restarts.NotRestarted.{NotRestarted}
 use Rattle.held_processes.specs.Applications.{Scene, room_in, scene_at}

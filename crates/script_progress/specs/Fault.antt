@@ -12,11 +12,11 @@ use Rattle.relup_instruction.specs.Instruction.{ChangeForm, CallForm, Instructio
 use Rattle.relup_instruction.specs.Instruction.Instruction.{load_object_code, load, code_change, remove, apply}
 use Rattle.relup_file.specs.Script.{is_error}
 use Rattle.loaded_modules.specs.Loaded.{Module, library_modules, module_named}
-use Rattle.started_members.specs.Places.{Place}
+use Rattle.sup_tree.specs.Places.{Place}
 use Rattle.sup_tree.specs.Children.{child_place, has_one_supervisor}
-use Rattle.started_members.specs.Begins.{restart_fault}
+use Rattle.sup_tree.specs.Begins.{restart_fault}
 use Rattle.sup_tree.specs.Tree.{app_named, supervises}
-use Rattle.app_members.specs.Walk.{StartFault, app_fault, app_starts}
+use Rattle.sup_tree.specs.Walk.{StartFault, app_fault, app_starts}
 use Rattle.sup_tree.specs.Walk as walk
 use Rattle.held_processes.specs.Course.{ModulesBySlot}
 use Rattle.held_processes.specs.Applications.{room_in}

@@ -18,7 +18,7 @@ use Rattle.relup_instruction.specs.Instruction.Instruction.{load_object_code, po
 use Rattle.loaded_modules.specs.Loaded.{Module, NamedModules, library_modules, module_named, with_loaded, without_module}
 use Rattle.sup_tree.specs.Stay.TheVariants as stay
 use Rattle.sup_tree.specs.Changes.{apps_changed}
-use Rattle.started_members.specs.Places.{Place}
+use Rattle.sup_tree.specs.Places.{Place}
 use Rattle.sup_tree.specs.Children.{child_place}
 use Rattle.sup_tree.specs.Tree.{App, app_named}
 use Rattle.held_processes.specs.Applications.{Scene, with_started, with_stopped}

@@ -15,7 +15,7 @@ use Rattle.relup_instruction.specs.Instruction.Instruction.{load_object_code, su
 use Rattle.relup_file.specs.Script.{is_error}
 use Rattle.sup_tree.specs.Children.{child_place, has_one_supervisor}
 use Rattle.sup_tree.specs.Tree.{app_named}
-use Rattle.started_members.specs.Places.{Place}
+use Rattle.sup_tree.specs.Places.{Place}
 use Rattle.held_processes.specs.Children.{AreSeen}
 use Rattle.held_processes.specs.Operations.{Values, has_free_user, holds_user, is_lowest, lacks_row_at, values_seen}
 use Rattle.held_processes.specs.Restarts.{is_held_state}

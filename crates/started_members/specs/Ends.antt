@@ -1,8 +1,8 @@
 -- Processes that are given up.
 use Rattle.std.specs.Prelude.{◌≡◌, ◌==◌, Bool, ◌&&◌, List, [], ◌∷◌, is_some, Option, Some, None, if◌then◌else◌}
 use Rattle.proc_table.specs.Value.{Value}
-use Rattle.proc_history.specs.Events.{HistoryEntry, entry}
-use Rattle.proc_history.specs.Events.Event.{given_up}
+use Rattle.proc_table.specs.Events.{HistoryEntry, entry}
+use Rattle.proc_table.specs.Events.Event.{given_up}
 use Rattle.proc_table.specs.declared.view.View.{View}
 use Rattle.proc_table.specs.declared.pid.Pid.{Pid}
 use Rattle.proc_table.specs.Holds.{Holding, Released}

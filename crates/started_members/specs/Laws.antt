@@ -1,7 +1,7 @@
 -- Laws of processes that begin, and of members that change.
 use Rattle.std.specs.Prelude.{◌≡◌, ℕ, suc, ◌+◌, ◌<◌, ◌≤◌, List, [], ◌∷◌, length, None, Some, IsPermutation}
-use Rattle.proc_history.specs.Histories.{replay}
-use Rattle.proc_history.specs.Values.{begun}
+use Rattle.proc_table.specs.Histories.{replay}
+use Rattle.proc_table.specs.Values.{begun}
 use Rattle.proc_table.specs.declared.view.View.{View}
 use Rattle.proc_table.specs.Agrees.{slots}
 use Rattle.proc_table.specs.Views.{seen, handler_view}

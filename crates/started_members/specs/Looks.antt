@@ -5,7 +5,7 @@ use Rattle.mod_table.specs.declared.child.Restart.{Restart}
 use Rattle.mod_table.specs.declared.child.Restart.TheVariants.{Temporary}
 use Rattle.proc_table.specs.Now.{Now}
 use Rattle.proc_table.specs.Value.{Value}
-use Rattle.proc_history.specs.Values.{up_at}
+use Rattle.proc_table.specs.Values.{up_at}
 use Rattle.proc_table.specs.declared.pid.Pid.{Pid}
 use Rattle.proc_table.specs.declared.view.View.{View}
 use Rattle.proc_table.specs.Holds.{Holding, Released}

@@ -1,7 +1,7 @@
 -- What change_children gives the supervisors of a module: the children of their table in order, and after them those that it
 -- doesn't name (OTP: supervisor, code_change/3). No process begins or ends.
 use Rattle.std.specs.Prelude.{ℕ, List, map}
-use Rattle.mod_table.specs.Table.{ChildSpec}
+use Rattle.started_members.specs.Table.{ChildSpec}
 use Rattle.sup_tree.specs.Tree.{App}
 use Rattle.started_members.specs.Changes.{members_changed}
 

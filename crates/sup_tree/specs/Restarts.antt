@@ -5,7 +5,7 @@ use Rattle.std.specs.Option.{option_map_or}
 use Rattle.std.specs.declared.alloc.Global.{Global}
 use Rattle.proc_table.specs.declared.view.View.{View}
 use Rattle.proc_table.specs.Free.{free_count}
-use Rattle.mod_table.specs.Tables.{Tables}
+use Rattle.started_members.specs.Tables.{Tables}
 use Rattle.app_members.specs.declared.error.MembersError.{MembersError}
 use Rattle.app_members.specs.declared.error.MembersError.TheVariants as members
 use Rattle.app_members.specs.Walk.{StartFault, starts_among}

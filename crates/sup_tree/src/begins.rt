@@ -3,7 +3,7 @@ ghost use Rattle.std.specs.Prelude.{◌≡◌, ◌≤◌, IfOk, length};
 ghost use Rattle.proc_table.specs.Free.{free_count};
 ghost use Rattle.rel_files.specs.AppInMemory.{specification_of};
 ghost use Rattle.app_members.specs.InMemory.{new_members_of};
-ghost use Rattle.loaded_modules.specs.Loaded.{modules_in, tables_of};
+ghost use Rattle.app_members.specs.Loaded.{modules_in, tables_of};
 ghost use Rattle.started_members.specs.Preparations.{to_begin};
 ghost use Rattle.sup_tree.specs.Starts.{AnswersMembers, AppBegan, HasRoom, IsReady, PreparesApp, StartsApp};
 ghost use Rattle.sup_tree.specs.Tree.{app_of};

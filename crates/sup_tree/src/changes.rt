@@ -1,6 +1,6 @@
 //! Supervisors whose children change.
 ghost use Rattle.std.specs.Prelude.{◌≡◌, IfOk, OnErr, OnOk, map};
-ghost use Rattle.mod_table.specs.InMemory.{child_of};
+ghost use Rattle.started_members.specs.InMemory.{child_of};
 ghost use Rattle.sup_tree.specs.Changes.{app_changed, apps_changed};
 ghost use Rattle.sup_tree.specs.Tree.{app_of};
 

@@ -1,6 +1,6 @@
 //! Children of started supervisors that begin again.
 ghost use Rattle.std.specs.Prelude.{◌≡◌};
-ghost use Rattle.loaded_modules.specs.Loaded.{modules_in, tables_of};
+ghost use Rattle.app_members.specs.Loaded.{modules_in, tables_of};
 ghost use Rattle.started_members.specs.Places.{IsRange, Place};
 ghost use Rattle.sup_tree.specs.Restarts.{BeginsAgain, Prepares, RestartsChild, RestartsIn, app_at};
 ghost use Rattle.sup_tree.specs.Tree.{app_of};

@@ -1,9 +1,9 @@
 use Rattle.std.proofs.Common.{◌≡◌, ℕ, subst, sym, ap, ◌∙◌}
-use Rattle.proc_history.specs.Events.{entry}
-use Rattle.proc_history.specs.Events.Event.{given_up}
+use Rattle.proc_table.specs.Events.{entry}
+use Rattle.proc_table.specs.Events.Event.{given_up}
 use Rattle.proc_table.specs.Holds.{Holding}
 use Rattle.proc_table.specs.Views.{seen}
-use Rattle.proc_history.proofs.Beginnings.{Adds, event_adds}
+use Rattle.proc_table.proofs.Beginnings.{Adds, event_adds}
 use Rattle.started_members.proofs.ends.end.Goals as goal
 
 pub release-requires-clause-legal : goal.release-requires-clause-legal

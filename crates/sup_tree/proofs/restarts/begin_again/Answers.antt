@@ -1,7 +1,7 @@
 use Rattle.std.proofs.Common.{◌∙◌, List, length, ap, subst, arith}
 use Rattle.std.specs.Prelude.{Ok, Err}
 use Rattle.std.specs.List.{remove_range}
-use Rattle.loaded_modules.specs.Loaded.{modules_in, tables_of}
+use Rattle.app_members.specs.Loaded.{modules_in, tables_of}
 use Rattle.app_members.proofs.WalkLemmas.{passed_on}
 use Rattle.started_members.specs.declared.member.Member.{Member}
 use Rattle.started_members.specs.Preparations.{AllBegan, to_begin}

@@ -2,8 +2,8 @@ use Rattle.std.proofs.Common.{◌≡◌, ◌∙◌, None, map, ap, subst}
 use Rattle.app_members.specs.InMemory.{FaultIs, new_members_of}
 use Rattle.app_members.specs.Walk.{lone_fault, lone_members}
 use Rattle.app_members.proofs.WalkLemmas.{passed_on}
-use Rattle.loaded_modules.specs.Loaded.{modules_in, tables_of}
-use Rattle.mod_table.specs.Table.{ChildSpec}
+use Rattle.app_members.specs.Loaded.{modules_in, tables_of}
+use Rattle.started_members.specs.Table.{ChildSpec}
 use Rattle.started_members.specs.Begins.{specification}
 use Rattle.started_members.specs.Preparations.{preparation_of}
 use Rattle.sup_tree.specs.Restarts.{Prepares, restart_cause}

@@ -1,6 +1,6 @@
 use Rattle.std.proofs.Common.{List, subst}
 use Rattle.std.specs.Prelude.{Ok, Err, Some}
-use Rattle.loaded_modules.specs.Loaded.{modules_in, tables_of}
+use Rattle.app_members.specs.Loaded.{modules_in, tables_of}
 use Rattle.app_members.proofs.WalkLemmas.{passed_on}
 use Rattle.started_members.specs.declared.member.Member.{Member}
 use Rattle.started_members.specs.Places.{AreAt, child_in}

@@ -1,5 +1,5 @@
 use Rattle.std.proofs.Common.{◌∙◌, Bool, Err, Ok, refl, subst, sym}
-use Rattle.loaded_modules.specs.Loaded.{modules_in, tables_of}
+use Rattle.sup_tree.specs.Loaded.{modules_in, tables_of}
 use Rattle.started_members.specs.declared.looks.Stay.TheVariants.{UpOrTemporary}
 use Rattle.sup_tree.specs.Children.{child_place}
 use Rattle.held_processes.specs.Applications.{scene_at}

@@ -1,5 +1,5 @@
 use Rattle.rel_files.specs.AppInMemory.{specification_of}
-use Rattle.loaded_modules.specs.Loaded.{modules_in, tables_of}
+use Rattle.sup_tree.specs.Loaded.{modules_in, tables_of}
 use Rattle.held_processes.proofs.ApplicationLemmas.{starts_in}
 use Rattle.held_processes.proofs.LongerLemmas.{start_longer}
 use Rattle.held_processes.proofs.processes.HeldProcesses.start_app.Goals as goal

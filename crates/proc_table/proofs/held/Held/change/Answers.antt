@@ -1,6 +1,6 @@
 use Rattle.std.proofs.Common.{◌≡◌, ap, sym, ◌∙◌}
 use Rattle.erl_term.specs.Value.{value_of}
-use Rattle.mod_table.specs.InMemory.{old_of}
+use Rattle.proc_history.specs.InMemory.{old_of}
 use Rattle.proc_history.specs.Changes.{finds_row}
 use Rattle.proc_table.specs.Holds.{Holding}
 use Rattle.proc_history.proofs.ReleaseLemmas.{row_may_come, may_come_row}

@@ -1,7 +1,7 @@
 use Rattle.std.proofs.Common.{◌∙◌, ◌≡◌, [], ℕ, List, map, Option, slice_set, ap, subst, subst₂, sym, Some, true}
 use Rattle.std.specs.Option.{option_map_or}
 use Rattle.std.proofs.Math.Seq.{map-set_same}
-use Rattle.loaded_modules.specs.Loaded.{modules_in, tables_of}
+use Rattle.app_members.specs.Loaded.{modules_in, tables_of}
 use Rattle.started_members.specs.declared.member.Member.{Member}
 use Rattle.sup_tree.specs.declared.tree.StartedApp.{StartedApp}
 use Rattle.started_members.specs.Places.{Place, child_in, in_place}

@@ -1,7 +1,7 @@
 use Rattle.std.proofs.Common.{◌≡◌, is_some, string_bytes, ap, sym, subst₂, ◌∙◌, arith}
 use Rattle.rel_files.specs.AppInMemory.{specification_of}
 use Rattle.app_members.specs.InMemory.{new_members_of}
-use Rattle.loaded_modules.specs.Loaded.{modules_in, tables_of}
+use Rattle.app_members.specs.Loaded.{modules_in, tables_of}
 use Rattle.app_members.specs.Walk.{app_members}
 use Rattle.started_members.specs.Begins.{members_at}
 use Rattle.started_members.specs.Members.{pids_of}
