@@ -24,7 +24,9 @@ mod update;
 
 pub use appup::{Appup, AppupEntry, OtherVersion};
 pub use fault::AppupFault;
-pub use instruction::{AddedApp, AppupInstr, Dependent, ModType, ModuleLoad, StateChange, Update};
+pub use instruction::{
+    AddedApp, AppupInstr, AppupInstr as Instr, Dependent, ModType, ModuleLoad, StateChange, Update,
+};
 pub use reader::{appup_of_term, read_appup};
 pub use relup_instruction::Direction;
 pub use search::EntryFault;
