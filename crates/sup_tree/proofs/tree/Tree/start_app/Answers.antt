@@ -21,18 +21,20 @@ begin-started-requires-clause-slots g c =
     omega (arith, same, few, c.free_count.ensures)
 
 pub returns : goal.returns
-returns g c = record { started =
-    let name = string_bytes c.args.app.now.name in
-    let apps = c.args.self.now in
-    let members = app_members (tables_of (modules_in c.args.loaded.now)) (specification_of c.args.app.now).top in
-    let are : new_members_of c.as_slice.result.now ≡ members = ap new_members_of c.as_slice.ensures.value ∙ c.in_ok-members.ensures.1 in
-    let ready = subst₂ (λ n ms. IsReady n ms c.in_ok-new.new) c.as_str-2.ensures.value are c.in_ok-new.ensures in
-    let begun = ready_began name members c.in_ok-new.new c.args.access.now (app_of c.begin-started.result) c.begin-started.new.access ready c.begin-started.ensures.began in
-    record {
-      new = not_there (app_named name apps) (ap (λ n. is_some (app_named n apps)) (sym c.as_str.ensures.value) ∙ (sym c.is_started.ensures ∙ c.if-is_started.false));
-      sound = c.in_ok-members.ensures.0;
-      processes = begun.processes;
-      began = begun.began;
-      tree = app_pushed _ _ _ _ apps (record { name = name; members = members_at members (pids_of begun.processes) }) c.push_reserved.ensures.items c.in_ok-reserve.ensures.items c.self.view_is
-          begun.stands;
-    }
+returns g c = record {
+  started =
+      let name = string_bytes c.args.app.now.name in
+      let apps = c.args.self.now in
+      let members = app_members (tables_of (modules_in c.args.loaded.now)) (specification_of c.args.app.now).top in
+      let are : new_members_of c.as_slice.result.now ≡ members = ap new_members_of c.as_slice.ensures.value ∙ c.in_ok-members.ensures.1 in
+      let ready = subst₂ (λ n ms. IsReady n ms c.in_ok-new.new) c.as_str-2.ensures.value are c.in_ok-new.ensures in
+      let begun = ready_began name members c.in_ok-new.new c.args.access.now (app_of c.begin-started.result) c.begin-started.new.access ready c.begin-started.ensures.began in
+      record {
+        new = not_there (app_named name apps) (ap (λ n. is_some (app_named n apps)) (sym c.as_str.ensures.value) ∙ (sym c.is_started.ensures ∙ c.if-is_started.false));
+        sound = c.in_ok-members.ensures.0;
+        processes = begun.processes;
+        began = begun.began;
+        tree = app_pushed _ _ _ _ apps (record { name = name; members = members_at members (pids_of begun.processes) }) c.push_reserved.ensures.items c.in_ok-reserve.ensures.items c.self.view_is
+            begun.stands;
+      };
+}
