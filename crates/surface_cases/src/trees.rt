@@ -7,9 +7,11 @@ use proc_table::{HandlerSeat, ProcTable};
 use rel_files::App;
 use rel_files::parts::list_in;
 use std::alloc::Global;
+use std::marker::Brand;
 use std::rc::Rc;
 use std::sync::Wait;
 use sup_tree::{Loaded, NoSuchApp, StartError, Tree};
+use table_access::{Lent, Seating, TableAccess};
 use text_cases::{Answer, first_word};
 
 /// Appends what comes of an application that is started, started again, looked at, stopped and stopped again. The text is an id, a
@@ -53,13 +55,32 @@ fn push_application<R: Wait>(
 )
     requires { seat.old.table ≡ table.now }
 {
+    let lent = Lent { table, seat };
+    let _ = push_application_at::<R, Brand>(rt, alloc, lent, app, loaded, id, module, answer);
+}
+
+fn push_application_at<'t, R: Wait, S: Seating>(
+    rt: &R,
+    alloc: Global,
+    lent: Lent<'t>,
+    app: &App,
+    loaded: &Loaded,
+    id: &str,
+    module: &str,
+    answer: &mut Answer,
+) -> &'t mut HandlerSeat
+    requires name { lent.seat.ghost_name ≡ S.name }
+    requires table { (lent.seat.now.table ≡ S.table) × (lent.table.now ≡ S.table) }
+{
+    let mut access: TableAccess<'t, S> = TableAccess::new(lent);
     let mut tree = Tree::new(alloc);
-    push_started(tree.start_app(rt, alloc, table, seat, app, loaded), answer);
-    push_started(tree.start_app(rt, alloc, table, seat, app, loaded), answer);
+    push_started(tree.start_app(rt, alloc, &mut access, app, loaded), answer);
+    push_started(tree.start_app(rt, alloc, &mut access, app, loaded), answer);
     push_found(&tree, app, id, answer);
     push_using(alloc, &tree, module, answer);
-    push_stopped(tree.stop_app(rt, table, seat, app.name.as_str()), answer);
-    push_stopped(tree.stop_app(rt, table, seat, app.name.as_str()), answer);
+    push_stopped(tree.stop_app(rt, &mut access, app.name.as_str()), answer);
+    push_stopped(tree.stop_app(rt, &mut access, app.name.as_str()), answer);
+    access.into_seat()
 }
 
 fn push_started(started: Result<(), StartError<'_>>, answer: &mut Answer) {
