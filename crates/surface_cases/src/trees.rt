@@ -14,6 +14,15 @@ use sup_tree::{Loaded, NoSuchApp, StartError, Tree};
 use table_access::{Lent, Seating, TableAccess};
 use text_cases::{Answer, first_word};
 
+/// A process that is looked for in an application, and a module whose processes are.
+#[derive(Clone, Copy)]
+struct Sought<'a> {
+    /// The id of the process.
+    id: &'a str,
+    /// The module.
+    module: &'a str,
+}
+
 /// Appends what comes of an application that is started, started again, looked at, stopped and stopped again. The text is an id, a
 /// module, and the list of the application's library as a record has it.
 pub(crate) fn push_applications<R: Wait>(rt: &R, alloc: Global, words: &str, answer: &mut Answer) {
@@ -32,9 +41,8 @@ pub(crate) fn push_applications<R: Wait>(rt: &R, alloc: Global, words: &str, ans
         return answer.push("not one library");
     };
     let app = &library.as_ref().app;
-    push_application(
-        rt, alloc, &table, &mut seat, app, &loaded, id, module, answer,
-    );
+    let sought = Sought { id, module };
+    push_application(rt, alloc, &table, &mut seat, app, &loaded, &sought, answer);
 }
 
 fn libraries_in(alloc: Global, terms: &str) -> Option<Vec<Rc<Library>>> {
@@ -49,14 +57,13 @@ fn push_application<R: Wait>(
     seat: &mut HandlerSeat,
     app: &App,
     loaded: &Loaded,
-    id: &str,
-    module: &str,
+    sought: &Sought<'_>,
     answer: &mut Answer,
 )
     requires { seat.old.table ≡ table.now }
 {
     let lent = Lent { table, seat };
-    let _ = push_application_at::<R, Brand>(rt, alloc, lent, app, loaded, id, module, answer);
+    let _ = push_application_at::<R, Brand>(rt, alloc, lent, app, loaded, sought, answer);
 }
 
 fn push_application_at<'t, R: Wait, S: Seating>(
@@ -65,8 +72,7 @@ fn push_application_at<'t, R: Wait, S: Seating>(
     lent: Lent<'t>,
     app: &App,
     loaded: &Loaded,
-    id: &str,
-    module: &str,
+    sought: &Sought<'_>,
     answer: &mut Answer,
 ) -> &'t mut HandlerSeat
     requires name { lent.seat.ghost_name ≡ S.name }
@@ -76,8 +82,8 @@ fn push_application_at<'t, R: Wait, S: Seating>(
     let mut tree = Tree::new(alloc);
     push_started(tree.start_app(rt, alloc, &mut access, app, loaded), answer);
     push_started(tree.start_app(rt, alloc, &mut access, app, loaded), answer);
-    push_found(&tree, app, id, answer);
-    push_using(alloc, &tree, module, answer);
+    push_found(&tree, app, sought.id, answer);
+    push_using(alloc, &tree, sought.module, answer);
     push_stopped(tree.stop_app(rt, &mut access, app.name.as_str()), answer);
     push_stopped(tree.stop_app(rt, &mut access, app.name.as_str()), answer);
     access.into_seat()
