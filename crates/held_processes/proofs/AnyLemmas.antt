@@ -8,14 +8,14 @@ pub or_true : (a : Bool) → (a || true) ≡ true
 or_true true = refl
 or_true false = refl
 
--- it holds of one
+-- A test that holds of one slot below a bound holds of some slot there.
 pub any_found : (test : ℕ → Bool) (n p : ℕ) → p < n → test p ≡ true → any_below test n ≡ true
 any_found test zero p below e = absurd (omega (arith, below))
 any_found test (suc n) p below e = dite (ℕ_discrete p n)
     (λ is. ap (λ b. any_below test n || b) (subst (λ q. test q ≡ true) is e) ∙ or_true (any_below test n))
     (λ ne. ap (λ b. b || test n) (any_found test n p (omega (arith, below)) e))
 
--- it holds of none of them
+-- Where a test holds of no slot below a bound, it doesn't hold of this one.
 pub not_at : (test : ℕ → Bool) (n p : ℕ) → p < n → any_below test n ≡ false → test p ≡ false
 not_at test n p below none = by (test p) refl
   where
@@ -33,7 +33,7 @@ any_more f g (suc n) more e = either (any_below f n) (f n) (any_below g n) (g n)
     either false true c d first second e = ap (λ x. c || x) (second refl) ∙ or_true c
     either false false c d first second e = absurd (true≢false (sym e))
 
--- it holds of none
+-- A test that fails for each slot below a bound holds of no slot there.
 pub any_none : (test : ℕ → Bool) (n : ℕ) → ((p : ℕ) → p < n → test p ≡ false) → any_below test n ≡ false
 any_none test zero none = refl
 any_none test (suc n) none = ap₂ (λ (a b : Bool). a || b) (any_none test n (λ p below. none p (omega (arith, below)))) (none n (omega arith))

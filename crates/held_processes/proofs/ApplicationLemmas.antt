@@ -51,7 +51,7 @@ pub record NotHeldAt (p : ℕ) (cs : Courses) (hs : HeldSlots) : Type 0 where
   pub hold : (cs p).hold ≡ not_held
   pub pending : (cs p).pending ≡ []
 
--- it is one that isn't out
+-- A slot that isn't out is not held.
 free_where_not_out : (first : View) (cs : Courses) (hs : HeldSlots) (v : View) (p : ℕ) → AllFollow first cs hs v → p < slots → is_out v p ≡ false → NotHeldAt p cs hs
 free_where_not_out first cs hs v p f inside out = by (slice_index_or hs p None) refl (f.each p inside).at
   where
@@ -59,7 +59,7 @@ free_where_not_out first cs hs v p f inside out = by (slice_index_or hs p None) 
     by None is at = let free : IsFree (cs p) (part_of v.parts p) = at in record { place = is; hold = free.hold; pending = free.pending }
     by (Some h) is at = let held : IsHeld p (cs p) (part_of v.parts p) h = at in absurd (true≢false (sym held.out ∙ out))
 
--- it is one of which the course says so
+-- A slot whose course says that it isn't held is not held.
 pub free_where_not_held : (first : View) (cs : Courses) (hs : HeldSlots) (v : View) (p : ℕ) → AllFollow first cs hs v → p < slots → (cs p).hold ≡ not_held → NotHeldAt p cs hs
 free_where_not_held first cs hs v p f inside hold = by (slice_index_or hs p None) refl (f.each p inside).at
   where
@@ -160,7 +160,7 @@ began_all first cs hs app (s ∷ ss) v (p ∷ ps) w f legal (u, began, is, later
     ∙ ap (λ (r : ℕ → Option ℕ). p.pid ∷ pids_for (length ss) r) (sym (taken_is (values_seen first) cs p.pid b free.pending)) in
     subst (λ l. AllBegun first cs hs app (s ∷ ss) l (p ∷ ps) w) (sym pids) (record { follow = rest.follow; places = ap (λ l. p.pid ∷ l) rest.places })
 
--- there was room for them
+-- Where processes began, there were free slots for them.
 pub began_in_room : (app : List ℕ) (ss : List Start) (v : View) (ps : List StartedProcess) (w : View) → BeganInOrder app ss v ps w → length ss ≤ free_count v
 began_in_room app [] v [] w is = omega arith
 began_in_room app [] v (p ∷ ps) w is = absurd is

@@ -101,7 +101,7 @@ and_false : (b : Bool) → (b && false) ≡ false
 and_false true = refl
 and_false false = refl
 
--- one that was given up while it was held doesn't stand any more
+-- A process that was given up while it was held doesn't stand any more.
 pub given_up_gone : (values : Values) (pid : Pid) (cs : Courses) → ((cs pid.slot).hold ≡ not_held → ⊥) → stands pid (known values (give_up_at pid.slot cs) pid.slot) ≡ false
 given_up_gone values pid cs really =
     let p = pid.slot in
@@ -116,7 +116,7 @@ given_up_gone values pid cs really =
     ap (λ (d : Course). replay_from (values p) (added d.blocks ++ d.pending)) course ∙ (ap (replay_from (values p)) all ∙ replay-append (values p) (added c.blocks ++ c.pending) (e ∷ [])) in
     ap (stands pid) value ∙ and_false ((replay_from (values p) (added c.blocks ++ c.pending)).round == pid.round)
 
--- nor does it stay
+-- A look at a process that was given up while it was held finds that it doesn't stay.
 not_staying : (first : View) (cs : Courses) (hs : HeldSlots) (v : View) (kept : Kept) (pid : Pid) (stays : Bool) (look : View) → AllFollow first (give_up_at pid.slot cs) hs v
     → ((cs pid.slot).hold ≡ not_held → ⊥) → LookedAt kept pid stays v look → stays ≡ false
 not_staying first cs hs v kept pid stays look f really (h, u, at, is, r) =
@@ -140,7 +140,7 @@ left_alone slot cs free p = by (p == slot) refl
 pub seen_where : (first : View) (cs : Courses) (hs : HeldSlots) (v : View) → AllFollow first cs hs v → AreSeen first cs v
 seen_where first cs hs v f = λ p inside. (f.each p inside).stand
 
--- so it is of one that doesn't stay where the handler has seen more since then
+-- A report that a child doesn't stay is right still where the handler has seen more since then.
 pub later_stay : (first : View) (stay : Stay) (cs : Courses) (o : Option Place) (b v w : View) → AreLonger v w → IsStay first stay cs o false b v → IsStay first stay cs o false b w
 later_stay first stay cs o b v w more is = (is.0, is.1, is.2, is.3, longer_both is.0 v w is.4 more, child_later cs o b v w is.5 more, λ stays. absurd (true≢false (sym stays)))
 
@@ -234,7 +234,7 @@ held_given first kept cs q hs hs' v u look w really before not_stays f longer fa
       follow = ended_follow first ds hs' look q.pid w at.0 (free_there q.pid.slot cs) ended;
     }
 
--- it wasn't reported to stay
+-- The end of the process doesn't report that it stays.
 abbrev pub NotStaying : HeldEnd → Type 0
 NotStaying Stays = ⊥
 NotStaying e = Unit {0}

@@ -97,7 +97,7 @@ outcome_longer false tables app (Some p) change old v (Ok false) new w is =
     (began_longer app (starts_among (restart_members tables p.child)) is.after_end is.processes w is.began)
 outcome_longer false tables app (Some p) change old v (Err NoSlot) new w is = end_longer (process_in p.child) v w is.0.ended
 outcome_longer false tables app (Some p) change old v (Err NoSuper) new w is = same_longer v w is.0.1
-outcome_longer false tables app (Some p) change old v (Err NoTable) new w is = same_longer v w is.0.1
+outcome_longer false tables app (Some p) change old v (Err (NoTable m)) new w is = same_longer v w is.0.1
 outcome_longer false tables app (Some p) change old v (Err Unsupported) new w is = same_longer v w is.0.1
 outcome_longer false tables app (Some p) change old v (Err NoMemory) new w is = same_longer v w is.0.1
 
@@ -110,7 +110,7 @@ pub restart_longer : (name id : List ℕ) (tables : Tables) (apps : List App) (v
     → AreLonger v w
 restart_longer name id tables apps v (Ok b) apps' w t = again_longer tables _ _ _ apps v (Ok b) apps' w t.1
 restart_longer name id tables apps v (Err NoSuper) apps' w t = same_longer v w t.2
-restart_longer name id tables apps v (Err NoTable) apps' w t = again_longer tables _ _ _ apps v (Err NoTable) apps' w t.1
+restart_longer name id tables apps v (Err (NoTable m)) apps' w t = again_longer tables _ _ _ apps v (Err (NoTable m)) apps' w t.1
 restart_longer name id tables apps v (Err Unsupported) apps' w t = again_longer tables _ _ _ apps v (Err Unsupported) apps' w t.1
 restart_longer name id tables apps v (Err NoSlot) apps' w t = again_longer tables _ _ _ apps v (Err NoSlot) apps' w t.1
 restart_longer name id tables apps v (Err NoMemory) apps' w t = again_longer tables _ _ _ apps v (Err NoMemory) apps' w t.1

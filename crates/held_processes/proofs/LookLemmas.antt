@@ -47,14 +47,14 @@ not_user users name cs v p none = ap (λ (a : Bool). a && is_some (up_at (value_
 abbrev pub AreTaken : ModulesBySlot → List ℕ → Courses → View → ℕ → View → Type 0
 AreTaken users name cs v n w = (p : ℕ) → p < n → is_free_user users name cs p ≡ true → HasTaken p v w
 
--- after a look at one more
+-- The slots of the module's processes that aren't held were taken, with one slot more after a look at it.
 pub one_taken : (first : View) (users : ModulesBySlot) (name : List ℕ) (cs : Courses) (v u w : View) (n : ℕ) → AreLonger v u → IsLookedAt (past_of first cs n) n u w → AreLonger u w → AreTaken users name cs v n u
     → AreTaken users name cs v (n + 1) w
 one_taken first users name cs v u w n more looked later so_far p below free = dite (ℕ_discrete p n)
     (λ is. subst (λ q. HasTaken q v w) (sym is) (taken_since n v u w more (looked (subst (λ q. (cs q).hold ≡ not_held) is (free_user users name cs p free)))))
     (λ ne. taken_later p v u w (so_far p (omega (arith, below, ne)) free) later)
 
--- and after one that is no process of the module
+-- The slots of the module's processes that aren't held were taken, with one slot more that has no such process.
 pub none_taken : (users : ModulesBySlot) (name : List ℕ) (cs : Courses) (v u : View) (n : ℕ) → runs name (users n) ≡ false → AreTaken users name cs v n u → AreTaken users name cs v (n + 1) u
 none_taken users name cs v u n none so_far p below free = dite (ℕ_discrete p n)
     (λ is. let no : is_free_user users name cs p ≡ false = ap (λ (b : Bool). b && not (is_held (cs p).hold)) (subst (λ q. runs name (users q) ≡ false) (sym is) none) in absurd (true≢false (sym free ∙ no)))

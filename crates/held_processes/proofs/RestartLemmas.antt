@@ -218,12 +218,12 @@ faulty_in followed hs hs' v u look w apps apps' name id tables p e x not one the
 given_alike : (e : HeldEnd) (x : RestartError) → x ≢ NoSlot → was_given_up e x ≡ is_given_up e
 given_alike GivenUp x other = refl
 given_alike Stays NoSuper other = refl
-given_alike Stays NoTable other = refl
+given_alike Stays (NoTable m) other = refl
 given_alike Stays Unsupported other = refl
 given_alike Stays NoSlot other = absurd (other refl)
 given_alike Stays NoMemory other = refl
 given_alike NotHeld NoSuper other = refl
-given_alike NotHeld NoTable other = refl
+given_alike NotHeld (NoTable m) other = refl
 given_alike NotHeld Unsupported other = refl
 given_alike NotHeld NoSlot other = absurd (other refl)
 given_alike NotHeld NoMemory other = refl
@@ -249,8 +249,8 @@ module _ (followed : Followed) (hs hs' : HeldSlots) (v u w : View) (apps apps' :
   outcome_in (Some p) false look (Ok false) there f looked is = begun_in followed hs hs' v u look w apps apps' name id tables p e not one there before f legal longer looked is
   outcome_in (Some p) false look (Err NoSuper) there f looked is = absurd is.0.0
   outcome_in (Some p) false look (Err NoSlot) there f looked is = slotless_in followed hs hs' v u look w apps apps' name id tables p e not one there before f legal longer looked is.0 is.1
-  outcome_in (Some p) false look (Err NoTable) there f looked is =
-      faulty_in followed hs hs' v u look w apps apps' name id tables p e NoTable not one there before f longer looked (given_alike e NoTable (λ no. cc no)) refl is.0.0 is.0.1 is.1
+  outcome_in (Some p) false look (Err (NoTable m)) there f looked is =
+      faulty_in followed hs hs' v u look w apps apps' name id tables p e (NoTable m) not one there before f longer looked (given_alike e (NoTable m) (λ no. cc no)) refl is.0.0 is.0.1 is.1
   outcome_in (Some p) false look (Err Unsupported) there f looked is =
       faulty_in followed hs hs' v u look w apps apps' name id tables p e Unsupported not one there before f longer looked (given_alike e Unsupported (λ no. cc no)) refl is.0.0 is.0.1 is.1
   outcome_in (Some p) false look (Err NoMemory) there f looked is =
@@ -260,7 +260,7 @@ module _ (followed : Followed) (hs hs' : HeldSlots) (v u w : View) (apps apps' :
       → RestartsIn followed.first name id tables (scene_at followed apps) (reported_of e r) apps' hs' v w
   restarts_in (Ok b) f t = outcome_in (child_place name id apps) t.1.stays t.1.look (Ok b) refl f t.1.looked t.1.outcome
   restarts_in (Err NoSuper) f t = absurd (true≢false (sym one ∙ t.0))
-  restarts_in (Err NoTable) f t = outcome_in (child_place name id apps) t.1.stays t.1.look (Err NoTable) refl f t.1.looked t.1.outcome
+  restarts_in (Err (NoTable m)) f t = outcome_in (child_place name id apps) t.1.stays t.1.look (Err (NoTable m)) refl f t.1.looked t.1.outcome
   restarts_in (Err Unsupported) f t = outcome_in (child_place name id apps) t.1.stays t.1.look (Err Unsupported) refl f t.1.looked t.1.outcome
   restarts_in (Err NoSlot) f t = outcome_in (child_place name id apps) t.1.stays t.1.look (Err NoSlot) refl f t.1.looked t.1.outcome
   restarts_in (Err NoMemory) f t = outcome_in (child_place name id apps) t.1.stays t.1.look (Err NoMemory) refl f t.1.looked t.1.outcome

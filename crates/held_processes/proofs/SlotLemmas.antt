@@ -93,14 +93,14 @@ longer_both v u w a b = record {
   takes = prefix_trans v.found u.found w.found a.takes b.takes;
 }
 
--- so it does where the same was seen, and no slot was taken
+-- A view that has seen the same, and has taken no slot since, is longer.
 pub longer_same : (v w : View) → ((p : ℕ) → seen w p ≡ seen v p) → w.found ≡ v.found → AreLonger v w
 longer_same v w same found = record {
   histories = λ p. subst (IsPrefix (seen v p)) (sym (same p)) (prefix_self (seen v p));
   takes = subst (IsPrefix v.found) (sym found) (prefix_self v.found);
 }
 
--- so it does where entries come in one slot alone
+-- A view is longer where entries came in one slot alone.
 longer_there : (p : ℕ) (es : List HistoryEntry) (v w : View) → seen w p ≡ seen v p ++ es → Elsewhere p v w → IsPrefix v.found w.found → AreLonger v w
 longer_there p es v w here elsewhere takes = record {
   histories = λ q. dite (ℕ_discrete q p)
@@ -109,11 +109,11 @@ longer_there p es v w here elsewhere takes = record {
   takes = takes;
 }
 
--- so it does where a slot is taken
+-- A view is longer where a slot was taken.
 pub taken_longer : (p : ℕ) (v : View) (h : Holding) (u : View) → HeldAtLast p v h u → AreLonger v u
 taken_longer p v h u at = let s = since p v h u at in longer_there p s.between v u s.seen_is s.elsewhere (taken_found p v u (taken_at_last p v h u at))
 
--- so it does where a slot is given back, also if it was held for that
+-- A view is longer where a slot was given back, also if the slot was held for that.
 pub released_longer : (p : ℕ) (es : List HistoryEntry) (v w : View) → Released p es v w → AreLonger v w
 released_longer p es v w r = longer_there p es v w r.seen_is (elsewhere_left p es v w r) (subst (IsPrefix v.found) (sym r.found) (prefix_self v.found))
 
@@ -165,7 +165,7 @@ adds past p c v h e y f plain may is =
       };
     }
 
--- it is followed after a step
+-- A course is followed after a step.
 pub followed_then : (past : SlotPast) (p : ℕ) (c d : Course) (v w : View) (place next : Option HeldForm) → IsFollowed past p c v place → Steps past p d v next w → IsFollowed past p d w next
 followed_then past p c d v w place next f s = record {
   handler = s.elsewhere.number ∙ f.handler;

@@ -20,12 +20,12 @@ use Rattle.held_processes.specs.Course.Hold.{not_held, until_point, until_resume
 use Rattle.held_processes.specs.Following.{AreLonger}
 use Rattle.held_processes.specs.Operations.{is_free_user, is_held}
 
--- a slot that is held was taken
+-- A slot that is held was taken.
 pub taken_at_last : (p : ℕ) (v : View) (h : Holding) (u : View) → HeldAtLast p v h u → HasTaken p v u
 taken_at_last p v h u at =
     let f = (since p v h u at).found in record { before = at_slot p f.words; is = ([], append-nil ((v.found ++ at_slot p f.words) ++ (p, 0) ∷ []) ∙ sym f.is) }
 
--- and so was one that was given back then
+-- A slot that was held was taken, also after a slot was given back.
 pub held_taken : (p q : ℕ) (es : List HistoryEntry) (v : View) (h : Holding) (u w : View) → HeldAtLast p v h u → Released q es u w → HasTaken p v w
 held_taken p q es v h u w at r =
     let t = taken_at_last p v h u at in record { before = t.before; is = subst (IsPrefix ((v.found ++ t.before) ++ (p, 0) ∷ [])) (sym r.found) t.is }

@@ -88,7 +88,7 @@ abbrev pub state_ended : Option StartedProcess → Courses → Courses
 state_ended None cs = cs
 state_ended (Some p) cs = give_up_at p.pid.slot cs
 
--- those that are held are given up and let go
+-- the courses where the processes among these that are held are given up and let go
 abbrev pub held_ended : List Pid → Courses → Courses
 held_ended [] cs = cs
 held_ended (pid ∷ pids) cs = held_ended pids (give_up_at pid.slot cs)

@@ -5,9 +5,8 @@
 //! call stands between a load and its change of code; what is done to a process that isn't held is a block alone.
 //! [`HeldProcesses`] does operations on the processes of a module ([`Users`], by the tree), or on all, and each contract says that
 //! the handler still follows all courses, after that operation (specs/Following, specs/Operations). [`HeldProcesses::finish`]
-//! lets all go, and [`HeldProcesses::roll_back`] gives all back as they were when they were taken, without an entry. Both take no
-//! memory. Where memory is refused, or a process has no row for its change of code, the operation was done in the slots below that
-//! one.
+//! lets all go, and [`HeldProcesses::roll_back`] gives all back as they were when they were taken, without an entry. Neither
+//! takes memory. Where memory is refused, or a process has no row for its change of code, the slots below it are done.
 //! Applications and children of supervisors start, stop, end and begin again meanwhile (specs/Applications, Children, Restarts):
 //! by the courses alone where a process begins, and whether a child is up by what the handler has seen, since others may have
 //! ended it: by a look in the same call, unless its process is held.

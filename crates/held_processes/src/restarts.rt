@@ -13,7 +13,7 @@ use sup_tree::{Loaded, RestartError, Stay, Tree};
 use table_access::{Seating, TableAccess};
 
 /// Why a child doesn't begin again, and whether what stood for it was given up all the same.
-#[derive(Clone, Copy, Debug)]
+#[derive(Debug, Drop)]
 pub struct NotRestarted {
     pub error: RestartError,
     pub given_up: bool,
@@ -53,17 +53,17 @@ impl HeldProcesses {
         access.knows();
         match tree.restart_child(rt, alloc, access, loaded, child.supervisor, child.id) {
             Ok(stays) => Ok(stays),
-            Err(error) => Err(NotRestarted {
-                error,
-                given_up: was_given_up(end, error),
-            }),
+            Err(error) => {
+                let given_up = was_given_up(end, &error);
+                Err(NotRestarted { error, given_up })
+            }
         }
     }
 }
 
 // Whether what stood for a child was given up: it was held, or it was given up for want of slots.
-fn was_given_up(end: HeldEnd, error: RestartError) -> bool
-    ensures { result ≡ was_given_up end error }
+fn was_given_up(end: HeldEnd, error: &RestartError) -> bool
+    ensures { result ≡ was_given_up end error.now }
 {
     match (end, error) {
         (HeldEnd::GivenUp, _) => true,

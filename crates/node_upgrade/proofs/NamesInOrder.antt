@@ -74,7 +74,7 @@ same_names (x ∷ xs) (y ∷ ys) a b same = by (slice_cmp nat_cmp x y) refl (sam
         (same_behind x xs ys (not_behind x xs a) (not_behind x ys ordered) (λ q. same q ∙ ap (λ n. is_among q (n ∷ ys)) e)) in
         λ j. sym e j ∷ rest j
 
--- those for which a test holds are one list
+-- Two ordered lists of the names for which a test holds are one list.
 pub names_determined : (test : List ℕ → Bool) (xs ys : List (List ℕ)) → AreNamesWith test xs → AreNamesWith test ys → xs ≡ ys
 names_determined test xs ys a b = same_names xs ys a.ordered b.ordered (λ q. a.same q ∙ sym (b.same q))
 

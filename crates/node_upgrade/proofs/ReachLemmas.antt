@@ -43,7 +43,7 @@ kept_among test q (m ∷ ms) is = by (test m) (bytes_eq q m.0) refl is (kept_amo
     by true false same is later = ap (λ x. bytes_eq q m.0 || x) (later (ap (λ x. x || is_among q (names_in (filter test ms))) (sym same) ∙ is)) ∙ either (bytes_eq q m.0)
     by false false same is later = ap (λ x. bytes_eq q m.0 || x) (later is) ∙ either (bytes_eq q m.0)
 
--- one instruction
+-- A module that is loaded after an instruction was loaded before it, or the instruction loads it.
 step_among : (s : Site) (e b : Bool) (i : Instruction) (r : Run) (q : List ℕ) → is_among q (names_in (run_after s e b i r).modules) ≡ true
     → (is_among q (names_in r.modules) || is_among q (names_loaded (i ∷ []))) ≡ true
 step_among s e b (load p) r q is = loaded_among (module_named p.name r.fetched) p.name q r.modules is
@@ -60,14 +60,14 @@ row_loaded (load p) is q = joined (bytes_eq q p.name) (is_among q (names_loaded 
     joined false b = refl
 row_loaded i is q = refl
 
--- and those after it
+-- A module is loaded after some instructions: it was loaded before them, or the first one loads it, or a later one does.
 both_among : (a b c l : Bool) → (b || l) ≡ true → (b ≡ true → (a || c) ≡ true) → (a || (c || l)) ≡ true
 both_among true b c l either one = refl
 both_among false b true l either one = refl
 both_among false true false l either one = absurd (let no = one refl in cc no)
 both_among false false false l either one = either
 
--- a whole script
+-- A module that is loaded after a whole script was loaded before it, or the script loads it.
 pub among_through : (s : Site) (e : Bool) (reported : List Bool) (is : List Instruction) (r : Run) (q : List ℕ) → is_among q (names_in (run_through s e reported is r).modules) ≡ true
     → (is_among q (names_in r.modules) || is_among q (names_loaded is)) ≡ true
 among_through s e reported [] r q there = left (is_among q (names_in r.modules)) false there

@@ -27,7 +27,7 @@ pub enum Why {
 #[derive(Drop)]
 pub struct ScriptFailure {
     /// The number of the instruction, counted from 1: 0 where no instruction is at fault.
-    pub instr: usize,
+    pub instr: u32,
     pub why: Why,
 }
 

@@ -236,7 +236,7 @@ fn give_back(site: Site<'_>)
 }
 
 // What is reported of an instruction before the point of no return that fails. Out of memory is reported as `NoMemory`.
-fn refusal(instr: usize, cause: Cause) -> InstallError
+fn refusal(instr: u32, cause: Cause) -> InstallError
     ensures { ReportsRefusal instr (cause_of cause) result }
 {
     match cause {

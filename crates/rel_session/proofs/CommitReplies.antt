@@ -157,12 +157,12 @@ module _ {D : Type 0} (v : Device D) (laws : IsDevice v) (P : DiskState → Repl
           happens = record { moments = moments_at change.event change.size IsChanged right new kept_on commits events after; holds = place.0; cause = λ f. never f; counted = commits.counted };
         }
 
-    -- it is done, and answered by this line
+    -- The change is done, and answered by this line.
     pub changes : is_dead new.handler ≡ false → IsDone v change.event (change.size (list_in n.handler)) n.handler new.handler → (line : Result (String Global) AllocError) (result : Result (String Global) Unanswered)
         → MatchResult line (λ text. result ≡ Ok text) (λ _. result ≡ Err unanswered.NoMemory) → IfOk line (λ text. string_bytes text ≡ Transition.done_line (change.details (list_in n.handler))) → Answers v P result (memory.Made n) (memory.Made new)
     changes works is_done line result is reported =
         answers_line v laws P line result (memory.Made n) (memory.Made new) is (reports v laws P [] line _ (memory.Made n) (memory.Made new) reported (replies_done works is_done))
 
-    -- it isn't
+    -- The change isn't done.
     pub changes_none : ((events : Events) (extent : Extent) (ps : Processes) → P (running events extent ps) (refusal_reply no_memory (running events extent ps))) → (e : HandlerError) → CommandRefused v.failures change.event (change.size (list_in n.handler)) n.handler new.handler e → Answers v P (Err (unanswered.Refused e)) (memory.Made n) (memory.Made new)
     changes_none = commits_none change.event change.size IsChanged right new kept_on commits

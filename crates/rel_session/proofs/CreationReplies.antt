@@ -98,7 +98,7 @@ module _ {D : Type 0} (v : Device D) (laws : IsDevice v) (source : Source) (path
           no_store true e = absurd (free (ap holds_a_store at ∙ e))
           no_store false e = e
 
-      -- its processes were started
+      -- The processes of the new node were started.
       replies : (p : DiskState) → IsAt v (memory.Idle disk) p
           → HasBooted v laws p (λ a. Creates p a × (a.answer ≡ ok_line (version_of (running_release (list_in h))))) (memory.Idle disk) h
       replies (not_booted s) at = absurd (free (store_there s at))

@@ -24,7 +24,7 @@ one_reach x y es (inr (long, same)) compact = compact ∙ ap (λ z. compacted_ex
 beside_one_shot : (x : Extent) (es : Releases) → has_one_shot es ≡ true → compacted_extent x es ≡ x
 beside_one_shot x es one = ap (λ b. if not b && is_long x then with_image x (image_of (recorded es)) else x) one
 
--- so the store after it reaches as far as it may
+-- Where a list has a one-shot, a store may reach so far alone as a compaction leaves it.
 pub reach_beside_one_shot : (x y : Extent) (es : Releases) → MayReach x es y → has_one_shot es ≡ true → y ≡ compacted_extent x es
 reach_beside_one_shot x y es (inl is) one = is
 reach_beside_one_shot x y es (inr (long, same)) one = same ∙ sym (beside_one_shot x es one)

@@ -223,7 +223,7 @@ module _ {D : Type 0} (v : Device D) (laws : IsDevice v) (base : Source) where
     pub ends_without_memory : (most : ℕ) (final : D) → further ≤ most → final ≡ disk_of node → EndsSo v base all out_of_memory most disk final old mid
     ends_without_memory most final le is = ends_with out_of_memory most (some_left (now most)) final (omega arith) (are_some (now most)) is (λ files p. replies_none base files p (some_left (now most))) (inl refl)
 
-    -- it has not ended there
+    -- The session has not ended there.
     pub stands : (most : ℕ) (final : D) → upto ≤ most → final ≡ disk_of node → EndsSo v base all going_on most disk final old mid
     stands most final le is = ends_with going_on most (some_left (now most)) final le (are_some (now most)) is (λ files p. replies_yet base files p (some_left (now most))) refl
 
@@ -241,7 +241,7 @@ module _ {D : Type 0} (v : Device D) (laws : IsDevice v) (base : Source) where
         ends_with ended most (next quit (some_left (new most))) final (omega arith)
         (subst (λ d. AreLeft (now most) (next d (some_left (new most)))) quitting (are_next (now most) (new most) c (some_left (new most)) (gives most le) (are_some (new most)))) (is ∙ ap disk_at same) (λ files p. (refl, refl)) refl
 
-    -- a command's answer was not written whole
+    -- The session ended at a command whose answer was not written whole.
     pub stops_within : (most : ℕ) (c : Command) (text : String Global) (later : SessionNode D) (final : D) (mid' : Option (List ℕ)) → further ≤ most → final ≡ disk_of later → Takes c → FollowsCommand v base c (Ok (Some text)) node later
         → AppendsPrefix mid mid' (string_bytes text) → EndsSo v base all unwritten most disk final old mid'
     stops_within most c text later final mid' le is gives (files, follows) (part, left, parts, appended) start starts =
@@ -253,7 +253,7 @@ module _ {D : Type 0} (v : Device D) (laws : IsDevice v) (base : Source) where
         (disk_of later, a.happens, nothing_more a.given.after later a.at) ([], a.given, part, left, refl, parts ∙ sym a.right.1, refl) in
         (whole.0, whole.1, (r.written ++ part, Appends-twice old mid mid' r.written part r.appended appended, subst (λ d. IsRun v base no_files start whole.0 unwritten disk d (r.written ++ part)) (sym is) whole.2))
 
-    -- or not at all, since memory was refused
+    -- The session ended at a command that gave no answer, since memory was refused.
     pub stops_before : (most : ℕ) (c : Command) (e : SessionError) (later : SessionNode D) (final : D) → further ≤ most → final ≡ disk_of later → Takes c → FollowsCommand v base c (Err e) node later → EndsSo v base all out_of_memory most disk final old mid
     stops_before most c e later final le is gives follows start starts = by_outcome (follows r.here r.at)
       where

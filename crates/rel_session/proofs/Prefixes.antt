@@ -105,7 +105,7 @@ settled_accepted l = go (is_some (list_after l))
     go true = sym (append-nil l)
     go false = sym (append-nil l)
 
--- and with its event
+-- What a crash may leave while a command commits an event stands for a prefix of the events before it and this one.
 pub reached_with : (events : Events) (extent : Extent) (e : Event) (size : ℕ) (c : List ℕ) → IsCrashImageOf (store_with_doubt events extent e size) c → StandsForPrefix (log_without_doubt events) (e ∷ []) c
 reached_with events extent e size c of = by_events _ of.has
   where
@@ -191,7 +191,7 @@ only_prefix l events of =
     let all : l ≡ l ++ (of.more ++ of.lacks) = sym (append-nil l) ∙ sym (settled_accepted l) ∙ of.of_accepted ∙ ap (λ (es : Events). es ++ of.lacks) of.holds ∙ append_assoc l of.more of.lacks in
     of.holds ∙ ap (λ (es : Events). l ++ es) (no_first of.more of.lacks (nothing_behind l _ all)) ∙ append-nil l
 
--- what is reached with some events of a command is reached where further ones follow
+-- Bytes that stand for a prefix with some events of a command stand for one where further events follow.
 pub reached_sooner : (k : EventLog) (first more : Events) (c : List ℕ) → StandsForPrefix k first c → StandsForPrefix k (first ++ more) c
 reached_sooner k first more c of = record {
   events = of.events;
@@ -205,7 +205,7 @@ reached_sooner k first more c of = record {
   start = of.start;
 }
 
--- and what is reached after an event is reached with it in front
+-- Bytes that stand for a prefix with a command's events, after an event, stand for one with a command that has it in front.
 pub reached_behind : (events : Events) (e : Event) (command : Events) (c : List ℕ) → StandsForPrefix (log_without_doubt (events ++ e ∷ [])) command c → StandsForPrefix (log_without_doubt events) (e ∷ command) c
 reached_behind events e command c of =
     let same : of.events ++ of.more ≡ events ++ (e ∷ of.more) = ap (λ (es : Events). es ++ of.more) (only_prefix (events ++ e ∷ []) of.events of.prefix) ∙ append_assoc events (e ∷ []) of.more in

@@ -39,7 +39,7 @@ module _ {D : Type 0} (v : Device D) (laws : IsDevice v) (place : PlaceInMemory 
       stays v laws p answer (λ a. RepliesTo p a × (a.answer ≡ answer)) place place at refl at
       ((relup_telling (Err (files_refusal why)), inl (Err (files_refusal why), there, refl), refl), refl)
 
-  -- there was no memory
+  -- There was no memory for the relup.
   lacking : (r : Result (String Global) Unanswered) → ReportsRelup (Err NoMemory) r → Answers v RepliesTo r place place
   lacking (Ok text) is = λ p at.
       stays v laws p (string_bytes text) (λ a. RepliesTo p a × (a.answer ≡ string_bytes text)) place place at refl at

@@ -70,12 +70,12 @@ module _ {D : Type 0} (v : Device D) (laws : IsDevice v) where
   held (memory.Made n) (running events extent ps) at = at.0
   held (memory.Made n) (dead s) at = at.0
 
-  -- calls that leave nothing new keep what is known of a store
+  -- Calls that leave nothing new keep what is known of a store.
   pub kept : (P : List ℕ → Type 0) (old new : D) → ((c : List ℕ) → v.may_leave old c → P c) → LeavesOnly v old new (v.may_leave old)
       → (c : List ℕ) → v.may_leave new c → P c
   kept P old new here leaves c now = here c (leaves.each c (laws.counts_now new (v.moment old) c leaves.later now))
 
-  -- and are the moments of any command on it
+  -- During calls that leave nothing new, a crash leaves a prefix of the events so far, whatever the events of the command.
   pub quiet : (s : StoreState) (command : Events) (old new : D) → ((c : List ℕ) → v.may_leave old c → IsCrashImageOf s c) → LeavesOnly v old new (v.may_leave old)
       → LeavesOnly v old new (StandsForPrefix s.known command)
   quiet s command old new here leaves = weakened v old new (v.may_leave old) _ (λ c now. reached s command c (here c now)) leaves
@@ -377,7 +377,7 @@ module _ {D : Type 0} (v : Device D) (laws : IsDevice v) where
 
   -- A command on the node that runs: P has what it replies there.
   module _ (P : DiskState → Reply → Type 0) (n : BootedNode D) (alive : is_dead n.handler ≡ false) where
-    -- it is refused, and nothing of the node has changed
+    -- A command is refused, and nothing of the node has changed.
     pub refuses_running : (new : BootedNode D) → IsSame n.handler new.handler → processes_in new.processes ≡ processes_in n.processes → (why : HandlerError)
         → ((events : Events) (extent : Extent) (ps : Processes) → P (running events extent ps) (refusal_reply (refusal_of why) (running events extent ps)))
         → Answers v P (Err (unanswered.Refused why)) (memory.Made n) (memory.Made new)
@@ -420,7 +420,7 @@ module _ {D : Type 0} (v : Device D) (laws : IsDevice v) where
   idle_sets source path (running events extent ps) idle = absurd (idle events extent ps refl)
   idle_sets source path (dead s) idle = (Transition.refuses dead_node, inl refl, refl)
 
-  -- and so are a change, a reboot, an installation and `start`
+  -- Where no node runs, a change of its list is refused as by a dead node, and so are a reboot, an installation and `start`.
   idle_changes : (c : Transition.ListChange) (p : DiskState) → ((events : Events) (extent : Extent) (ps : Processes) → p ≡ running events extent ps → ⊥) → Transition.NodeReplies p (changes_node c) (refusal_reply dead_node p)
   idle_changes c (unknown_bytes bytes) idle = refl
   idle_changes c (not_booted s) idle = refl
@@ -439,7 +439,7 @@ module _ {D : Type 0} (v : Device D) (laws : IsDevice v) where
   idle_installs vsn (running events extent ps) idle = absurd (idle events extent ps refl)
   idle_installs vsn (dead s) idle = refl
 
-  -- the same of an action to which memory may be refused
+  -- Where no node runs, an action to which memory may be refused is refused as by a dead node.
   pub idle_acts : (does : Transition.Action) (p : DiskState) → ((events : Events) (extent : Extent) (ps : Processes) → p ≡ running events extent ps → ⊥) → Transition.NodeReplies p does (refusal_reply dead_node p) → ActsOrLacks does p (refusal_reply dead_node p)
   idle_acts does (unknown_bytes bytes) idle is = is
   idle_acts does (not_booted s) idle is = is

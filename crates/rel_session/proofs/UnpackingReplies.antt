@@ -46,7 +46,7 @@ module _ {D : Type 0} (v : Device D) (laws : IsDevice v) (source : Source) (path
   unpacks vsn line result u is reported = changes v laws Unpacks n alive (Transition.unpacked_change u.brought) (changing u.brought u.read) u.free new kept_on u.commits u.works u.done line result is
       (subst (λ name. IfOk line (λ text. string_bytes text ≡ Transition.ok_line name)) u.version reported)
 
-  -- its files are refused
+  -- The files of the release are refused.
   barred : (why : HandlerError) → IsBarred source path n.handler new.handler why → Answers v Unpacks (Err (unanswered.Refused why)) (memory.Made n) (memory.Made new)
   barred why b = reported
     where

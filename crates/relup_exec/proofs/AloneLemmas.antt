@@ -37,7 +37,7 @@ use Rattle.relup_exec.specs.Alone.{HasOneOutcome, Outcome, fails_at, outcome, ou
 use Rattle.relup_exec.specs.Alone.Outcome.{refuses}
 use Rattle.relup_exec.proofs.RunLemmas.{step_values, still_before, through_values}
 
--- the same is left in each slot
+-- The values are alike: in each slot they leave the same.
 abbrev pub Alike : Values → Values → Type 0
 Alike f g = (p : ℕ) → p < slots → f p ≡ g p
 
@@ -153,7 +153,7 @@ failed_alone s start script number c reported front i now v none other at ran fa
     (sym (fault_alone start.first s r v i none values is.1) ∙ is.0)
     ∙ ap (λ n. fails_at (still_early true front) n c) (omega (arith, at.counted))))
 
--- after the point no instruction is refused
+-- After the point of no return no instruction is refused.
 never_refused : (s : Site) (n : ℕ) (is : List Instruction) (r : Run) (m : ℕ) (c : Cause) → outcome_from s false n is r ≡ refuses m c → ⊥
 never_refused s n [] r m c e = absurd cc
 never_refused s n (i ∷ is) r m c e = go (fault s (values_alone r) r i) e (never_refused s (n + 1) is (step_alone s false i r) m c)
@@ -165,7 +165,7 @@ never_refused s n (i ∷ is) r m c e = go (fault s (values_alone r) r i) e (neve
     go None same never = never same
     go (Some d) same never = absurd cc
 
--- nor is a script that has come to its point
+-- A script that has come to its point of no return is not refused.
 armed_alone : (s : Site) (start : Start) (script : List Instruction) (a : ArmedForm) (v : View) → start.first.lent ≡ [] → IsArmed s start script a v
     → (m : ℕ) (c : Cause) → outcome s (began_at s start) script ≡ refuses m c → ⊥
 armed_alone s start script a v none armed m c e =

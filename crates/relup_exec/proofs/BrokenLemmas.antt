@@ -56,7 +56,7 @@ stuck_here (Some old) c slot f r stuck =
     let inside : slot < slots = ltb-true slot slots (left_true (nat_lt slot slots) (is_lowest test slot) stuck) in
     any_found test slots slot inside (left_true (test slot) (not (any_below test slot)) (right_true (nat_lt slot slots) (is_lowest test slot) stuck))
 
--- it is one process
+-- Values that are alike have one process that is the first whose code can't be changed: so the same was changed before it.
 slot_same : (old : Option OldVersion) (name : List ℕ) (c : ChangeForm) (p q : ℕ) (f g : Values) (r : Run) → Alike f g → is_stuck_at old c p f r ≡ true → is_stuck_at old c q g r ≡ true
     → change_within name old c p (modules_by_slot_in r) r.courses ≡ change_within name old c q (modules_by_slot_in r) r.courses
 slot_same None name c p q f g r same one other = refl
@@ -67,7 +67,7 @@ slot_same (Some old) name c p q f g r same one other =
     (lowest_same left right p q (row_alike old c f g r same) (ltb-true p slots (left_true (nat_lt p slots) (is_lowest left p) one)) (ltb-true q slots (left_true (nat_lt q slots) (is_lowest right q) other))
     (right_true (nat_lt p slots) (is_lowest left p) one) (right_true (nat_lt q slots) (is_lowest right q) other))
 
--- and one change: so this was done
+-- Values that are alike have one change that is the first that can't be made: so the same was changed before it.
 changes_same : (s : Site) (mode : Direction) (cs : List ChangeForm) (m n p q : ℕ) (f g : Values) (r : Run) → Alike f g → is_first_stuck s mode cs m p f r ≡ true → is_first_stuck s mode cs n q g r ≡ true
     → changed_within s mode cs m p r ≡ changed_within s mode cs n q r
 changes_same s mode [] m n p q f g r same one other = absurd (cc one)

@@ -30,20 +30,20 @@ pub each_push : (op : Operation) (names : List (List ℕ)) (n : List ℕ) (users
 each_push op [] n users cs = refl
 each_push op (m ∷ ms) n users cs = each_push op ms n users (on_module users m op cs)
 
--- a process that isn't held after a suspension wasn't before it
+-- A process that isn't held after a suspension wasn't held before it.
 free_at : (a b : Bool) (c : Course) → (a && not (is_held (if b then course_after suspend c else c).hold)) ≡ true → (a && not (is_held c.hold)) ≡ true
 free_at true true c e = absurd (true≢false (sym e))
 free_at false true c e = absurd (true≢false (sym e))
 free_at a false c e = e
 
--- nor before the suspension of several modules
+-- Where a process of a module isn't held after the suspension of several modules, one wasn't held before it.
 pub free_before : (names : List (List ℕ)) (n : List ℕ) (users : ModulesBySlot) (cs : Courses) → has_free_user users n (on_each suspend names users cs) ≡ true → has_free_user users n cs ≡ true
 free_before [] n users cs e = e
 free_before (m ∷ ms) n users cs e =
     any_more (is_free_user users n (on_module users m suspend cs)) (is_free_user users n cs) slots (λ p. free_at (runs n (users p)) (runs m (users p)) (cs p))
     (free_before ms n users (on_module users m suspend cs) e)
 
--- it failed for one of the modules
+-- An operation on several modules failed for one of them: it was done to those before this one, and in part to this one.
 pub each_stopped : (op : Operation) (front : List (List ℕ)) (n : List ℕ) (rest : List (List ℕ)) (slot : ℕ) (users : ModulesBySlot) (cs : Courses)
     → each_within op (front ++ (n ∷ rest)) (length front) slot users cs ≡ part_way slot users n op (on_each op front users cs)
 each_stopped op [] n rest slot users cs = refl

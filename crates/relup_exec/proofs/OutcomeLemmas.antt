@@ -37,7 +37,7 @@ takes_none i r v w early = tt
 ran_early : (s : Site) (past : Past) (i : Instruction) (v w : View) → IsEarly i → HasNoFault s past.first v w past.run false i → RanOne s past.first past.run false i v w
 ran_early s past i v w early sound = (sound, (takes_none i past.run v w early, λ stays. absurd (true≢false (sym stays))))
 
--- one instruction more was done, before the point
+-- One instruction more was carried out, before the point of no return.
 pub run_more_early : (s : Site) (start : Start) (is : List Instruction) (i : Instruction) (a : ProgressForm) (tree : List App) (v w : View) → still_early true is ≡ true → IsEarly i → Ran s start v [] is
     → IsCarriedOut s (past_behind s start [] is) true false i a tree v w
     → Ran s start w [] (is ++ i ∷ []) × HasDone (past_behind s start [] (is ++ i ∷ [])) a tree w
@@ -46,7 +46,7 @@ run_more_early s start is i a tree v w before early ran carried = (
   subst (λ (r : Run). HasDone (record { first = start.first; run = r }) a tree w) (sym (run_push_early s true [] is i (began_at s start) before)) carried.1,
 )
 
--- and after it
+-- One instruction more was carried out, after the point of no return.
 pub run_more_late : (s : Site) (start : Start) (reported : List Bool) (is : List Instruction) (b : Bool) (i : Instruction) (a : ProgressForm) (tree : List App) (v w : View) → still_early true is ≡ false
     → Ran s start v reported is → IsCarriedOut s (past_behind s start reported is) false b i a tree v w → GoesByLooks (past_behind s start reported is) i (Ok b) v w
     → Ran s start w (reported ++ b ∷ []) (is ++ i ∷ []) × HasDone (past_behind s start (reported ++ b ∷ []) (is ++ i ∷ [])) a tree w

@@ -10,7 +10,7 @@ pub front_is : (script : List Instr) (place : ℕ) (point : IsPointAt (script_of
 front_is script place point =
     sym (take-map instruction_of place script) ∙ (ap (take place) point.is ∙ take_at point.front (point_of_no_return ∷ point.rest) place (sym point.place_is))
 
--- and that with it
+-- what stands in front of the point of no return, with the point itself
 pub point_is : (script : List Instr) (place : ℕ) (point : IsPointAt (script_of script) place) → script_of (take (place + 1) script) ≡ point.front ++ point_of_no_return ∷ []
 point_is script place point =
     let front = point.front ++ point_of_no_return ∷ [] in

@@ -79,7 +79,7 @@ suspended_more ss i s users cs within at =
     ∙ (ap (λ (ns : List (List ℕ)). on_each course.Operation.suspend ns users cs) (names_of (map suspension_of (take i ss)) (suspension_of s) [])
     ∙ each_push course.Operation.suspend (suspended_in (map suspension_of (take i ss))) (suspension_of s).name users cs)
 
--- those of one module aren't
+-- A suspension of several modules stopped at one of them.
 pub suspended_within : (ss : List Suspension) (i : ℕ) (s : Suspension) (slot : ℕ) (users : ModulesBySlot) (cs : Courses) → i < length ss → s ≡ get_or ss i s
     → each_within course.Operation.suspend (suspended_in (map suspension_of ss)) i slot users cs
     ≡ part_way slot users (suspension_of s).name course.Operation.suspend (on_each course.Operation.suspend (suspended_in (map suspension_of (take i ss))) users cs)
@@ -141,7 +141,7 @@ load_fault_is : (o : Option Module) (users : ModulesBySlot) (name : List ℕ) �
 load_fault_is None users name there = absurd (cc there)
 load_fault_is (Some m) users name there = refl
 
--- its processes got its table
+-- The processes of the module that is loaded got its table.
 pub loaded_well : (s : Site) (past : Past) (early : Bool) (p : PurgingForm) (a : ProgressForm) (n : List ℕ) (hs : HeldSlots) (got before next : NamedModules) (tree tree' : List App) (v w : View)
     → n ≡ p.name → IsSome (module_named p.name past.run.fetched) → HasDone past a tree v → AreLonger v w → GivesTable {X = Unit {0}} past early p.name (Ok tt) hs w
     → got ≡ a.fetched → before ≡ a.next → tree' ≡ tree → next ≡ with_loaded (module_named n got) n before
@@ -159,7 +159,7 @@ loaded_well s past early p a n hs got before next tree tree' v w named there don
       },
     )
 
--- it wasn't fetched
+-- A load fails where its module wasn't fetched.
 pub load_of_nothing : (s : Site) (past : Past) (early : Bool) (p : PurgingForm) (e : Failure) (a : ProgressForm) (tree : List App) (v : View)
     → module_named p.name past.run.fetched ≡ None → HasDone past a tree v → e ≡ record { cause = NotFetched; modules = 0; slot = 0 }
     → CarriesOut {X = Unit {0}} s past early (load p) (Err e) a tree v v
@@ -177,7 +177,7 @@ load_all_within : (keep : Bool) (name : List ℕ) (w : Option WorkerTable) (user
 load_all_within keep name None users cs p inside = refl
 load_all_within keep name (Some w) users cs p inside = all_within users name (course.Operation.load keep w) cs p inside
 
--- its processes can't get its table
+-- A load fails where the processes of its module can't get the table.
 table_not_given : (s : Site) (past : Past) (early : Bool) (p : PurgingForm) (e : Failure) (a : ProgressForm) (tree : List App) (v w : View) → IsSome (module_named p.name past.run.fetched)
     → GivesTable {X = Unit {0}} past early p.name (Err e) a.held w → CarriesOut {X = Unit {0}} s past early (load p) (Err e) a tree v w
 table_not_given s past early p e a tree v w there given =
@@ -187,7 +187,7 @@ table_not_given s past early p e a tree v w there given =
       given.1,
     )
 
--- and that is passed on
+-- The failure of a load is passed on, where the processes of its module can't get the table.
 pub load_fails : {X : Type 0} (s : Site) (past : Past) (early : Bool) (p : PurgingForm) (e : Failure) (r : Result X Failure) (a : ProgressForm) (tree : List App) (v w : View) → IsSome (module_named p.name past.run.fetched)
     → GivesTable {X = Unit {0}} past early p.name (Err e) a.held w → IsErrAnd r (λ k. k ≡ e) → CarriesOut s past early (load p) r a tree v w
 load_fails s past early p e (Ok x) a tree v w there given passed = absurd passed
@@ -282,7 +282,7 @@ not_changed s past mode c k a tree v done at =
     (λ p inside. sym (ap (λ (m : ℕ). change_within c.name (old_version s mode c.name past.run) c m (modules_by_slot_in past.run) past.run.courses p) at
     ∙ change_none_within c.name (old_version s mode c.name past.run) c (modules_by_slot_in past.run) past.run.courses p)) done.follow
 
--- there is no version to change from, and a process is held
+-- A change of code fails where there is no version to change from, and a process is held.
 pub held_without_version : (s : Site) (past : Past) (mode : Direction) (number : ℕ) (c : ChangeForm) (tree : List App) (n : List ℕ) (k : Failure) (a : ProgressForm) (v : View) (b : Bool) → n ≡ c.name
     → old_version s mode c.name past.run ≡ None → HasDone past a tree v → ReportsHeldUser (modules_by_slot tree) n a.held b → b ≡ true
     → cause_of k.cause ≡ no_change → k.modules ≡ number → k.slot ≡ 0 → ChangesProcesses {X = Unit {0}} s past mode number c (Err k) a tree v
@@ -361,7 +361,7 @@ supervisors_well s past mode number c n a b before tree v named did held fetched
   },
 )
 
--- that of the processes can't be made
+-- A change of code fails where the change of its processes can't be made.
 pub fails_once : {X : Type 0} (s : Site) (past : Past) (mode : Direction) (number : ℕ) (c : ChangeForm) (e : Failure) (r : Result X Failure) (a : ProgressForm) (tree : List App) (v : View)
     → FailsToChange s past mode number c e a v → IsErrAnd r (λ k. k ≡ e) → ChangesOnce s past mode number c r a tree v
 fails_once s past mode number c e (Ok x) a tree v fails passed = absurd passed
@@ -461,7 +461,7 @@ all_changed s past early conversion mode cs b a before tree v moded whole done d
       (subst (λ (ds : List ChangeForm). HasDone (record past { run = changed s mode ds past.run }) a tree v) whole did.1),
 )
 
--- one of the changes can't be made
+-- A change of code fails where one of its changes can't be made.
 pub change_stops : (s : Site) (past : Past) (early : Bool) (conversion : ConversionForm) (mode : Direction) (number : ℕ) (front : List ChangeForm) (c : ChangeForm) (rest : List ChangeForm) (e : Failure) (a : ProgressForm) (tree : List App) (v : View)
     → mode ≡ mode_of conversion.mode → conversion.changes ≡ front ++ (c ∷ rest) → length front ≡ number → change_fault s mode front (values_seen v) past.run ≡ None
     → ChangesOnce {X = Unit {0}} s (past_changes s mode front past) mode number c (Err e) a tree v
@@ -494,7 +494,7 @@ change_stops s past early conversion mode number front c rest e a tree v moded p
       follow,
     )
 
--- and that is passed on
+-- The failure of a change of code is passed on, where one of its changes can't be made.
 pub change_passes : {X : Type 0} (s : Site) (past : Past) (early : Bool) (conversion : ConversionForm) (mode : Direction) (number : ℕ) (front : List ChangeForm) (c : ChangeForm) (rest : List ChangeForm) (e : Failure) (r : Result X Failure) (a : ProgressForm) (tree : List App) (v : View)
     → mode ≡ mode_of conversion.mode → conversion.changes ≡ front ++ (c ∷ rest) → length front ≡ number → change_fault s mode front (values_seen v) past.run ≡ None
     → ChangesOnce {X = Unit {0}} s (past_changes s mode front past) mode number c (Err e) a tree v → IsErrAnd r (λ k. k ≡ e)

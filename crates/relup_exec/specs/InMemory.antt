@@ -1,5 +1,5 @@
 -- A script that has come to its point of no return, as it lies in memory.
-use Rattle.std.specs.Prelude.{◌≡◌, List, vec_capacity}
+use Rattle.std.specs.Prelude.{◌≡◌, ◌<◌, ◌^◌, List, length, vec_capacity}
 pub use Rattle.script_progress.specs.InMemory.{cause_of}
 use Rattle.relup_exec.specs.declared.armed.Armed.{Armed}
 use Rattle.relup_exec.specs.declared.script_run.ScriptRun.{ScriptRun}
@@ -13,6 +13,10 @@ armed_of a = record { place = a.place; reported = a.reported.items; room = vec_c
 -- the whole script
 abbrev pub script_in : Armed → List Instruction
 script_in a = script_of a.script.now
+
+-- Each instruction of the script has a number that a word of 32 bits holds.
+abbrev pub IsNumbered : Armed → Type 0
+IsNumbered a = length a.script.now < 2 ^ 32
 
 -- a script that is carried out, where it has come to its point of no return
 abbrev pub armed_in : ScriptRun → ArmedForm

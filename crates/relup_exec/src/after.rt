@@ -1,9 +1,9 @@
 //! A script after its point of no return.
-ghost use Rattle.std.specs.Prelude.{◌≡◌, IfErr, IfOk, OnErr, OnOk};
+ghost use Rattle.std.specs.Prelude.{◌≡◌, ◌<◌, ◌^◌, IfErr, IfOk, OnErr, OnOk, length};
 ghost use Rattle.script_progress.specs.InMemory.{cause_of, site_of};
 ghost use Rattle.relup_instruction.specs.Instruction.{script_of};
 ghost use Rattle.relup_exec.specs.Outcome.{IsArmed, IsBrokenFrom, IsFinishedFrom, Start};
-ghost use Rattle.relup_exec.specs.InMemory.{armed_in, armed_of, script_in};
+ghost use Rattle.relup_exec.specs.InMemory.{IsNumbered, armed_in, armed_of, script_in};
 ghost use Rattle.relup_exec.specs.Sites.{IsSeated, LendsSame, site_in, some_start, view_in};
 ghost use Rattle.loaded_modules.specs.Loaded.{listed_in};
 
@@ -25,7 +25,7 @@ pub struct Done;
 #[derive(Drop)]
 pub struct Failed {
     /// The number of the instruction, counted from 1.
-    pub instr: usize,
+    pub instr: u32,
     pub cause: Cause,
 }
 
@@ -52,6 +52,7 @@ impl Armed<'_> {
         requires seated { IsSeated site.old }
         requires armed { IsArmed (site_in site.old) start (script_in self) (armed_of self)
             (view_in site.old) }
+        requires numbered { IsNumbered self }
         ensures same { LendsSame site.old site.new }
         ensures seated { IsSeated site.new }
         ensures finished { OnOk result (IsFinishedFrom (site_in site.old) start
@@ -104,6 +105,7 @@ fn run_late_with<R: Wait>(
     requires table { seat.old.table ≡ table.now }
     requires armed { IsArmed (site_of run.sources.now) start (script_of run.script.now)
         (armed_in run) seat.old.view }
+    requires numbered { length run.script.now < 2 ^ 32 }
     ensures table { seat.new.table ≡ seat.old.table }
     ensures finished { IfOk result (λ e. IsFinishedFrom (site_of run.entry.sources.now) start
         (script_of run.entry.script.now) seat.old.view (listed_in e.loaded) e.tree
@@ -133,6 +135,7 @@ fn run_late_at<'t, R: Wait, S: Seating, B: Beginning>(
     requires table { (lent.seat.now.table ≡ S.table) × (lent.table.now ≡ S.table) }
     requires armed { IsArmed (site_of run.sources.now) B.start (script_of run.script.now)
         (armed_in run) lent.seat.now.view }
+    requires numbered { length run.script.now < 2 ^ 32 }
     ensures name { result.ghost_name ≡ S.name }
     ensures table { result.now.table ≡ S.table }
     ensures finished { IfOk ended.new (λ e. IsFinishedFrom (site_of run.entry.sources.now) B.start
@@ -157,6 +160,7 @@ fn run_late<R: Wait, S: Seating>(
     ghost start: { Start }
     requires armed { IsArmed (site_of run.sources.now) start (script_of run.script.now)
         (armed_in run) access.old }
+    requires numbered { length run.script.now < 2 ^ 32 }
     ensures finished { IfOk result (λ e. IsFinishedFrom (site_of run.entry.sources.now) start
         (script_of run.entry.script.now) access.old (listed_in e.loaded) e.tree access.new) }
     ensures broken { IfErr result (λ e. IsBrokenFrom (site_of run.entry.sources.now) start

@@ -1,11 +1,11 @@
 //! A script up to its point of no return.
-ghost use Rattle.std.specs.Prelude.{◌≡◌, IfErr, IfOk};
+ghost use Rattle.std.specs.Prelude.{◌≡◌, ◌<◌, ◌≤◌, ◌^◌, [], IfErr, IfOk, IfSome, length, vec_capacity};
 ghost use Rattle.std.specs.List.{AllByRecursion};
 ghost use Rattle.held_processes.specs.Following.{AreLonger, HoldsNothing};
 ghost use Rattle.script_progress.specs.Fault.Cause.{no_memory};
 ghost use Rattle.script_progress.specs.InMemory.{cause_of, site_of};
 ghost use Rattle.relup_exec.specs.Outcome.{IsArmed, IsPointAt, IsRefused, Start};
-ghost use Rattle.relup_exec.specs.InMemory.{armed_of, script_in};
+ghost use Rattle.relup_exec.specs.InMemory.{IsNumbered, armed_of, script_in};
 ghost use Rattle.relup_exec.specs.Sites.{IsSeated, LendsSame, site_in, start_in, view_in};
 ghost use Rattle.relup_exec.specs.Stepwise.{HasBegun, RunsAll, start_at};
 ghost use Rattle.script_progress.specs.Steps.{IsEarly, progress_of};
@@ -29,13 +29,13 @@ use table_access::{Lent, Seating, TableAccess};
 #[derive(Drop)]
 pub struct Refused {
     /// The number of the instruction, counted from 1.
-    pub instr: usize,
+    pub instr: u32,
     pub cause: Cause,
 }
 
 /// Carries out a script up to its point of no return. Where an instruction fails, all processes that were held by then go back
 /// as they were. It waits for processes that clients have. Out of memory before the first instruction is reported of it, and then
-/// nothing was tried.
+/// nothing was tried; so is a script with more instructions than a word of 32 bits numbers.
 pub fn run_before<'s, R: Wait>(
     rt: &R,
     alloc: Global,
@@ -52,11 +52,12 @@ pub fn run_before<'s, R: Wait>(
     ensures armed { IfOk result (λ a. IsArmed (site_in site.old) (start_in site.old)
         (script_of script.now) (armed_of a) (view_in site.new)) }
     ensures script { IfOk result (λ a. script_in a ≡ script_of script.now) }
+    ensures numbered { IfOk result IsNumbered }
     ensures refused { IfErr result (λ e. IsRefused (site_in site.old) (start_in site.old)
         (script_of script.now) e.instr (cause_of e.cause) (view_in site.new)) }
 {
     let place = point_in(script);
-    let Ok(reported) = Vec::with_capacity(alloc, script.len()) else {
+    let Some(reported) = room_for_reports(alloc, script) else {
         return Err(out_of_memory());
     };
     let sources = Sources {
@@ -106,6 +107,18 @@ fn out_of_memory() -> Refused
     }
 }
 
+// Room for what is reported of each instruction, where each has a number. Nothing where memory is refused.
+fn room_for_reports(alloc: Global, script: &[Instr]) -> Option<Vec<bool>>
+    ensures items { IfSome result (λ v. v.items ≡ []) }
+    ensures capacity { IfSome result (λ v. length script.now ≤ vec_capacity v) }
+    ensures numbered { IfSome result (λ v. length script.now < 2 ^ 32) }
+{
+    if script.len() > u32::MAX as usize {
+        return None;
+    }
+    Vec::with_capacity(alloc, script.len()).ok()
+}
+
 // How many instructions stand before the point of no return.
 fn point_in(script: &[Instr]) -> usize
     requires { IsRunnable (script_of script.now) }
@@ -133,6 +146,7 @@ fn run_early_with<R: Wait>(
     requires begun { HasBegun (site_of run.old.sources.now)
         (start_at seat.old.view run.old.progress.tree)
         (progress_of run.old.progress) run.old.progress.tree seat.old.view }
+    requires numbered { length run.old.script.now < 2 ^ 32 }
     ensures table { seat.new.table ≡ seat.old.table }
     ensures reported { run.new.reported ≡ run.old.reported }
     ensures ran { RunsAll (site_of run.old.sources.now)
@@ -160,6 +174,7 @@ fn run_early_at<'t, R: Wait, S: Seating>(
     requires begun { HasBegun (site_of run.old.sources.now)
         (start_at lent.seat.now.view run.old.progress.tree)
         (progress_of run.old.progress) run.old.progress.tree lent.seat.now.view }
+    requires numbered { length run.old.script.now < 2 ^ 32 }
     ensures name { result.ghost_name ≡ S.name }
     ensures table { result.now.table ≡ S.table }
     ensures reported { run.new.reported ≡ run.old.reported }
@@ -185,6 +200,7 @@ fn run_early<R: Wait, S: Seating>(
     requires begun { HasBegun (site_of run.old.sources.now) start
         (progress_of run.old.progress) run.old.progress.tree access.old }
     requires since { AreLonger start.first access.old }
+    requires numbered { length run.old.script.now < 2 ^ 32 }
     ensures reported { run.new.reported ≡ run.old.reported }
     ensures ran { RunsAll (site_of run.old.sources.now) start (script_of run.old.script.now)
         result (progress_of run.new.progress) run.new.progress.tree access.new }
@@ -194,7 +210,7 @@ fn run_early<R: Wait, S: Seating>(
         let done = run.next_early(rt, alloc, access, instr);
         if let Err(Failure { cause, .. }) = done {
             return Err(Refused {
-                instr: i + 1,
+                instr: i as u32 + 1,
                 cause,
             });
         }

@@ -1,5 +1,5 @@
 //! A script that is carried out, and how far it came.
-ghost use Rattle.std.specs.Prelude.{◌≡◌, ◌<◌, ◌+◌, ◌++◌, [], ◌∷◌, IfOk, OnErr, OnOk, length, true, vec_capacity};
+ghost use Rattle.std.specs.Prelude.{◌≡◌, ◌<◌, ◌+◌, ◌^◌, ◌++◌, [], ◌∷◌, IfOk, OnErr, OnOk, length, true, vec_capacity};
 ghost use Rattle.held_processes.specs.Course.{on_all};
 ghost use Rattle.held_processes.specs.Course.Operation.{finish, pass_point};
 ghost use Rattle.held_processes.specs.Following.{AllFollow, AreLeft, AreLonger, Followed};
@@ -134,6 +134,7 @@ impl ScriptRun<'_> {
         ghost followed: { Followed }
         requires inside { self.done < length self.script.now }
         requires follow { AllFollow followed.first followed.courses self.progress.held access.old }
+        requires numbered { length self.script.now < 2 ^ 32 }
         ensures instr { result.instr ≡ self.entry.done + 1 }
         ensures cause { result.cause ≡ failure.cause }
         ensures left { AreLeft followed.first (on_all finish followed.courses) access.new }
@@ -155,7 +156,7 @@ impl ScriptRun<'_> {
         held.finish(access);
         let Failure { cause, .. } = failure;
         Failed {
-            instr: done + 1,
+            instr: done as u32 + 1,
             cause,
         }
     }

@@ -11,19 +11,19 @@ use Rattle.relup_file.specs.declared.script.Side.{Side}
 use Rattle.relup_file.specs.declared.script.Side.TheVariants.{Early, Late}
 use Rattle.relup_instruction.specs.Instruction.{Instruction}
 use Rattle.relup_instruction.specs.Instruction.Instruction.{point_of_no_return}
-use Rattle.relup_file.specs.Script.{is_point, is_supported, may_precede, may_follow, is_restart, may_stand, IsRight, AreRight, is_end, points, IsRunnable, fault_at, IsFirstFault, HasWrong, IsScriptFault, split_point, part_fault, split_fault, script_fault}
+use Rattle.relup_file.specs.Script.{is_point, is_supported, may_precede, may_follow, is_restart, may_stand, IsRight, AreRight, is_end, points, IsRunnable, number_at, fault_at, IsFirstFault, HasWrong, IsScriptFault, split_point, part_fault, split_fault, script_fault}
 
 -- The faults of one side.
 right_none : (side : Side) (is_last : Bool) (n : ℕ) (i : Instruction) → IsRight side is_last i → fault_at side is_last n i ≡ None
 right_none side is_last n i h =
     let parts = both (is_supported i) (may_stand side is_last i) h in
-    ap (λ (b : Bool). if b then (if may_stand side is_last i then None else Some (Misplaced n)) else Some (Unsupported n)) parts.0
-    ∙ ap (λ (b : Bool). if b then None else Some (Misplaced n)) parts.1
+    ap (λ (b : Bool). if b then (if may_stand side is_last i then None else Some (Misplaced (number_at n))) else Some (Unsupported (number_at n))) parts.0
+    ∙ ap (λ (b : Bool). if b then None else Some (Misplaced (number_at n))) parts.1
 
 none_right : (side : Side) (is_last : Bool) (n : ℕ) (i : Instruction) → fault_at side is_last n i ≡ None → IsRight side is_last i
 none_right side is_last n i e = go (is_supported i) (may_stand side is_last i) refl refl e
   where
-    go : (a b : Bool) → is_supported i ≡ a → may_stand side is_last i ≡ b → (if a then (if b then None else Some (Misplaced n)) else Some (Unsupported n)) ≡ None → IsRight side is_last i
+    go : (a b : Bool) → is_supported i ≡ a → may_stand side is_last i ≡ b → (if a then (if b then None else Some (Misplaced (number_at n))) else Some (Unsupported (number_at n))) ≡ None → IsRight side is_last i
     go true true p q f = both_true (is_supported i) (may_stand side is_last i) p q
     go true false p q f = absurd cc
     go false b p q f = absurd cc
@@ -225,13 +225,13 @@ runnable script e = go (split_point script) refl e
     go (Some p) is f = split p is (is_some (split_point p.1)) f
 
 -- the fault of an instruction is one of two
-at_instruction : (side : Side) (is_last : Bool) (n : ℕ) (i : Instruction) (f : ScriptFault) → fault_at side is_last n i ≡ Some f → (f ≡ Misplaced n) ⊎ (f ≡ Unsupported n)
+at_instruction : (side : Side) (is_last : Bool) (n : ℕ) (i : Instruction) (f : ScriptFault) → fault_at side is_last n i ≡ Some f → (f ≡ Misplaced (number_at n)) ⊎ (f ≡ Unsupported (number_at n))
 at_instruction side is_last n i f e = go (is_supported i) (may_stand side is_last i) e
   where
-    go : (a b : Bool) → (if a then (if b then None else Some (Misplaced n)) else Some (Unsupported n)) ≡ Some f → (f ≡ Misplaced n) ⊎ (f ≡ Unsupported n)
+    go : (a b : Bool) → (if a then (if b then None else Some (Misplaced (number_at n))) else Some (Unsupported (number_at n))) ≡ Some f → (f ≡ Misplaced (number_at n)) ⊎ (f ≡ Unsupported (number_at n))
     go true true q = absurd cc
-    go true false q = let same : Misplaced n ≡ f = cc in inl (sym same)
-    go false b q = let same : Unsupported n ≡ f = cc in inr (sym same)
+    go true false q = let same : Misplaced (number_at n) ≡ f = cc in inl (sym same)
+    go false b q = let same : Unsupported (number_at n) ≡ f = cc in inr (sym same)
 
 reports_wrong : (script : List Instruction) (f : ScriptFault) (n : ℕ) → HasWrong script f → (f ≡ Misplaced n) ⊎ (f ≡ Unsupported n) → IsScriptFault script f
 reports_wrong script f n h (inl same) = subst (IsScriptFault script) (sym same) (subst (HasWrong script) same h)
@@ -244,11 +244,13 @@ fault_is script f e = go (split_point script) refl e
         → option_or o (part_fault Late (length p.0 + 1) p.1) ≡ Some f → IsScriptFault script f
     on_sides p is one (Some g) early q =
         let first = from_part Early 0 p.0 f (early ∙ q) in
-        reports_wrong script f _ (record { before = p.0; after = p.1; is = (from_split script p is).0; one = one; first = inl first }) (at_instruction Early (is_end first.rest) _ first.wrong f first.fault)
+        reports_wrong script f (number_at (0 + (length first.front + 1))) (record { before = p.0; after = p.1; is = (from_split script p is).0; one = one; first = inl first })
+        (at_instruction Early (is_end first.rest) (0 + (length first.front + 1)) first.wrong f first.fault)
     on_sides p is one None early q =
         let first = from_part Late (length p.0 + 1) p.1 f q in
-        reports_wrong script f _ (record { before = p.0; after = p.1; is = (from_split script p is).0; one = one; first = inr (all_right Early 0 p.0 early, first) })
-        (at_instruction Late (is_end first.rest) _ first.wrong f first.fault)
+        reports_wrong script f (number_at (length p.0 + 1 + (length first.front + 1)))
+        (record { before = p.0; after = p.1; is = (from_split script p is).0; one = one; first = inr (all_right Early 0 p.0 early, first) })
+        (at_instruction Late (is_end first.rest) (length p.0 + 1 + (length first.front + 1)) first.wrong f first.fault)
 
     behind : (p : Halves) → split_point script ≡ Some p → (o : Option Halves) → split_point p.1 ≡ o → (if is_some o then Some TwoPoints else sides p) ≡ Some f → IsScriptFault script f
     behind p is (Some q) more g =
@@ -330,11 +332,11 @@ late_unsupported n [] f h e = absurd cc
 late_unsupported n (i ∷ is) f h e = go (late_unsupported (n + 1) is f h.1) (is_supported i) (may_stand Late (is_end is) i) h.0 e
   where
     go : (part_fault Late (n + 1) is ≡ Some f → (m : ℕ) × (f ≡ Unsupported m)) → (a b : Bool) → b ≡ true
-        → option_or (if a then (if b then None else Some (Misplaced (n + 1))) else Some (Unsupported (n + 1))) (part_fault Late (n + 1) is) ≡ Some f
+        → option_or (if a then (if b then None else Some (Misplaced (number_at (n + 1)))) else Some (Unsupported (number_at (n + 1)))) (part_fault Late (n + 1) is) ≡ Some f
         → (m : ℕ) × (f ≡ Unsupported m)
     go more true true p q = more q
     go more true false p q = absurd cc
-    go more false b p q = (n + 1, cc)
+    go more false b p q = (number_at (n + 1), cc)
 
 pub only_unsupported : (script before after : List Instruction) → script ≡ before ++ (point_of_no_return ∷ after)
     → AllByRecursion (λ i. (is_supported i && may_precede i) ≡ true) before → MayFollow after

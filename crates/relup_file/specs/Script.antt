@@ -1,5 +1,5 @@
 -- What may stand where in a script, and why a script isn't run (OTP: appup(4); what stands before the point is this project's own).
-use Rattle.std.specs.Prelude.{◌≡◌, ◌⊎◌, ℕ, ◌+◌, ◌<◌, Bool, true, false, ◌&&◌, ◌||◌, ◌==◌, not, IsTrue, List, [], ◌∷◌, ◌++◌, length, Option, None, Some, is_some, codes, if◌then◌else◌}
+use Rattle.std.specs.Prelude.{◌≡◌, ◌⊎◌, ℕ, ◌+◌, ◌<◌, ◌^◌, nat_lt, Bool, true, false, ◌&&◌, ◌||◌, ◌==◌, not, IsTrue, List, [], ◌∷◌, ◌++◌, length, Option, None, Some, is_some, codes, if◌then◌else◌}
 use Rattle.std.specs.List.{AllByRecursion, list_any}
 use Rattle.std.specs.Option.{option_map, option_or}
 use Rattle.std.specs.Str.{bytes_eq}
@@ -126,11 +126,16 @@ pub record IsRunnable (script : List Instruction) : Type 0 where
   pub early : AreRight Early before
   pub late : AreRight Late after
 
--- what is wrong with an instruction that has this number
+-- The instruction at a place, counted from 1, has the place for its number. A number is a word of 32 bits, and the instructions
+-- after that have its last one.
+abbrev pub number_at : ℕ → ℕ
+number_at n = if nat_lt n (2 ^ 32) then n else 4294967295
+
+-- what is wrong with an instruction at this place
 abbrev pub fault_at : Side → Bool → ℕ → Instruction → Option ScriptFault
 fault_at side is_last n i =
-    if is_supported i then (if may_stand side is_last i then None else Some (Misplaced n))
-    else Some (Unsupported n)
+    if is_supported i then (if may_stand side is_last i then None else Some (Misplaced (number_at n)))
+    else Some (Unsupported (number_at n))
 
 -- The first instruction at fault on this side, which begins after so many instructions, has this fault.
 pub record IsFirstFault (side : Side) (n : ℕ) (part : List Instruction) (f : ScriptFault) : Type 0 where

@@ -2,7 +2,7 @@
 ghost use Rattle.std.specs.Prelude.{◌≡◌, ◌+◌, ◌<◌, ◌^◌, ◌↔◌, length, IsOk, None, Ok, Err};
 ghost use Rattle.std.specs.Option.{option_map};
 ghost use Rattle.relup_instruction.specs.Instruction.{instruction_of, script_of};
-ghost use Rattle.relup_file.specs.Script.{is_point, is_supported, may_precede, may_follow, is_restart, restarts, may_stand, fault_at, part_fault, split_point, script_fault, IsRunnable, IsScriptFault};
+ghost use Rattle.relup_file.specs.Script.{is_point, is_supported, may_precede, may_follow, is_restart, restarts, may_stand, number_at, fault_at, part_fault, split_point, script_fault, IsRunnable, IsScriptFault};
 
 use crate::ScriptFault;
 use crate::calls::{is_error, is_supported_call};
@@ -84,18 +84,25 @@ fn part_fault(side: Side, before: usize, part: &[Instr]) -> Option<ScriptFault>
     None
 }
 
-// What is wrong with an instruction that has this number, and is the last one of its side or another one.
-fn fault_at(side: Side, is_last: bool, number: usize, instr: &Instr) -> Option<ScriptFault>
-    ensures { result ≡ fault_at side is_last number (instruction_of instr.now) }
+// What is wrong with an instruction at this place, which is the last one of its side or another one.
+fn fault_at(side: Side, is_last: bool, place: usize, instr: &Instr) -> Option<ScriptFault>
+    ensures { result ≡ fault_at side is_last place (instruction_of instr.now) }
 {
     if !is_supported(instr) {
-        return Some(ScriptFault::Unsupported(number));
+        return Some(ScriptFault::Unsupported(number_at(place)));
     }
     if may_stand(side, is_last, instr) {
         None
     } else {
-        Some(ScriptFault::Misplaced(number))
+        Some(ScriptFault::Misplaced(number_at(place)))
     }
+}
+
+// The number of the instruction at a place, counted from 1.
+fn number_at(place: usize) -> u32
+    ensures { result ≡ number_at place }
+{
+    u32::try_from(place).unwrap_or(u32::MAX)
 }
 
 /// Whether it is the point of no return.

@@ -1,7 +1,8 @@
 //! Why a script isn't run.
 use std::fmt::{self, Display, Formatter};
 
-/// Why a script isn't run. An instruction is reported by its place, counted from 1. It is shown by its name alone.
+/// Why a script isn't run. An instruction is reported by its number, counted from 1 up to the last one of a word. A fault is shown
+/// by its name alone.
 #[derive(Clone, Copy, Debug)]
 pub enum ScriptFault {
     /// The script has no point of no return.
@@ -10,9 +11,9 @@ pub enum ScriptFault {
     TwoPoints,
     /// The first instruction at fault stands where it may not: on the wrong side of the point, or a `restart_emulator` that is not
     /// the last one.
-    Misplaced(usize),
+    Misplaced(u32),
     /// The first instruction at fault can't be run anywhere.
-    Unsupported(usize),
+    Unsupported(u32),
 }
 
 impl Display for ScriptFault {

@@ -250,12 +250,12 @@ fn push_loaded(alloc: Global, loaded: &Loaded, answer: &mut Answer) {
 pub(crate) fn push_stopped(
     alloc: Global,
     how: &str,
-    instr: usize,
+    instr: u32,
     cause: &Cause,
     answer: &mut Answer,
 ) {
     answer.push(how);
-    answer.push_number(instr as u64);
+    answer.push_number(u64::from(instr));
     answer.push(" ");
     answer.push_made(&cause.text(alloc));
 }

@@ -48,7 +48,7 @@ record IsCall (s : Site) (call : CallForm) (r : Run) (o : Values → Option Caus
 app_on_no_child : (call : CallForm) → bytes_eq call.name (codes "application") ≡ true → is_on_child call ≡ false
 app_on_no_child call is = ap (λ (n : List ℕ). bytes_eq n (codes "supervisor")) ((bytes_eq-Decides call.name (codes "application")).0 is)
 
--- nor is one that raises an error
+-- A call that raises an error is on no child.
 pub error_on_no_child : (call : CallForm) → is_error call ≡ true → is_on_child call ≡ false
 error_on_no_child call raises =
     ap (λ (n : List ℕ). bytes_eq n (codes "supervisor"))
@@ -141,13 +141,13 @@ raised s past call e a tree v done raises cause =
       partly = subst (λ (cs : Courses). AllFollow past.first cs a.held v) (sym (ap (λ (b : Bool). if b then child_within (child_call call) e.modules r else r.courses) child)) done.follow;
     }
 
--- it fails with the term of which there is a copy, or for want of one
+-- A call fails with the term that its copy has, or for want of memory for the copy.
 pub raised_cause : (o : Option Cause) (copy : Result Term AllocError) (c : Cause) → IfOk copy (λ t. o ≡ Some (raised_with (value_of t))) → IfOk copy (λ t. c ≡ raised_with (value_of t)) → IfErr copy (λ e. c ≡ no_memory)
     → IsCause o c
 raised_cause o (Ok t) c copied with_term memory = subst (IsCause o) (sym with_term) copied
 raised_cause o (Err e) c copied with_term memory = subst (IsCause o) (sym memory) tt
 
--- it is on no child
+-- A call that raises an error goes by no look at a child.
 pub no_child_raised : (past : Past) (call : CallForm) (e : Failure) (v : View) → is_error call ≡ true → GoesByLooks past (apply call) (Err e) v v
 no_child_raised past call e v raises = (λ _ on_child. absurd (true≢false (sym on_child ∙ error_on_no_child call raises)), tt)
 

@@ -1,5 +1,6 @@
 -- Calls on children of supervisors.
 use Rattle.std.proofs.Common.{◌≡◌, ◌≢◌, ℕ, Bool, ◌&&◌, not, true, false, true≢false, List, length, if◌then◌else◌, refl, sym, ap, ap₂, subst, subst₂, ◌∙◌, Option, None, Some, Ok, Err}
+use Rattle.std.specs.Prelude.{string_bytes}
 use Rattle.std.proofs.lemmas.Bool.{le-ltb, lt-ltb}
 use Rattle.proc_table.specs.declared.view.View.{View}
 use Rattle.mod_table.specs.Tables.{Tables}
@@ -196,7 +197,7 @@ restarted past name id stays a tree tree' hs v w next done listed is =
 why_not : (past : Past) (name id : List ℕ) (seen : Values) (p : Place) (x : RestartError) → has_one_supervisor name past.run.apps ≡ true → child_stays_at seen (restarts name id) past.run ≡ false
     → child_place name id past.run.apps ≡ Some p → IsWhyItDidNot x (tables_among past.run.modules) p (scene_of past.run) → IsCause (child_call_fault seen (restarts name id) past.run) (restart_cause x)
 why_not past name id seen p NoSuper one goes there why = absurd why
-why_not past name id seen p NoTable one goes there why = begins_fault seen name id past.run p (Some (walk.StartFault.no_table why.0)) one goes there why.1
+why_not past name id seen p (NoTable m) one goes there why = begins_fault seen name id past.run p (Some (walk.StartFault.no_table (string_bytes m))) one goes there why
 why_not past name id seen p Unsupported one goes there why = begins_fault seen name id past.run p (Some walk.StartFault.unsupported) one goes there why
 why_not past name id seen p NoSlot one goes there why =
     begins_fault seen name id past.run p None one goes there why.0
@@ -212,7 +213,7 @@ given_up_as past name id p false hs w there follow = follow
 -- which is what the call counts
 goes_as : (x : RestartError) (p : Place) (r : Run) → gives_up x p r.courses ≡ child_goes (restart_cause x) (Some p) r
 goes_as NoSuper p r = refl
-goes_as NoTable p r = refl
+goes_as (NoTable m) p r = refl
 goes_as Unsupported p r = refl
 goes_as NoSlot p r = refl
 goes_as NoMemory p r = refl
@@ -257,7 +258,7 @@ not_restarted past name id x e a tree tree' hs v w next done whole listed caused
     by NoSuper named f =
         its no_super 0 (sym (caused ∙ ap restart_cause named)) (sym (counted ∙ ap (λ (b : Bool). if b then 1 else 0) f.1)) w (none_given_up (values_seen w) (restarts name id) past.run) (seen_of past.first past.run past.run.courses hs w (λ p. refl) f.3)
         (not_one_super name past.run (restart_call_fault (child_stays_at (values_seen w) (restarts name id) past.run) name id past.run) f.0) (λ m. absurd (cc m)) whole (longer_still w) (λ other. absurd (other refl)) f.3
-    by NoTable named f = gone f
+    by (NoTable m) named f = gone f
     by Unsupported named f = gone f
     by NoSlot named f = gone f
     by NoMemory named f = gone f

@@ -27,7 +27,7 @@ child_call_of Nothing = nothing
 -- why a script fails where a child doesn't begin again
 abbrev pub restart_cause : RestartError → Cause
 restart_cause NoSuper = no_super
-restart_cause NoTable = no_table
+restart_cause (NoTable m) = no_table
 restart_cause Unsupported = unsupported
 restart_cause NoSlot = no_slot
 restart_cause NoMemory = no_memory

@@ -143,7 +143,7 @@ fn restart_cause(error: RestartError) -> Cause
 {
     match error {
         RestartError::NoSuper => Cause::NoSuper,
-        RestartError::NoTable => Cause::NoTable,
+        RestartError::NoTable(_name) => Cause::NoTable,
         RestartError::Unsupported => Cause::Unsupported,
         RestartError::NoSlot => Cause::NoSlot,
         RestartError::NoMemory => Cause::NoMemory,

@@ -1,4 +1,5 @@
 pub mod AppLemmas
 pub mod SlotLemmas
+pub mod SpotLemmas
 pub mod ChildLemmas
 pub mod RestartLemmas

@@ -6,10 +6,6 @@ use Rattle.std.specs.Result.{result_map_both}
 use Rattle.std.specs.declared.alloc.Global.{Global}
 use Rattle.proc_table.specs.declared.view.View.{View}
 use Rattle.started_members.specs.Tables.{Tables}
-use Rattle.app_members.specs.declared.error.MembersError.{MembersError}
-use Rattle.app_members.specs.declared.error.MembersError.TheVariants as members
-use Rattle.app_members.specs.InMemory.{FaultIs}
-use Rattle.app_members.specs.Walk.{StartFault}
 use Rattle.sup_tree.specs.declared.error.RestartError.{RestartError}
 use Rattle.sup_tree.specs.declared.error.RestartError.TheVariants.{NoSuper, NoTable, Unsupported, NoSlot, NoMemory}
 use Rattle.started_members.specs.declared.begins.Preparation.{Preparation}
@@ -18,7 +14,7 @@ use Rattle.started_members.specs.declared.member.Member.{Member}
 use Rattle.started_members.specs.Places.{AreAt, IsRange, Place, in_place, replaced}
 use Rattle.sup_tree.specs.Children.{apps_with, child_place, has_one_supervisor}
 use Rattle.started_members.specs.Looks.{StateLookedAt, kept_at}
-use Rattle.sup_tree.specs.Restarts.{BeginsAgain, Prepares, RestartFaultIs, Restarts, RestartsChild, RestartsUnless, app_at, restart_cause, super_app}
+use Rattle.sup_tree.specs.Restarts.{BeginsAgain, Prepares, RestartFaultIs, Restarts, RestartsChild, RestartsUnless, app_at, super_app}
 use Rattle.started_members.specs.Begins.{restart_fault, restart_members, members_at}
 use Rattle.started_members.specs.Ends.{MemberEnded}
 use Rattle.sup_tree.specs.Tree.{App}
@@ -38,7 +34,7 @@ child_ended p ms ns start end m v w at same is = subst (λ (c : Member). MemberE
 pub not_begun : {A : Type 0} (tables : Tables) (app : List ℕ) (p : Place) (change : List Member → A) (old : A) (v : View) (e : RestartError) → RestartFaultIs e (restart_fault tables p.child)
     → BeginsAgain {A = A} {X = Unit {0}} tables app p change old v (Err e) old v
 not_begun tables app p change old v NoSuper fault = absurd fault
-not_begun tables app p change old v NoTable fault = ((fault, refl), refl)
+not_begun tables app p change old v (NoTable m) fault = ((fault, refl), refl)
 not_begun tables app p change old v Unsupported fault = ((fault, refl), refl)
 not_begun tables app p change old v NoSlot fault = absurd fault
 not_begun tables app p change old v NoMemory fault = ((tt, refl), refl)
@@ -78,7 +74,7 @@ lifted {A} {B} tables app o change change' old new old' new' v r w same changed 
 pub with_one : (name id : List ℕ) (tables : Tables) (apps : List App) (v : View) (r : Result Bool RestartError) (apps' : List App) (w : View) → has_one_supervisor name apps ≡ true
     → Restarts tables (super_app name apps) (child_place name id apps) (λ (ms : List Member). apps_with (in_place ms) name id apps) apps v r apps' w → RestartsChild name id tables apps v r apps' w
 with_one name id tables apps v (Ok b) apps' w one is = (one, is)
-with_one name id tables apps v (Err NoTable) apps' w one is = (one, is)
+with_one name id tables apps v (Err (NoTable m)) apps' w one is = (one, is)
 with_one name id tables apps v (Err Unsupported) apps' w one is = (one, is)
 with_one name id tables apps v (Err NoSlot) apps' w one is = (one, is)
 with_one name id tables apps v (Err NoMemory) apps' w one is = (one, is)
@@ -88,9 +84,3 @@ with_one name id tables apps v (Err NoSuper) apps' w one is = absurd (by is.stay
     by true o (answer, here, seen) = cc answer
     by false None here = here
     by false (Some p) here = here.0.0
-
--- why a child has no members is why it doesn't begin again
-pub fault_reported : (e : MembersError) (f : Option StartFault) → FaultIs e f → RestartFaultIs (restart_cause e) f
-fault_reported (members.NoTable m) f is = (m.now, is)
-fault_reported members.Unsupported f is = is
-fault_reported members.NoMemory f is = tt

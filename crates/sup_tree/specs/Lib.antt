@@ -9,3 +9,4 @@ pub mod Stops
 pub mod Changes
 pub mod Children
 pub mod Restarts
+pub mod Spots

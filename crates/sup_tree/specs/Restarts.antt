@@ -1,13 +1,11 @@
 -- What restart_child answers, and what it leaves (OTP: supervisor, restart_child/2).
-use Rattle.std.specs.Prelude.{◌≡◌, ℕ, ◌<◌, Bool, true, false, List, [], length, map, Option, Some, None, Result, Ok, Err, Vec}
+use Rattle.std.specs.Prelude.{◌≡◌, ℕ, ◌<◌, Bool, true, false, List, [], length, map, Option, Some, None, Result, Ok, Err, Vec, string_bytes}
 use Rattle.std.specs.List.{find}
 use Rattle.std.specs.Option.{option_map_or}
 use Rattle.std.specs.declared.alloc.Global.{Global}
 use Rattle.proc_table.specs.declared.view.View.{View}
 use Rattle.proc_table.specs.Free.{free_count}
 use Rattle.started_members.specs.Tables.{Tables}
-use Rattle.app_members.specs.declared.error.MembersError.{MembersError}
-use Rattle.app_members.specs.declared.error.MembersError.TheVariants as members
 use Rattle.app_members.specs.Walk.{StartFault, starts_among}
 use Rattle.app_members.specs.Walk.StartFault.{no_table, unsupported}
 use Rattle.started_members.specs.declared.begins.Preparation.{Preparation}
@@ -24,15 +22,9 @@ use Rattle.started_members.specs.Ends.{MemberEnded}
 use Rattle.sup_tree.specs.Tree.{App}
 use Rattle.started_members.specs.Members.{pids_of, process_in, supervises_in}
 
--- why a child doesn't begin again, where it has no members
-abbrev pub restart_cause : MembersError → RestartError
-restart_cause (members.NoTable m) = NoTable
-restart_cause members.Unsupported = Unsupported
-restart_cause members.NoMemory = NoMemory
-
 -- an error is this fault; or no memory was left
 abbrev pub RestartFaultIs : RestartError → Option StartFault → Type 0
-RestartFaultIs NoTable f = (m : List ℕ) × (f ≡ Some (no_table m))
+RestartFaultIs (NoTable m) f = f ≡ Some (no_table (string_bytes m))
 RestartFaultIs Unsupported f = f ≡ Some unsupported
 RestartFaultIs NoMemory f = Unit {0}
 RestartFaultIs e f = ⊥

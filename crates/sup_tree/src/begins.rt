@@ -8,6 +8,7 @@ ghost use Rattle.started_members.specs.Preparations.{to_begin};
 ghost use Rattle.sup_tree.specs.Starts.{AnswersMembers, AppBegan, HasRoom, IsReady, PreparesApp, StartsApp};
 ghost use Rattle.sup_tree.specs.Tree.{app_of};
 
+use crate::spots::follow;
 use crate::{StartError, StartedApp, Tree};
 use app_members::{Loaded, MembersError, NewMember, members_of_app, process_count};
 use proc_table::Name;
@@ -52,6 +53,7 @@ impl Tree {
         self.apps.reserve(1)?;
         let started = new.begin(rt, access);
         self.apps.push_reserved(started);
+        follow(&mut self.spots, self.apps.as_slice());
         Ok(())
     }
 }

@@ -4,12 +4,13 @@ ghost use Rattle.started_members.specs.InMemory.{child_of};
 ghost use Rattle.sup_tree.specs.Changes.{app_changed, apps_changed};
 ghost use Rattle.sup_tree.specs.Tree.{app_of};
 
+use crate::spots::{follow, spots_of};
 use crate::{StartedApp, Tree};
 use started_members::{Child, Super, changed_members, copy_members};
 use std::alloc::{AllocError, Global};
 
 impl Tree {
-    /// An equal tree: of the same applications, with the same processes.
+    /// An equal tree: of the same applications, with the same processes. It knows where these stand (`users_by_slot`).
     pub fn copy(&self, alloc: Global) -> Result<Tree, AllocError>
         ensures { IfOk result (λ copy. copy ≡ self.now) }
     {
@@ -17,7 +18,11 @@ impl Tree {
         for app in self.apps.as_slice() {
             apps.push(copy_app(alloc, app)?)?;
         }
-        Ok(Tree { apps })
+        let spots = spots_of(alloc, apps.as_slice())?;
+        Ok(Tree {
+            apps,
+            spots: Some(spots),
+        })
     }
 
     /// Each started supervisor of this module gets the children of the table, in order, and after them those of its children
@@ -38,6 +43,7 @@ impl Tree {
             apps.push(changed_app(alloc, module, table.children(), app)?)?;
         }
         self.apps = apps;
+        follow(&mut self.spots, self.apps.as_slice());
         Ok(())
     }
 }

@@ -3,6 +3,7 @@ ghost use Rattle.std.specs.Prelude.{◌≡◌, [], map};
 ghost use Rattle.sup_tree.specs.Children.{DeletesChild, IsPlaceOfOnlySuper, IsPlaceOfSuper, TerminatesChild, child_members, has_one_supervisor};
 ghost use Rattle.sup_tree.specs.Tree.{app_of};
 
+use crate::spots::follow;
 use crate::{NoSuper, StartedApp, Tree};
 use started_members::{Member, delete, supervises_in, supervisor_count, terminate, with_below};
 use std::sync::Wait;
@@ -45,6 +46,7 @@ impl Tree {
             return Err(NoSuper);
         };
         terminate(rt, access, &mut self.apps[place].members, module, id);
+        follow(&mut self.spots, self.apps.as_slice());
         Ok(())
     }
 
@@ -65,7 +67,9 @@ impl Tree {
         let Some(place) = place_of_only_super(self.apps.as_slice(), module) else {
             return Err(NoSuper);
         };
-        Ok(delete(rt, access, &mut self.apps[place].members, module, id))
+        let stays = delete(rt, access, &mut self.apps[place].members, module, id);
+        follow(&mut self.spots, self.apps.as_slice());
+        Ok(stays)
     }
 }
 

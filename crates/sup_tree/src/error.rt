@@ -1,9 +1,12 @@
 //! Why an application isn't started or stopped, or a child isn't ended.
-ghost use Rattle.std.specs.Prelude.{◌≡◌};
+ghost use Rattle.std.specs.Prelude.{◌≡◌, Option};
+ghost use Rattle.app_members.specs.InMemory.{FaultIs};
+ghost use Rattle.app_members.specs.Walk.{StartFault};
+ghost use Rattle.sup_tree.specs.Restarts.{RestartFaultIs};
 ghost use Rattle.sup_tree.specs.declared.error.StartError.TheVariants.{NoMemory};
 
 use app_members::MembersError;
-use std::alloc::AllocError;
+use std::alloc::{AllocError, Global};
 use thiserror::Error;
 
 /// Why an application isn't started. Of several reasons the one that stands first here is reported; nothing has started then.
@@ -55,15 +58,15 @@ impl<'a> From<MembersError<'a>> for StartError<'a> {
 pub struct NoSuchApp;
 
 /// Why a child doesn't begin again. Of several reasons the one that stands first here is reported.
-#[derive(Clone, Copy, Debug, Error)]
+#[derive(Debug, Drop, Error)]
 pub enum RestartError {
     /// Not exactly one supervisor of its module is started.
     #[error("NoSuper")]
     NoSuper,
-    /// A child's module has no table, or one of the other kind. Of this and Unsupported the one that comes first on
+    /// This module of a child has no table, or one of the other kind. Of this and Unsupported the one that comes first on
     /// the way through the children is reported.
-    #[error("NoTable")]
-    NoTable,
+    #[error("NoTable {0}")]
+    NoTable(String),
     /// Supervisors stand in each other deeper than 8.
     #[error("Unsupported")]
     Unsupported,
@@ -85,17 +88,17 @@ impl From<AllocError> for RestartError {
     }
 }
 
-impl<'a> From<MembersError<'a>> for RestartError {
-    ghost use Rattle.sup_tree.specs.Restarts.{restart_cause};
-
-    ghost from_gives = { λ e r. r ≡ restart_cause e };
-
-    fn from(error: MembersError<'a>) -> RestartError {
-        match error {
-            MembersError::NoTable(_) => RestartError::NoTable,
-            MembersError::Unsupported => RestartError::Unsupported,
-            MembersError::NoMemory => RestartError::NoMemory,
-        }
+/// What is reported of a child whose members have this fault.
+pub(crate) fn restart_error(alloc: Global, error: MembersError<'_>) -> RestartError
+    ensures { (f : Option StartFault) → FaultIs error.entry f → RestartFaultIs result f }
+{
+    match error {
+        MembersError::NoTable(module) => match String::from_str(alloc, module) {
+            Ok(name) => RestartError::NoTable(name),
+            Err(_) => RestartError::NoMemory,
+        },
+        MembersError::Unsupported => RestartError::Unsupported,
+        MembersError::NoMemory => RestartError::NoMemory,
     }
 }
 

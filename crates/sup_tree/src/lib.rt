@@ -7,8 +7,9 @@
 //! [`prepare_app`] takes all memory that an application needs, and [`NewApp::begin`] starts it without any more: so several
 //! applications start together, or none ([`Tree::of`]).
 //! [`Tree::stop_app`] gives them up, the last first, but for those that were given up before (specs/Stops). Both wait for the
-//! slots. [`Tree::find`], [`Tree::processes_using`] and [`Tree::module_in`] look processes up, and [`Tree::supervises`] a
-//! supervisor.
+//! slots. [`Tree::find`], [`Tree::processes_using`], [`Tree::module_in`] and [`Tree::users_by_slot`] look processes up, and
+//! [`Tree::supervises`] a supervisor. A tree that was copied knows where the process of each slot stands (specs/Spots), so that the
+//! slots of a module are found without a walk.
 //!
 //! Children change as well. [`Tree::change_children`] gives the supervisors of a module the children of another table
 //! (specs/Changes). [`Tree::terminate_child`] ends one child of the one supervisor of a module, and [`Tree::delete_child`] takes
@@ -23,6 +24,7 @@ mod changes;
 mod children;
 mod error;
 mod restarts;
+mod spots;
 mod stops;
 mod tree;
 

@@ -6,6 +6,8 @@ ghost use Rattle.sup_tree.specs.Restarts.{BeginsAgain, Prepares, RestartsChild, 
 ghost use Rattle.sup_tree.specs.Tree.{app_of};
 
 use crate::children::place_of_only_super;
+use crate::error::restart_error;
+use crate::spots::follow;
 use crate::{RestartError, StartedApp, Tree};
 use app_members::{Loaded, NewChild, members_of_child};
 use started_members::{
@@ -37,7 +39,9 @@ impl Tree {
         let Some(place) = place_of_only_super(self.apps.as_slice(), module) else {
             return Err(RestartError::NoSuper);
         };
-        restart(rt, alloc, access, loaded, &mut self.apps[place], module, id)
+        let answer = restart(rt, alloc, access, loaded, &mut self.apps[place], module, id);
+        follow(&mut self.spots, self.apps.as_slice());
+        answer
     }
 }
 
@@ -103,16 +107,15 @@ fn prepare_child(
 ) -> Result<Vec<Preparation>, RestartError>
     ensures { Prepares (tables_of (modules_in loaded.now)) app.now child.now result }
 {
-    let new = members_of_child(
-        alloc,
-        loaded,
-        NewChild {
-            depth: child.depth,
-            id: child.id.as_str(),
-            module: child.module.as_str(),
-            restart: child.restart,
-            kind: child.kind,
-        },
-    )?;
-    Ok(prepare_all(alloc, app, new.as_slice())?)
+    let child = NewChild {
+        depth: child.depth,
+        id: child.id.as_str(),
+        module: child.module.as_str(),
+        restart: child.restart,
+        kind: child.kind,
+    };
+    match members_of_child(alloc, loaded, child) {
+        Ok(new) => Ok(prepare_all(alloc, app, new.as_slice())?),
+        Err(error) => Err(restart_error(alloc, error)),
+    }
 }

@@ -2,6 +2,7 @@
 ghost use Rattle.std.specs.Prelude.{◌≡◌};
 ghost use Rattle.sup_tree.specs.Stops.{StopsApp, IsPlaceOf};
 
+use crate::spots::follow;
 use crate::{NoSuchApp, StartedApp, Tree};
 use started_members::end_all;
 use std::sync::Wait;
@@ -25,6 +26,7 @@ impl Tree {
             name: _name,
             members,
         } = self.apps.remove(place);
+        follow(&mut self.spots, self.apps.as_slice());
         end_all(rt, access, members.as_slice());
         Ok(())
     }

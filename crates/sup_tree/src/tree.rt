@@ -3,8 +3,9 @@ ghost use Rattle.std.specs.Prelude.{◌≡◌, IfOk, Some, is_some, [], map};
 ghost use Rattle.std.specs.Option.{option_map};
 ghost use Rattle.sup_tree.specs.Tree.{app_of, app_named, find_process, members_of, NotesUsers, module_in, processes_using, supervises};
 
+use crate::spots::{Spot, users_among, users_at};
 use proc_table::{Name, Pid, SLOTS};
-use started_members::{Member, add_using, module_among, note_users, process_with, supervises_in};
+use started_members::{Member, add_using, module_among, process_with, supervises_in};
 use std::alloc::{AllocError, Global};
 use std::marker::Model;
 
@@ -19,11 +20,14 @@ pub struct StartedApp {
 #[derive(Drop)]
 pub struct Tree {
     pub(crate) apps: Vec<StartedApp>,
+    /// Where their processes stand, in a tree that was copied. Whatever changes the applications finds the spots again.
+    pub(crate) spots: Option<Vec<Option<Spot>>>,
 }
 
 impl Model for Tree {
     ghost use Rattle.std.specs.Prelude.{List, map};
     ghost use Rattle.started_members.specs.contracts.member.Member as stored;
+    ghost use Rattle.sup_tree.specs.Spots.{KnowsSpots};
     ghost use Rattle.sup_tree.specs.Tree.{App, app_of, apps_code};
 
     ghost Value = { List App };
@@ -31,6 +35,8 @@ impl Model for Tree {
     ghost coded = { apps_code stored.the_row.coded };
 
     ghost view = { λ t. map app_of t.apps.items };
+
+    ghost invariant = { λ t. KnowsSpots (map app_of t.apps.items) t.spots };
 }
 
 impl Tree {
@@ -40,6 +46,7 @@ impl Tree {
     {
         Tree {
             apps: Vec::new(alloc),
+            spots: None,
         }
     }
 
@@ -47,7 +54,7 @@ impl Tree {
     pub fn of(apps: Vec<StartedApp>) -> Tree
         ensures { result ≡ map app_of apps.items }
     {
-        Tree { apps }
+        Tree { apps, spots: None }
     }
 
     /// Whether the application is started.
@@ -99,15 +106,15 @@ impl Tree {
         None
     }
 
-    /// Which slots have a process that runs this module, found in one walk through all members. It takes no memory.
+    /// Which slots have a process that runs this module. It goes through the slots of a tree that was copied, and of another
+    /// through all members, once. It takes no memory.
     pub fn users_by_slot(&self, module: &str) -> [bool; SLOTS]
         ensures { NotesUsers «module».now self.now result }
     {
-        let mut used = [false; SLOTS];
-        for place in (0..self.apps.len()).rev() {
-            note_users(&mut used, self.apps[place].members.as_slice(), module);
+        match &self.spots {
+            Some(spots) => users_at(self.apps.as_slice(), spots.as_slice(), module),
+            None => users_among(self.apps.as_slice(), module),
         }
-        used
     }
 
     /// Whether a started application has a supervisor of this module.

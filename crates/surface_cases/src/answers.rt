@@ -21,7 +21,7 @@ use text_cases::Answer;
 ///
 /// `disk`, `fail`, `stop`: disks. `store`, `start`: a store and its start record. `terms`: terms. `rel`, `app`: files of a
 /// release. `table`, `step`, `change`: tables of modules. `entry`: appups. `relup`, `check`, `find`, `make`: relups. `list`: the
-/// list of releases. `processes`: processes. `applications`: supervision. `worker`: workers. `commands`: a node's commands.
+/// list of releases. `processes`: processes. `applications`: supervision. `worker`: workers. `commands`: a node's commands and scripts.
 /// `session`, `options`: the program.
 pub(crate) fn answer<R: Threads + Wait + Sync>(
     rt: &R,

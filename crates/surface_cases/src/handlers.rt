@@ -4,6 +4,7 @@ ghost use Rattle.node_store.specs.State.{IsSound};
 ghost use Rattle.surface_cases.specs.Nodes.{IsSoundNode};
 
 use crate::disks::new_disk;
+use crate::scripts::push_script;
 use crate::terms::push_term;
 use rel_disk::Disk;
 use rel_handler::{Files, FilesError, Handler, HandlerError, InstallError, Installed};
@@ -76,7 +77,8 @@ const RELUP_B: &str =
 const RELUP_C: &str = r#"{"C",[{"B","same code",[point_of_no_return]}],[]}."#;
 
 /// Appends what a node that is made of the first release answers to some commands, parted by `, `, each by its name and its word: a
-/// path for `set_unpacked`, none for `start` and `which`, and else a version.
+/// path for `set_unpacked`, none for `start` and `which`, and else a version. A script may come after them, and ` | ` before it, as
+/// [`push_script`] has it.
 pub(crate) fn push_commands<R: Wait>(rt: &R, alloc: Global, words: &str, answer: &mut Answer) {
     match new_disk(alloc) {
         Ok(disk) => push_created(rt, alloc, disk, words, answer),
@@ -106,7 +108,11 @@ fn push_booted<R: Wait, D: Disk + Drop>(
 ) {
     match boot(rt, alloc, disk) {
         Ok(mut node) => {
-            follow_all(rt, alloc, &mut node, words, answer);
+            let (commands, script) = words.split_once(" | ").unwrap_or((words, ""));
+            follow_all(rt, alloc, &mut node, commands, answer);
+            if !script.is_empty() {
+                push_script(rt, alloc, &mut node, script, answer);
+            }
             let _disk = node.into_disk();
         }
         Err((_disk, error)) => answer.push_debug(&error),
@@ -121,6 +127,7 @@ fn follow_all<R: Wait, D: Disk>(
     answer: &mut Answer,
 )
     requires { IsSoundNode D.seen D.may_leave node.old }
+    ensures { IsSoundNode D.seen D.may_leave node.new }
 {
     for command in words.split(", ") {
         follow(rt, alloc, node, command, answer);

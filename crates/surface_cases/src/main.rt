@@ -1,5 +1,5 @@
 //! The program `surface_cases`: what the calls answer with which a program works on releases, from disks and terms to nodes and
-//! sessions, a case a line. [`answer`] has the modes. Calls that run a script are not among them.
+//! sessions, a case a line. [`answer`] has the modes.
 #![tactic(auto)]
 
 mod answers;
@@ -10,6 +10,7 @@ mod handlers;
 mod lists;
 mod processes;
 mod relups;
+mod scripts;
 mod sessions;
 mod stores;
 mod tables;

@@ -18,10 +18,13 @@ pub(crate) fn push_processes<R: Wait>(rt: &R, alloc: Global, words: &str, answer
     let (input, table) = first_word(words);
     let input = input.parse::<u32>().unwrap_or(0);
     match begun(rt, alloc, table) {
-        Some((table, mut seat, pid)) => {
-            push_met(rt, &table, &mut seat, pid, input, answer);
-            push_held(rt, &table, &mut seat, pid, answer);
-        }
+        Some((table, mut seat, pid)) => match Pid::new(pid.slot, pid.round) {
+            Some(pid) => {
+                push_met(rt, &table, &mut seat, pid, input, answer);
+                push_held(rt, &table, &mut seat, pid, answer);
+            }
+            None => answer.push("no such slot"),
+        },
         None => answer.note_no_memory(),
     }
 }

@@ -1,4 +1,4 @@
-use Rattle.std.proofs.Common.{◌≡◌, ◌+◌, ◌<◌, ◌≤◌, ◌∙◌, ◌∷◌, ◌&&◌, not, [], Bool, true, false, Ok, Err, List, ℕ, get_or, length, length-append, take, drop, refl, sym, ap, subst, subst₂, arith}
+use Rattle.std.proofs.Common.{◌≡◌, ◌+◌, ◌<◌, ◌≤◌, ◌^◌, ◌∙◌, ◌∷◌, ◌&&◌, not, [], Bool, true, false, Ok, Err, List, ℕ, get_or, length, length-append, take, drop, refl, sym, ap, subst, subst₂, arith}
 use Rattle.std.specs.Prelude.{vec_capacity}
 use Rattle.std.proofs.lemmas.List.{length-map, length-take-le, take_all}
 use Rattle.relup_instruction.specs.declared.instruction.Instr.{Instr}
@@ -23,7 +23,7 @@ use Rattle.relup_exec.proofs.after.run_late.Goals as goal
 
 pub pass_point-requires : goal.pass_point-requires
 pass_point-requires g c κs within =
-    let armed = c.requires.1.1 in
+    let armed = c.requires.1.1.0 in
     let script = c.args.run.script.now in
     let front = armed.point.front in
     let long = length-append front (point_of_no_return ∷ armed.point.rest) in
@@ -37,7 +37,7 @@ loop-i-init g c =
     let s = site_of c.args.run.sources.now in
     let script = c.args.run.script.now in
     let place = c.args.run.done in
-    let armed = c.requires.1.1 in
+    let armed = c.requires.1.1.0 in
     let w = c.pass_point.new in
     let front = point_is script place armed.point in
     let bs = w.self.reported.items in
@@ -64,7 +64,7 @@ pub next_late-requires : goal.next_late-requires
 next_late-requires g c =
     let script = c.args.run.script.now in
     let s = site_of c.args.run.sources.now in
-    let armed = c.requires.1.1 in
+    let armed = c.requires.1.1.0 in
     let so_far = script_of (take c.loop-i.i script) in
     let i = instruction_of c.index-script-i.result in
     let parts = parted instruction_of script c.loop-i.i c.index-script-i.result c.loop-i-test.true c.index-script-i.is in
@@ -136,7 +136,8 @@ close-requires g c κs within =
     let courses : courses_within (site_of w.self.sources.now) false (get_or (script_of w.self.script.now) w.self.done point_of_no_return) e.modules e.slot (run_behind (site_of w.self.sources.now) g.start w.self.reported.items (script_of (take w.self.done w.self.script.now)))
     ≡ courses_within s false i e.modules e.slot (run_behind s g.start bs so_far) =
     λ j. courses_within (site_of (sources j)) false (next j) e.modules e.slot (run_behind (site_of (sources j)) g.start (reported j) (script_of (take (at j) (here j)))) in
-    (within, (inside, subst (λ (cs : Courses). AllFollow g.start.first cs w.self.progress.held w.access) (sym courses) failed.partly))
+    let numbered = subst (λ (is : List Instr). length is < 2 ^ 32) (sym here) c.requires.1.1.1 in
+    (within, (inside, (subst (λ (cs : Courses). AllFollow g.start.first cs w.self.progress.held w.access) (sym courses) failed.partly, numbered)))
 
 pub returns-in-Err-clause-broken : goal.returns-in-Err-clause-broken
 returns-in-Err-clause-broken g c =

@@ -17,7 +17,7 @@ loop-i-init g c = (
   c.requires.1.1.1.0,
   record { sources = refl; script = refl },
   refl,
-  (refl, c.requires.1.1.1.1.1),
+  (refl, c.requires.1.1.1.1.1.0),
   c.requires.1.1.1.1.0,
 )
 

@@ -41,7 +41,7 @@ returns-in-Err g c =
     let w = c.restart_child.new in
     let tables = tables_of (modules_in c.args.loaded.now) in
     record {
-      restarted = subst (λ (b : Bool). RestartsIn g.followed.first name id tables (scene_at g.followed apps) (Err (record { error = c.in-Err.error; given_up = b })) w.self end.new.self c.args.access.now w.access) (sym c.was_given_up.ensures)
+      restarted = subst (λ (b : Bool). RestartsIn g.followed.first name id tables (scene_at g.followed apps) (Err (record { error = c.in-Err.error; given_up = b })) w.self end.new.self c.args.access.now w.access) (sym c.was_given_up-given_up.ensures)
           (restarts_in g.followed c.args.self.now end.new.self c.args.access.now end.new.access w.access apps w.self name id tables end.result (reported_not end.result c.in_default.not-Stays)
           (sym c.has_one_supervisor.ensures ∙ c.if-not-has_one_supervisor.false) c.requires.1.1 c.knows.ensures.known.known.legal end.ensures.longer (Err c.in-Err.error) (end.ensures.ended (child_place name id apps) c.child_members-members.ensures)
           c.in-Err.ensures.restarted);

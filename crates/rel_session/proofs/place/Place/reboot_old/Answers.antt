@@ -29,7 +29,7 @@ returns-then-is_dead-clause-rebooted g c =
     from_there g.D.Disk laws Does (Err (unanswered.Refused handler_error.Dead)) c.args.self there there c.in-Made.is
     (changes_dead g.D.Disk laws Does (λ p idle. idle_acts g.D.Disk laws (reboots_node c.args.vsn.now) p idle (idle_reboots g.D.Disk laws c.args.vsn.now p idle)) c.in-Made.node (search rules))
 
--- it was not committed
+-- The reboot was not committed.
 pub returns-in-Err-reboot_old_release-clause-rebooted : goal.returns-in-Err-reboot_old_release-clause-rebooted
 returns-in-Err-reboot_old_release-clause-rebooted g c =
     let laws : IsDevice g.D.Disk = record { reads_an_image = g.met.D.Disk.reads_an_image; counts_now = g.met.D.Disk.counts_now; only_now = g.met.D.Disk.only_now } in
@@ -40,7 +40,7 @@ returns-in-Err-reboot_old_release-clause-rebooted g c =
     from_there g.D.Disk laws Does (Err (unanswered.Refused c.in-Err-reboot_old_release.why)) c.args.self (memory.Made n) (memory.Made new) c.in-Made.is
     (commits_none g.D.Disk laws Does n (search rules) (rebooting vsn) (change_size (rebooting vsn)) (IsRebooted vsn) (λ events extent ps a after is. inl is) new refl c.in-Err-reboot_old_release.ensures.commits (λ events extent ps. inr refl) c.in-Err-reboot_old_release.why c.in-Err-reboot_old_release.ensures.refused)
 
--- it was, and the node was booted
+-- The reboot was committed, and the node was booted.
 pub returns-in-Ok-reboot_old_release-clause-rebooted : goal.returns-in-Ok-reboot_old_release-clause-rebooted
 returns-in-Ok-reboot_old_release-clause-rebooted g c =
     let laws : IsDevice g.D.Disk = record { reads_an_image = g.met.D.Disk.reads_an_image; counts_now = g.met.D.Disk.counts_now; only_now = g.met.D.Disk.only_now } in

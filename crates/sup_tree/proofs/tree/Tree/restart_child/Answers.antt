@@ -22,9 +22,9 @@ returns g c = record {
       let apps = c.args.self.now in
       let place = c.in-Some.place in
       let a = c.index_mut.result.now in
-      let b = c.restart.new.app in
+      let b = c.restart-answer.new.app in
       let v = c.args.access.now in
-      let w = c.restart.new.access in
+      let w = c.restart-answer.new.access in
       let new = map app_of (slice_set items place b) in
       let change : List Member → List App = λ ms. apps_with (in_place ms) name id apps in
       let only = subst (λ (l : List StartedApp). IsPlaceOfOnlySuper name l (Some place)) c.as_slice.ensures.value (rw c.in-Some.is at c.place_of_only_super.ensures) in
@@ -33,10 +33,10 @@ returns g c = record {
       let child = child_there name id items place a at c.index_mut.ensures.value ∙ ap (child_place name id) c.self.view_is in
       let app : a.name ≡ super_app name apps =
       ap (λ (x : StartedApp). x.name) c.index_mut.ensures.value ∙ (sym (ap (λ (o : Option App). option_map_or (λ (x : App). x.name) o []) (at.there a)) ∙ ap (super_app name) c.self.view_is) in
-      let is = lifted tables a.name (child_in name id a.members.items) (λ ms. app_with (in_place ms) name id (app_of a)) change (app_of a) (app_of b) apps new v c.restart.result w
+      let is = lifted tables a.name (child_in name id a.members.items) (λ ms. app_with (in_place ms) name id (app_of a)) change (app_of a) (app_of b) apps new v c.restart-answer.result w
       (λ same. map-set_same app_of items place b a (same ∙ ap app_of c.index_mut.ensures.value) ∙ c.self.view_is)
       (λ ms changed. app_changed (in_place ms) name id items place a b at c.index_mut.ensures.value changed ∙ ap (apps_with (in_place ms) name id) c.self.view_is)
-      c.restart.ensures.restarted in
-      with_one name id tables apps v c.restart.result new w one
-      (subst₂ (λ (n : List ℕ) (o : Option Place). Restarts tables n o change apps v c.restart.result new w) app child is);
+      c.restart-answer.ensures.restarted in
+      with_one name id tables apps v c.restart-answer.result new w one
+      (subst₂ (λ (n : List ℕ) (o : Option Place). Restarts tables n o change apps v c.restart-answer.result new w) app child is);
 }

@@ -1,8 +1,8 @@
 use Rattle.std.proofs.Common.{◌≡◌, map, drop, length}
 use Rattle.proc_table.specs.Agrees.{slots}
 use Rattle.sup_tree.specs.Tree.{NotesUsers, app_of}
-use Rattle.sup_tree.proofs.tree.Tree.users_by_slot.Given as goal
+use Rattle.sup_tree.proofs.spots.users_among.Given as goal
 
 -- the applications from here on are noted
 abbrev pub invariant-loop-place : goal.invariant-loop-place
-invariant-loop-place l = (length l.used ≡ slots) × NotesUsers l.«module» (map app_of (drop l.place l.self-inside.apps.items)) l.used
+invariant-loop-place l = (length l.used ≡ slots) × NotesUsers l.«module» (map app_of (drop l.place l.apps)) l.used
