@@ -4,3 +4,4 @@ pub mod Defaults
 pub mod FullTerms
 pub mod Spellings
 pub mod TermLemmas
+mod ShapeLemmas

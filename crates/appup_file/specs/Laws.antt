@@ -1,10 +1,12 @@
 -- Laws of appup files, whatever reads them.
-use Rattle.std.specs.Prelude.{◌≡◌, ◌⊎◌, ◌↔◌, ℕ, List}
+use Rattle.std.specs.Prelude.{◌≡◌, ◌⊎◌, ◌↔◌, ℕ, List, IsSome}
 use Rattle.erl_term.specs.Value.{Value}
 use Rattle.appup_file.specs.declared.fault.AppupFault.{AppupFault}
+use Rattle.appup_file.specs.declared.fault.AppupFault.TheVariants.{BadShape}
 use Rattle.appup_file.specs.Instruction.{AppupForm}
 use Rattle.appup_file.specs.Form.{IsAppupTerm}
-use Rattle.appup_file.specs.File.{TermSaysAppup, SaysAppup, IsAppupFault}
+use Rattle.appup_file.specs.File.{TermSaysAppup, IsTermFault, SaysAppup, IsAppupFault}
+use Rattle.appup_file.specs.Shape.{shape_fault}
 
 -- No file says two appups.
 abbrev pub SaysOneAppup : Type 0
@@ -25,3 +27,7 @@ SaysOrFails = (bytes : List ℕ) → ((a : AppupForm) × SaysAppup bytes a) ⊎ 
 -- A term says an appup exactly where it is a term of this appup.
 abbrev pub SaysItsTerm : Type 0
 SaysItsTerm = (v : Value) (a : AppupForm) → TermSaysAppup v a ↔ IsAppupTerm v a
+
+-- Something is none in a term exactly where it says no appup.
+abbrev pub HasItsPlace : Type 0
+HasItsPlace = (v : Value) → IsTermFault v BadShape ↔ IsSome (shape_fault v)

@@ -4,4 +4,5 @@ pub mod Parts
 pub mod Fault
 pub mod File
 pub mod Search
+pub mod Shape
 pub mod Laws

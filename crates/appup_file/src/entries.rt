@@ -15,7 +15,10 @@ use relup_file::outline::outer_in;
 use std::alloc::{AllocError, Global};
 
 // The text of a version, or a binary.
-fn other_version_in(alloc: Global, term: &Term) -> Result<Option<OtherVersion>, AllocError>
+pub(crate) fn other_version_in(
+    alloc: Global,
+    term: &Term,
+) -> Result<Option<OtherVersion>, AllocError>
     ensures { IfOk result (λ o. option_map version_of o ≡ other_version_in (value_of term.now)) }
 {
     match term {

@@ -1,5 +1,5 @@
 //! Laws of the files and terms themselves, whatever reads them. Each function does nothing: its contract is the law.
-ghost use Rattle.appup_file.specs.Laws.{SaysOneAppup, HasOneFault, NeverBoth, SaysOrFails, SaysItsTerm};
+ghost use Rattle.appup_file.specs.Laws.{SaysOneAppup, HasOneFault, NeverBoth, SaysOrFails, SaysItsTerm, HasItsPlace};
 
 /// No file says two appups.
 pub fn no_file_says_two_appups()
@@ -25,4 +25,9 @@ pub fn each_file_says_an_appup_or_has_a_fault()
 /// the one that leaves nothing out.
 pub fn a_term_says_an_appup_exactly_where_it_has_its_form()
     ensures { SaysItsTerm }
+{}
+
+/// An entry or an instruction of a term is none, or its outline is, exactly where it says no appup.
+pub fn something_is_none_exactly_where_a_term_says_no_appup()
+    ensures { HasItsPlace }
 {}

@@ -2,10 +2,11 @@
 //!
 //! [`read_appup`] gives the appup that a file says, exactly where it says one; a refusal is the file's fault (clauses `says`,
 //! `only`, `fault`). [`appup_of_term`] does so for a term. What is not written of an instruction has its default.
-//! [`Appup::entry_for`] gives the instructions between two versions by its rule, and takes no memory.
+//! [`Appup::entry_for`] gives the instructions between two versions by its rule, and takes no memory. [`shape_fault`] gives the
+//! first entry or instruction of a term that is none.
 //!
-//! The functions of `laws` say of these definitions that each file says one appup or has one fault, and not both; and that a
-//! term says an appup exactly where each of its instructions is written in one of its forms.
+//! The functions of `laws` say of these definitions that each file says one appup or has one fault, and not both; that a term says an
+//! appup exactly where each of its instructions is written in one of its forms; and that else it has a first place that is none.
 //!
 //! Only tested: that an appup is read where memory is there. Trusted: the toolchain alone.
 #![tactic(auto)]
@@ -19,6 +20,7 @@ pub mod laws;
 mod modules;
 mod reader;
 mod search;
+mod shape;
 mod steps;
 mod update;
 
@@ -30,3 +32,4 @@ pub use instruction::{
 pub use reader::{appup_of_term, read_appup};
 pub use relup_instruction::Direction;
 pub use search::EntryFault;
+pub use shape::{ShapeFault, shape_fault};

@@ -83,7 +83,11 @@ fn high_level_in(alloc: Global, term: &Term) -> Result<Option<AppupInstr>, Alloc
     }
 }
 
-fn appup_instruction_in(alloc: Global, term: &Term) -> Result<Option<AppupInstr>, AllocError>
+// An instruction of an appup.
+pub(crate) fn appup_instruction_in(
+    alloc: Global,
+    term: &Term,
+) -> Result<Option<AppupInstr>, AllocError>
     ensures { IfOk result (λ o.
         option_map appup_instruction_of o ≡ appup_instruction_in (value_of term.now)) }
 {

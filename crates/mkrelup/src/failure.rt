@@ -1,4 +1,7 @@
 //! Why there is no relup.
+ghost use Rattle.std.specs.Prelude.{◌≡◌};
+ghost use Rattle.mkrelup.specs.Exits.{refusal_status};
+ghost use Rattle.mkrelup.specs.declared.failure.Failure.TheVariants.{NoMemory};
 
 use file_replacement::ReplaceError;
 use release_relup::Refusal;
@@ -18,13 +21,17 @@ pub(crate) enum Failure {
 }
 
 impl Failure {
-    pub(crate) fn status(&self) -> u8 {
+    ghost use Rattle.std.specs.Prelude.{◌≡◌};
+    ghost use Rattle.mkrelup.specs.Exits.{exit_status};
+
+    /// The exit status.
+    pub(crate) fn status(&self) -> u8
+        ensures { result ≡ exit_status self.now }
+    {
         match self {
             Failure::BadArguments => 2,
             Failure::NoMemory => 3,
-            Failure::Refused(refusal) if refusal.is_no_memory() => 3,
-            Failure::Refused(refusal) if refusal.is_unreadable() => 4,
-            Failure::Refused(_) => 1,
+            Failure::Refused(refusal) => status_of_refusal(refusal),
             Failure::Unwritten(_, _) | Failure::Output => 4,
         }
     }
@@ -44,13 +51,29 @@ impl Failure {
     }
 }
 
+fn status_of_refusal(refusal: &Refusal) -> u8
+    ensures { result ≡ refusal_status refusal.now.why }
+{
+    if refusal.is_no_memory() {
+        3
+    } else if refusal.is_unreadable() {
+        4
+    } else {
+        1
+    }
+}
+
 impl From<AllocError> for Failure {
+    ghost from_gives = { λ _ e. e ≡ NoMemory };
+
     fn from(_: AllocError) -> Failure {
         Failure::NoMemory
     }
 }
 
 impl<T: Drop> From<AllocFailed<T>> for Failure {
+    ghost from_gives = { λ _ e. e ≡ NoMemory };
+
     fn from(_: AllocFailed<T>) -> Failure {
         Failure::NoMemory
     }

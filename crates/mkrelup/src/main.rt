@@ -10,18 +10,20 @@
 #![tactic(auto)]
 
 mod failure;
+mod making;
 mod options;
 mod output;
 
 use crate::failure::Failure;
-use crate::options::{Options, command, options_of};
-use crate::output::write_text;
-use clap::error::ErrorKind;
+use crate::making::make_text;
+use crate::options::{Options, OptionsError, answer_status, read_options};
+use crate::output::{destination_of, put_text};
+use counted_io::CountedWriter;
+use file_replacement::HostFolder;
 use rel_host::RootFiles;
-use release_relup::{MadeText, make_relup_text};
 use std::alloc::Global;
-use std::env;
 use std::process::ExitCode;
+use std::{env, io};
 
 fn main(rt: HostRuntime) -> ExitCode {
     match run(&rt, rt.alloc()) {
@@ -38,9 +40,10 @@ fn main(rt: HostRuntime) -> ExitCode {
 /// The program does what the arguments say, and answers the status.
 fn run(rt: &HostRuntime, alloc: Global) -> Result<u8, Failure> {
     let words = arguments(rt, alloc)?;
-    match command(alloc)?.try_get_matches_from(words.as_slice()) {
-        Ok(matches) => make(rt, alloc, &options_of(alloc, &matches)?),
-        Err(error) => show(rt, &error),
+    match read_options(alloc, words.as_slice()) {
+        Ok(options) => make(rt, alloc, &options),
+        Err(OptionsError::Answered(error)) => show(rt, &error),
+        Err(OptionsError::NoMemory) => Err(Failure::NoMemory),
     }
 }
 
@@ -52,37 +55,30 @@ fn arguments(rt: &HostRuntime, alloc: Global) -> Result<Vec<String>, Failure> {
     }
 }
 
-/// Prints what `clap` answers in place of arguments: a help text, a version, or a mistake.
+/// Prints what `clap` answers in place of options.
 fn show(rt: &HostRuntime, error: &clap::Error) -> Result<u8, Failure> {
-    if matches!(error.kind(), ErrorKind::OutOfMemory) {
-        return Err(Failure::NoMemory);
-    }
     match error.print(rt) {
-        Ok(()) => Ok(if error.use_stderr() { 2 } else { 0 }),
+        Ok(()) => Ok(answer_status(error)),
         Err(_) => Err(Failure::Output),
     }
 }
 
-/// Makes the relup, reports the warnings, and writes the text unless it is only checked.
+/// Makes the relup, reports the warnings, and puts the text where it goes.
 fn make(rt: &HostRuntime, alloc: Global, options: &Options) -> Result<u8, Failure> {
     let files = RootFiles::new(rt, Some(options.root.clone()?));
-    let made = make_relup_text(
-        alloc,
-        &files,
-        options.new.as_str(),
-        options.ups.as_slice(),
-        options.downs.as_slice(),
-        options.restart,
-    );
-    let MadeText { text, warnings } = match made {
-        Ok(made) => made,
-        Err(refusal) => return Err(Failure::Refused(refusal)),
-    };
-    for warning in &warnings {
+    let made = make_text(alloc, &files, options)?;
+    for warning in &made.warnings {
         let _ = eprintln!(rt; "mkrelup: warning: {warning}");
     }
-    if !options.check {
-        write_text(rt, alloc, options, text.as_str())?;
-    }
+    let destination = destination_of(alloc, options)?;
+    let mut folder = HostFolder::new(rt);
+    let mut output = CountedWriter::new(io::writer(rt));
+    put_text(
+        alloc,
+        &mut folder,
+        &mut output,
+        &destination,
+        made.text.as_str(),
+    )?;
     Ok(0)
 }

@@ -20,6 +20,8 @@ pub enum MakeError {
     Translation(TranslateError),
     /// An instruction is one that `systools` refuses.
     Refused(FoundInstr),
+    /// The relup would be deeper than a reader takes: more brackets would be open at once in its text.
+    TooDeep,
     NoMemory,
 }
 

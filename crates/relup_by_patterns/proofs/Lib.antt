@@ -2,3 +2,4 @@ mod FaultLemmas
 mod WalkLemmas
 mod PatternLemmas
 mod AskedLemmas
+pub mod NameLemmas

@@ -65,7 +65,7 @@ of_apps ups downs [] (c ∷ cs) h = absurd h
 of_apps ups downs (a ∷ as') [] h = absurd h
 of_apps ups downs (a ∷ as') (c ∷ cs) h = (of_app ups downs a c h.0, of_apps ups downs as' cs h.1)
 
--- What a search answers is no fault of a pattern,
+-- The answer of a search is no fault of a pattern.
 abbrev Answers : Result (List AppupInstruction) EntryFault → Type 0
 Answers (Err entry_fault.RegexVersion) = ⊥
 Answers r = Unit {0}
@@ -104,11 +104,11 @@ of_counting a p h = go (bytes_eq p.vsn a.vsn)
     go true = h
     go false = tt
 
--- whichever appup it goes by.
+-- No search by the appup of an application with plain versions ends at a pattern.
 of_appup : (d : Direction) (a : RelupAppForm) (vsn : List ℕ) → HasTexts a → Finds (by_appup d a vsn)
 of_appup d a vsn h = of_searched d a.name vsn (counting_appup a) (of_next AreTexts AreTexts (counting a) (of_counting a) a.appup h)
 
--- No instruction has such a fault,
+-- A test gives no fault of a pattern, where the fault that it may give is none.
 of_known : (b : Bool) (f : FaultForm) → NoRegex f → IfSome (known b f) NoRegex
 of_known true f h = tt
 of_known false f h = h
@@ -134,7 +134,7 @@ of_instruction w b (restart_application app) =
     (of_known (is_some (app_named app w.left)) (unsupported b.name) tt) (of_known (is_some (app_named app w.target)) (unsupported b.name) tt)
 of_instruction w b (low_level i) = of_low_level b.name i
 
--- nor the first fault of several things that have none.
+-- The first fault of several things is no fault of a pattern, where none of theirs is.
 of_first : {A : Type 0} (P : A → Type 0) (f : A → Option FaultForm) → ((a : A) → P a → IfSome (f a) NoRegex) → (xs : List A) → AllByRecursion P xs
     → IfSome (first_fault f xs) NoRegex
 of_first P f each [] h = tt
@@ -148,7 +148,7 @@ of_row : (w : WayForm) (b : RelupAppForm) (r : Result (List AppupInstruction) Fa
 of_row w b (Err f) h = h
 of_row w b (Ok is) h = of_first (λ i. Unit {0}) (instruction_fault w b) (λ i any. of_instruction w b i) is (anything is)
 
--- Going up, it is the appup of the target that counts,
+-- Going up, the appup of the target's application counts. It gives no fault of a pattern.
 of_upgrade : (left target : RelupReleaseForm) (a : RelupAppForm) → HasTexts a → IfSome (app_fault (record { direction = Up; left = left; target = target }) a) NoRegex
 of_upgrade left target a h = go (other_version w a)
   where
@@ -159,7 +159,7 @@ of_upgrade left target a h = go (other_version w a)
     go None = tt
     go (Some b) = of_row w b (by_appup Up a b.vsn) (of_appup Up a b.vsn h)
 
--- and going down, that of the release that is left.
+-- Going down, the appup of the application in the release that is left counts. Its versions are plain.
 of_other : (a b : RelupAppForm) → HasTexts b → IfSome (if_other a b) HasTexts
 of_other a b h = go (bytes_eq b.vsn a.vsn)
   where

@@ -64,7 +64,7 @@ AppupHasFault ups downs a p b =
     EntriesHaveFault Up ups a p b
     ⊎ ((es : List AppupEntryForm) × IsPlain p.ups (asked a ups) es × EntriesHaveFault Down downs a p b)
 
--- the same of an application, which may have no appup
+-- an application's plain appup, where it has an appup; no plain one where it has none
 abbrev pub IsPlainAppupOf : RelupAppForm → List RelupReleaseForm → List RelupReleaseForm → Option AppupForm → Type 0
 IsPlainAppupOf a ups downs None = a.appup ≡ None
 IsPlainAppupOf a ups downs (Some q) = IsSomeAnd a.appup (λ p. IsPlainAppup a ups downs p q)

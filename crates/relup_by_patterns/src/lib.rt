@@ -6,8 +6,8 @@
 //! the order of the other releases. [`make_relup_by_patterns`] then makes the relup by `make_relup`: it is the translation of the
 //! plain release, and each refusal is such a pattern or the translation's.
 //!
-//! The functions of `laws` say that the translation of a plain release never ends at a regular expression, and that each version
-//! which another release has of an application is asked.
+//! The functions of `laws` say that the translation of a plain release never ends at a regular expression, that each version which
+//! another release has of an application is asked, and that a plain release has names and versions where the release has.
 //!
 //! Only tested: that a relup is made where memory is there. Trusted: the toolchain and what `appup_match` trusts.
 #![tactic(auto)]

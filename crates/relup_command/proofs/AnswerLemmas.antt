@@ -35,7 +35,7 @@ fault_answered source new ups downs why text known reported (all, there, refuses
     let (f, is, says) = says_fault _ why known refuses in
     (all, there, ap Ok (reported f says ∙ ap translation_lines (sym is)))
 
--- The relup that was made is the one that is read back,
+-- The relup that was made is the one that is read back.
 pub made_read_back : (source : Source) (new : List ℕ) (ups downs : List (List ℕ)) (made : RelupForm) (text : List ℕ)
     → (IsRelup made → IsWithin 64 (relup_term made) → AnswersFile text made) → text ≡ relup_lines made → IsMadeOf source new ups downs made
     → AnswersMadeRelup source new ups downs text
@@ -49,7 +49,7 @@ made_read_back source new ups downs made text read lines (all, there, is) = reco
       subst (λ r. IsWithin 64 (relup_term r) → AnswersFile text r) same (read (made_relups_are_named source new ups downs made (all, there, is))) within;
 }
 
--- and where there is a fault, none is made.
+-- Where there is a fault, no relup is made that could be read back.
 pub fault_read_back : (source : Source) (new : List ℕ) (ups downs : List (List ℕ)) (why : TranslateError) (text : List ℕ) → why ≢ NoMemory
     → ((f : FaultForm) → Says why f → text ≡ fault_line f) → IsRefusalOf source new ups downs (Appups why) → AnswersMadeRelup source new ups downs text
 fault_read_back source new ups downs why text known line (all, there, refuses) =

@@ -25,7 +25,7 @@ use Rattle.relup_translate.specs.WellFormed.{IsWellFormedApp, IsWellFormedReleas
 use Rattle.relup_translate.proofs.NameLemmas as translation
 use Rattle.relup_row.proofs.ListLemmas.{trivially}
 use Rattle.relup_command.specs.Appups.{AppupAt, WithAppup, with_appup}
-use Rattle.relup_command.specs.Laws.{MadeRelupsAreNamed}
+use Rattle.relup_command.specs.Laws.{AreWellFormed, ReadReleasesAreWellFormed, MadeRelupsAreNamed}
 use Rattle.relup_command.specs.Releases.{Releases, RelupAppAt, RelupReleaseAt, WithAppups, relup_app, relup_release}
 use Rattle.relup_command.proofs.RelupLines.{entries_all}
 
@@ -33,11 +33,11 @@ use Rattle.relup_command.proofs.RelupLines.{entries_all}
 abbrev Gives : {X : Type 0} → Outcome X → (X → Type 0) → Type 0
 Gives {X} P G = (x : X) → P (Ok x) → G x
 
--- A value that has G is one,
+-- Where the outcome is a value that has G, each value that may be the outcome has it.
 gives_value : {X : Type 0} (G : X → Type 0) (x : X) → G x → Gives (λ r. r ≡ Ok x) G
 gives_value G x h y e = let same : x ≡ y = cc in subst G same h
 
--- also after a test.
+-- Where the outcome is refused by a test or is a value that has G, each value that may be the outcome has it.
 gives_tested : {X : Type 0} (G : X → Type 0) (x : X) (why : Refusal) (b : Bool) → (b ≡ true → G x)
     → Gives (λ r. r ≡ (if b then Ok x else Err why)) G
 gives_tested G x why true h y e = gives_value G x (h refl) y e
@@ -62,7 +62,7 @@ gives_said : {X : Type 0} (form : Form X) (source : Source) (path : List ℕ)
     → Gives (FileSays form source path) (λ x. (bytes : List ℕ) × form.says bytes x)
 gives_said form source path x (bytes, reads, says) = (bytes, says)
 
--- The applications of a release have names and versions,
+-- An application has a name and a version.
 abbrev IsNamed : Application → Type 0
 IsNamed a = IsName a.name × IsVersion a.vsn
 
@@ -72,7 +72,7 @@ named_applications vs [] are versions = tt
 named_applications [] (a ∷ apps) are versions = absurd are
 named_applications (v ∷ vs) (a ∷ apps) (is, are) (version, versions) = ((is.name, version), named_applications vs apps are versions)
 
--- and it has a version itself.
+-- A release has a version, and its applications have names and versions.
 abbrev HasNames : Found → Type 0
 HasNames f = IsVersion f.release.vsn × AllByRecursion IsNamed f.release.apps
 
@@ -150,13 +150,14 @@ gives_with_appups source r of =
     (λ apps are. let both = whole_apps apps are in gives_value IsWholeRelease (whole apps) ((of.0, both.0), both.1))
 
 -- The releases of a request are well formed, so that their relup is one that a file can say.
-abbrev AreWellFormed : Releases → Type 0
-AreWellFormed all = IsWholeRelease all.new × AllByRecursion IsWellFormedRelease all.ups × AllByRecursion IsWellFormedRelease all.downs
-
-pub made_relups_are_named : (source : Source) → MadeRelupsAreNamed source
-made_relups_are_named source new ups downs relup (all, (release, at_new, (lower, at_ups, (back, at_downs, (whole, at_whole, is)))), made) =
+pub read_releases_are_well_formed : (source : Source) → ReadReleasesAreWellFormed source
+read_releases_are_well_formed source new ups downs all (release, at_new, (lower, at_ups, (back, at_downs, (whole, at_whole, is)))) =
     let here : Releases = record { new = whole; ups = lower; downs = back } in
     let same : here ≡ all = cc in
     let of_whole = gives_with_appups source release (gives_relup_release source new release at_new) whole at_whole in
-    let of : AreWellFormed all = subst AreWellFormed same (of_whole, gives_releases source ups lower at_ups, gives_releases source downs back at_downs) in
-    translation.made_relups_are_named all.new all.ups all.downs relup of.0.0 of.0.1 of.1 of.2 made
+    subst AreWellFormed same (record { new = of_whole.0; appups = of_whole.1; ups = gives_releases source ups lower at_ups; downs = gives_releases source downs back at_downs })
+
+pub made_relups_are_named : (source : Source) → MadeRelupsAreNamed source
+made_relups_are_named source new ups downs relup (all, there, made) =
+    let of = read_releases_are_well_formed source new ups downs all there in
+    translation.made_relups_are_named all.new all.ups all.downs relup of.new of.appups of.ups of.downs made

@@ -8,7 +8,7 @@
 //!
 //! [`read_releases`] gives the releases alone, for other translations.
 //!
-//! The law of `laws` says that a relup that is made has names and versions, whatever the files say.
+//! The laws of `laws` say that releases that are read, and a relup that is made, have names and versions, whatever the files say.
 //!
 //! Only tested: that files are read where memory is there. Trusted: the toolchain and `thiserror`.
 #![tactic(auto)]

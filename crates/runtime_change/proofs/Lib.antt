@@ -1,3 +1,4 @@
 pub mod EntryLemmas
 pub mod ScriptLemmas
 pub mod LawLemmas
+pub mod NameLemmas

@@ -5,11 +5,13 @@ use Rattle.relup_instruction.specs.declared.instruction.Direction.{Direction}
 use Rattle.relup_instruction.specs.declared.instruction.Direction.TheVariants.{Up, Down}
 use Rattle.relup_instruction.specs.Instruction.{Instruction}
 use Rattle.relup_instruction.specs.Instruction.Instruction.{restart_new_emulator, restart_emulator}
-use Rattle.relup_file.specs.Relup.{EntryForm}
+use Rattle.relup_file.specs.Form.{IsRelup}
+use Rattle.relup_file.specs.Relup.{EntryForm, RelupForm}
 use Rattle.relup_file.specs.Script.{script_fault, split_point}
 use Rattle.relup_file.specs.declared.script_fault.ScriptFault.TheVariants.{Unsupported}
 use Rattle.relup_row.specs.Release.{RelupReleaseForm}
 use Rattle.relup_translate.specs.Translation.{translation}
+use Rattle.relup_translate.specs.WellFormed.{IsWellFormedRelease, HasWellFormedAppups}
 use Rattle.runtime_change.specs.Runtime.{changes_runtime, is_restart}
 use Rattle.runtime_change.specs.Settled.{settled}
 use Rattle.runtime_change.specs.Relup.{entry_between, relup_over_runtimes}
@@ -44,3 +46,9 @@ EndsAnew = (asked : Bool) (d : Direction) (new other : RelupReleaseForm) (e : En
 abbrev pub IsRefusedByNodes : Type 0
 IsRefusedByNodes = (rest before after : List Instruction) → split_point rest ≡ Some (before, after) → split_point after ≡ None
     → script_fault (restart_new_emulator ∷ rest) ≡ Some (Unsupported 1)
+
+-- The names in a made relup are names, its versions are versions, and no script is empty, where it is so of what it is made of.
+abbrev pub MadeRelupsAreNamed : Type 0
+MadeRelupsAreNamed = (asked : Bool) (new : RelupReleaseForm) (ups downs : List RelupReleaseForm) (r : RelupForm)
+    → IsWellFormedRelease new → HasWellFormedAppups new → AllByRecursion IsWellFormedRelease ups → AllByRecursion IsWellFormedRelease downs
+    → relup_over_runtimes asked new ups downs ≡ Ok r → IsRelup r

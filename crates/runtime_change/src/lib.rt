@@ -6,8 +6,8 @@
 //! `restart_emulator`. A restart can also be asked for at each end. [`make_relup_over_runtimes`] makes such a relup, or gives the
 //! first fault of the translation (clauses `made`, `refused`).
 //!
-//! The functions of `laws` say that a relup without such a way is the translation's, where restarts stand in its scripts, and that a
-//! node refuses a script that begins with another runtime system.
+//! The functions of `laws` say that a relup without such a way is the translation's, where restarts stand in its scripts, that a
+//! node refuses a script that begins with another runtime system, and that a relup has names and versions where its releases have.
 //!
 //! Only tested: that a relup is made where memory is there. Trusted: the toolchain alone.
 #![tactic(auto)]
