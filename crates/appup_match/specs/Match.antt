@@ -37,11 +37,11 @@ is_whole vsn (Some s) = (s.0 == 0) && (s.1 == length vsn)
 abbrev pub matches_whole : List ℕ → Re → Bool
 matches_whole vsn re = is_whole vsn (option_map span (find_str re vsn 0))
 
--- the same of the text of a pattern; None where it is none
+-- whether the first match of a pattern's text is the whole version; None where the text is no pattern
 abbrev pub text_verdict : List ℕ → List ℕ → Option Bool
 text_verdict vsn bs = option_map (matches_whole vsn) (regular_expression bs)
 
--- the same, and None too where the pattern has two readings
+-- whether the first match of a pattern is the whole version; None where it is no pattern, or has two readings
 abbrev pub pattern_verdict : List ℕ → List ℕ → Option Bool
 pattern_verdict vsn bs = if is_ambiguous bs then None else text_verdict vsn bs
 
@@ -71,7 +71,7 @@ PatternHas NoPattern bs = (is_ambiguous bs ≡ false) × (regular_expression bs 
 PatternHas Ambiguous bs = is_ambiguous bs ≡ true
 PatternHas TooBig bs = (is_ambiguous bs ≡ false) × IsSome (regular_expression bs)
 
--- the same of the version of an entry
+-- the fault of the pattern that an entry's version is; a text has none
 abbrev pub VersionHas : PatternFault → VersionForm → Type 0
 VersionHas f (text s) = ⊥
 VersionHas f (pattern bs) = PatternHas f bs
@@ -88,17 +88,17 @@ Refuses vsn es NoEntry = entry_matching vsn es ≡ Err no_entry
 Refuses vsn es (BadPattern place f) = ComesToFault f vsn es place
 Refuses vsn es NoMemory = Unit {0}
 
--- the same of one version
+-- what an error says of the version of an entry; out of memory says nothing of it
 abbrev pub RefusesVersion : VersionForm → NoVerdict → Type 0
 RefusesVersion v (no_verdict.Pattern f) = VersionHas f v
 RefusesVersion v no_verdict.NoMemory = Unit {0}
 
--- the same of a pattern
+-- what an error says of a pattern; out of memory says nothing of it
 abbrev pub RefusesPattern : List ℕ → NoVerdict → Type 0
 RefusesPattern bs (no_verdict.Pattern f) = PatternHas f bs
 RefusesPattern bs no_verdict.NoMemory = Unit {0}
 
--- the same of a text that has one reading
+-- what an error says of the text of a pattern that has one reading; out of memory says nothing of it
 abbrev pub RefusesText : List ℕ → NoVerdict → Type 0
 RefusesText bs (no_verdict.Pattern NoPattern) = regular_expression bs ≡ None
 RefusesText bs (no_verdict.Pattern Ambiguous) = ⊥

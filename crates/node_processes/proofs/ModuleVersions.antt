@@ -59,7 +59,7 @@ beginning_versions : (tables : Tables) → HaveTableVersions tables → (ps : Li
 beginning_versions tables versions ps = each_flat BeginsVersion (part_beginnings tables) (λ p.
     each_image BeginsVersion StartsVersion (beginning_of p.library.app.name) (λ s version. version) (part_starts tables p) (start_versions tables versions p.library.app.top)) ps
 
--- so do the processes right after a boot
+-- The processes right after a boot have versions of files.
 first_version : (o : Option Beginning) → OrNone BeginsVersion o → HasModuleVersion (first_value o)
 first_version None version n is = absurd cc
 first_version (Some b) version n is = begun_version b n version is
@@ -226,7 +226,7 @@ not_ended : (early : Bool) (n : ℕ) (c : Cause) (r : Run) → fails_at early n 
 not_ended true n c r is = cc
 not_ended false n c r is = cc
 
--- so does a script that was carried out
+-- After a script that was carried out, processes and modules have versions of files.
 ended_run_versions : (s : Site) (early : Bool) (n : ℕ) (is : List Instruction) (r q : Run) → AreWithLibraries s.releases → RunVersions r → outcome_from s early n is r ≡ ends q → RunVersions q
 ended_run_versions s early n [] r q libraries v e = let same : r ≡ q = cc in subst RunVersions same v
 ended_run_versions s early n (i ∷ is) r q libraries v e =

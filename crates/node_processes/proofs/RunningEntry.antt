@@ -7,7 +7,7 @@ use Rattle.rel_list.specs.Status.{is_current, is_permanent}
 use Rattle.rel_records.proofs.EachRelease.{each-found}
 use Rattle.node_processes.specs.Fresh.{running_entry}
 
--- so it has what each of them has
+-- The release that runs is one of the list: what holds of each holds of it.
 pub running_found : (P : Entry → Type 0) (es : Releases) (e : Entry) → AllByRecursion P es → running_entry es ≡ Some e → P e
 running_found P es e all is = go (find (λ (f : Entry). is_current f.status) es) refl is
   where

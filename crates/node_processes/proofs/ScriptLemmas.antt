@@ -103,7 +103,7 @@ module _ (f g : Values) (same : Alike f g) where
   room_alike : (cs : Courses) → room_in f cs ≡ room_in g cs
   room_alike cs = rounds_alike (round_in f cs) (round_in g cs) slots (round_alike cs)
 
-  -- so does the end of a process
+  -- Values that are alike give the same courses after the end of a process.
   ended_once : (pid : Pid) (cs : Courses) → ended_at f pid cs ≡ ended_at g pid cs
   ended_once pid cs = λ j p. at p (p == pid.slot) refl j
     where

@@ -27,7 +27,7 @@ value_there v p inside = get_or-map-range_with_len (value_of v) 0 slots p p noth
 pub same_value : (v w : View) (p : ℕ) → p < slots → values_in v ≡ values_in w → value_of v p ≡ value_of w p
 same_value v w p inside same = sym (value_there v p inside) ∙ (ap (λ vs. get_or vs p nothing) same ∙ value_there w p inside)
 
--- those of so many slots
+-- the values of so many slots, the lowest ones
 abbrev pub first_of : View → ℕ → List Value
 first_of v n = map (value_of v) (range_with_len 0 n)
 

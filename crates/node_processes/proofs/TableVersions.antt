@@ -114,7 +114,7 @@ library_versions : (ls : List Library) (name : List ℕ) → AllByRecursion IsLi
 library_versions [] name all = tt
 library_versions (l ∷ ls) name all = either_module (modules_of ls name) _ (library_versions ls name all.1) (module_versions l.app l.app.modules l.tables name all.0.tables)
 
--- so do those that are loaded in place of others
+-- Modules have versions of files still after one with such a version was loaded, in place of another or not.
 pub put_version : (name : List ℕ) (m : Module) (ms : NamedModules) → HasVersion m → AllByRecursion HasNamedVersion ms → AllByRecursion HasNamedVersion (insert_entry (slice_cmp nat_cmp) ms name m)
 put_version name m [] version all = (version, tt)
 put_version name m (k ∷ ks) version all = by (slice_cmp nat_cmp name k.0) (put_version name m ks version all.1)
@@ -141,7 +141,7 @@ listed_versions before (l ∷ ls) all are =
     listed_versions (loaded_behind before (named_modules l.app l.app.modules l.tables)) ls
     (loaded_versions before (named_modules l.app l.app.modules l.tables) all (named_versions l.app l.app.modules l.tables are.0.tables)) are.1
 
--- so do all tables of libraries
+-- The tables of libraries have versions of files.
 abbrev pub HaveTableVersions : Tables → Type 0
 HaveTableVersions tables = (name : List ℕ) → HasTableVersion (tables name)
 
@@ -152,7 +152,7 @@ module_table (Some m) version = version
 pub table_versions : (ls : List Library) → AllByRecursion IsLibrary ls → HaveTableVersions (tables_in ls)
 table_versions ls all name = module_table (modules_of ls name) (library_versions ls name all)
 
--- and what starts with such tables
+-- A process is started with a table that has a version of files.
 abbrev pub StartsVersion : Start → Type 0
 StartsVersion s = IsVersion s.table.vsn
 

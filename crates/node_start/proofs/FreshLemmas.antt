@@ -57,7 +57,7 @@ get_none : (bs : List Beginning) → slice_get bs (length bs) ≡ None
 get_none [] = refl
 get_none (b ∷ bs) = get_none bs
 
--- its history, where nothing had happened in its slot
+-- the history of a process that began, where nothing had happened in its slot
 history_there : (bs : List Beginning) (b : Beginning) (v u : View) (pid : Pid) → HaveBegun bs v → BeganLowest b v (Ok pid) u
     → pid.slot ≡ length bs → pid.round ≡ 1 → seen u pid.slot ≡ entry 0 (begin 1 b) ∷ []
 history_there bs b v u pid so_far (lowest, began) slot round =

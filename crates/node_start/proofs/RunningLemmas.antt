@@ -37,7 +37,7 @@ either_mapped : (a b : Option ListedRelease) → option_or (option_map entry_of 
 either_mapped None b = refl
 either_mapped (Some l) b = refl
 
--- it is the one that is found
+-- The release that runs is the one that is found.
 pub running_is : (ls : List ListedRelease) (es : Releases) (found : Option ListedRelease) → map entry_of ls ≡ es → found ≡ first_running ls
     → running_entry es ≡ option_map entry_of found
 running_is ls es found same is =
@@ -58,7 +58,7 @@ startable_so as' rcs l es apps libraries all is =
     × AreDistinct (map (λ (a : Application). a.name) (map application_of l.release.apps.items))) (sym libraries)
     (startable.complete.libraries, startable.complete.faultless, startable.distinct))
 
--- so much begins with it
+-- What begins with the release that runs is what begins afresh with the list.
 pub begins_behind : (as' : List RelApp) (rcs : List (Rc declared.Library Global)) (l : ListedRelease) (es : Releases) → as' ≡ l.release.apps.items → rcs ≡ l.libraries.items
     → running_entry es ≡ Some (entry_of l) → release_beginnings (map application_of as') (map shared_of rcs) ≡ fresh_beginnings es
 begins_behind as' rcs l es apps libraries is = (λ i. release_beginnings (map application_of (apps i)) (map shared_of (libraries i))) ∙ sym (ap entry_beginnings is)

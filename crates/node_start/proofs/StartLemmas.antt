@@ -45,7 +45,7 @@ pub begin_lends_none : (app : List ℕ) (s : Start) (v u : View) (p : StartedPro
 begin_lends_none app s v u p (lowest, began) =
     (elsewhere_left p.pid.slot _ began.1 u began.6).lent ∙ (since p.pid.slot v began.0 began.1 began.2).elsewhere.lent
 
--- so do all that an application starts, and each takes one of the free slots
+-- All processes that an application starts leave the passes that were lent, and each takes one of the free slots.
 pub begins_in_order : (app : List ℕ) (ss : List Start) (v w : View) (ps : List StartedProcess) → BeganInOrder app ss v ps w
     → (w.lent ≡ v.lent) × (free_count v ≡ free_count w + length ss)
 begins_in_order app [] v w [] is = (ap (λ (z : View). z.lent) is, let same : free_count w ≡ free_count v = ap free_count is in omega (arith, same))
@@ -77,7 +77,7 @@ differ a b apart = go (bytes_eq a b) refl
     go true is = absurd (apart ((bytes_eq-Decides a b).0 is))
     go false is = refl
 
--- those that are left aren't started either, since no name stands twice
+-- The applications that are left aren't started either, since no name stands twice.
 still_new : (ps : List Part) (apps : List App) (a : App) → AllByRecursion (IsNew apps) ps → (Contains (map part_name ps) a.name → ⊥) → AllByRecursion (IsNew (apps ++ a ∷ [])) ps
 still_new [] apps a all apart = tt
 still_new (p ∷ ps) apps a all apart = (
@@ -194,14 +194,14 @@ module _ (as' : List RelApp) (rcs : List (Rc declared.Library Global)) (k : ℕ)
       (let same = length-map rcs shared_of in omega (arith, within, same))
       (get_or-map application_of as' k a ∙ ap application_of (sym at)) (get_or-map shared_of rcs k rc ∙ ap shared_of (sym there)) starts
 
-  -- nothing is wrong with the application
+  -- Nothing is wrong with the application in this place, where nothing is wrong with those that are left.
   pub sound_here : (tables : Tables) (l : declared.Library) → l ≡ rc.value → is_started a.start ≡ true → AllByRecursion (HasNoFault tables) (left_from as' rcs k)
       → app_fault tables (specification_of l.app).top ≡ None
   sound_here tables l is starts sound =
       subst (λ (m : declared.Library). app_fault tables (specification_of m.app).top ≡ None) (sym is)
       (subst (AllByRecursion (HasNoFault tables)) (from_here true starts) sound).0
 
-  -- nor with those that are left
+  -- Nothing is wrong with the applications that are left after this place.
   pub sound_later : (tables : Tables) (b : Bool) → is_started a.start ≡ b → AllByRecursion (HasNoFault tables) (left_from as' rcs k) → AllByRecursion (HasNoFault tables) (left_from as' rcs (k + 1))
   sound_later tables b starts sound = go b (subst (AllByRecursion (HasNoFault tables)) (from_here b starts) sound)
     where
@@ -240,7 +240,7 @@ all_take [] v (m ∷ ms) w began = absurd began
 all_take (p ∷ ps) v [] w began = absurd began
 all_take (p ∷ ps) v (m ∷ ms) w (u, first, later) = one_takes p.process ps p.member v m u w first (all_take ps u ms w later)
 
--- there are slots for the first of those that are left, and room
+-- There are slots for the first of the applications that are left, and room.
 pub first_fits : (left rest : List NewApp) (n : NewApp) (free : ℕ) → left ≡ n ∷ rest → number_to_begin left ≤ free → AllByRecursion HasRoom left
     → (length (to_begin n.prepared.items) ≤ free) × HasRoom n
 first_fits left rest n free split few room =
@@ -249,7 +249,7 @@ first_fits left rest n free split few room =
     let whole = ap number_to_begin split in
     (omega (arith, few, whole, sum), all.0)
 
--- and for the others, after it began
+-- There are slots for the other applications that are left, and room, after the first of them began.
 pub others_fit : (left rest : List NewApp) (n : NewApp) (v : View) (a : App) (u : View) → left ≡ n ∷ rest → AppBegan n v a u → number_to_begin left ≤ free_count v → AllByRecursion HasRoom left
     → (number_to_begin rest ≤ free_count u) × AllByRecursion HasRoom rest
 others_fit left rest n v a u split began few room =

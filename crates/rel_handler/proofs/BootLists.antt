@@ -28,11 +28,11 @@ boots_or_not x es = elim (cases_Bool (has_one_shot es)) [
   | inr none ↦ inl (λ one. absurd (true≢false (sym one ∙ none)))
 ]
 
--- where there is no one-shot, a boot writes nothing
+-- Where there is no one-shot, a boot writes nothing.
 pub extent_of_none : (x : Extent) (es : Releases) → has_one_shot es ≡ false → booted_extent x es ≡ x
 extent_of_none x es none = ap (λ (b : Bool). if b then extent_after x (boot_size es) else x) none
 
--- and else a record
+-- Where there is a one-shot, a boot writes a record.
 pub extent_of_one : (x : Extent) (es : Releases) → has_one_shot es ≡ true → booted_extent x es ≡ extent_after x (boot_size es)
 extent_of_one x es one = ap (λ (b : Bool). if b then extent_after x (boot_size es) else x) one
 
@@ -51,14 +51,15 @@ module _ (es : Releases) (alone : has_one_shot es ≡ true → recorded es ≡ e
     | inr none ↦ extent_of_none x (recorded es) (none_recorded es none) ∙ sym (extent_of_none x es none)
   ]
 
--- so where there is room for the boot of the one, there is for that of the other
+-- Where there is room for the boot of a list, there is room for that of the list as records report it.
 pub space_recorded : (x : Extent) (es : Releases) → (has_one_shot es ≡ true → recorded es ≡ es) → HasBootSpace x es → HasBootSpace x (recorded es)
 space_recorded x es alone space one = elim (cases_Bool (has_one_shot es)) [
   | inl there ↦ subst (λ l. HasSpace x (boot_size l)) (sym (alone there)) (space there)
   | inr none ↦ absurd (true≢false (sym one ∙ none_recorded es none))
 ]
 
--- and where the other's, the one's
+-- Records report two lists alike. Where there is room for the boot of the one, as it is reported, there is room for the boot
+-- of the other, unless a release is current there beside a one-shot.
 pub space_of_recorded : (x : Extent) (es fs : Releases) → (has_one_shot fs ≡ true → recorded fs ≡ fs) → recorded es ≡ recorded fs → HasBootSpace x (recorded es) → HasBootSpace x fs
 space_of_recorded x es fs alone same space one = subst (λ l. HasSpace x (boot_size l)) (same ∙ alone one) (space (ap has_one_shot (same ∙ alone one) ∙ one))
 

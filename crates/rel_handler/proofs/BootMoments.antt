@@ -36,7 +36,7 @@ use Rattle.node_store.proofs.Lists.{list_after-push}
 pub extent_there : {D : Type 0} (v : Ghosts D) (disk : D) (h : NodeStore D) → IsOpened v disk h → extent_in h ≡ extent_of (v.seen disk)
 extent_there v disk h opened = sym (ap (λ bytes. extent_of bytes) (sym opened.only_read.same) ∙ settled_extent v.seen v.may_leave h.store opened.read.store)
 
--- and its store is of the format that these bytes give
+-- A handler was read from a disk: its store has the format that the bytes of the disk give.
 format_there : {D : Type 0} (v : Ghosts D) (disk : D) (h : NodeStore D) → IsOpened v disk h → format_of (v.seen disk) ≡ h.store.format
 format_there v disk h opened = ap (λ bytes. format_of bytes) (sym opened.only_read.same) ∙ sym opened.read.store.format
 
@@ -95,14 +95,14 @@ module _ {D : Type 0} (v : Ghosts D) (disk : D) (h : NodeStore D) (opened : IsOp
 
 -- What is read is what the bytes stand for, as records report it.
 module _ {D : Type 0} (v : Ghosts D) (disk : D) (h : NodeStore D) (opened : IsOpened v disk h) (es : Releases) (image : IsImageOf (v.seen disk) es) (only : list_in h ≡ recorded es) where
-  -- so the list after the boot is that of the bytes
+  -- The list after the boot is that of a boot of the bytes.
   pub boot_of : (new : NodeStore D) (dead : Bool) → IsBooted v h new → IsBootOf (v.seen disk) es (record { store = new.store; list = new.list; dead = dead })
   boot_of new dead is = record {
     list = is.list ∙ (ap booted only ∙ booted_recorded es image.list.alone);
     extent = is.extent ∙ ((λ i. booted_extent (extent_there v disk h opened i) (only i)) ∙ extent_recorded es image.list.alone (extent_of (v.seen disk)));
   }
 
-  -- and there is room for it
+  -- There is room for the record of the boot: where it is refused, that is for want of memory, or the device failed.
   pub record_lack : (e : BootError) → BootRecordRefused (extent_in h) (list_in h) e → IsLack e
   record_lack boot_error.NoMemory refused = inr refl
   record_lack (boot_error.BadRecord i) refused =
@@ -111,11 +111,11 @@ module _ {D : Type 0} (v : Ghosts D) (disk : D) (h : NodeStore D) (opened : IsOp
   record_lack (boot_error.Damaged at) refused = absurd refused
   record_lack boot_error.Device refused = absurd refused
 
-  -- a start record that is right was read as one
+  -- A start record that is right was read as one.
   pub right_there : IsStarted es (v.seen disk) → IsStarted (list_in h) (v.seen (disk_in h))
   right_there right = started_by es (list_in h) (v.seen disk) (v.seen (disk_in h)) (ap permanent only ∙ permanent-of_recorded es) (ap (λ l. start_bytes l) opened.only_read.same) right
 
-  -- and it is not written
+  -- A boot that writes no start record after the handler was read has written none since before it was read.
   pub writes_no_start : (new : D) → WritesNoStart v (list_in h) (disk_in h) new → WritesNoStart v es disk new
   writes_no_start new then = record {
     free = λ none. read_on v.seen v.may_leave v.moment v.left_since disk (disk_in h) new opened.only_read (then.free (ap has_one_shot only ∙ none_recorded es none));

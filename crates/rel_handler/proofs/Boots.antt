@@ -96,7 +96,7 @@ only_memory c bodies records es e same read image (inr (i, is, bad)) =
 version_short : (s : List ℕ) → IsVersion s → length s ≤ 62
 version_short s is = grind (arith, nat_tests)
 
--- so a slot has room for the text of a start
+-- A slot has room for the text of a start, whose versions are short.
 pub fits_in_a_slot : (r : Release) → HasVersions r → length (start_text r) ≤ 127
 fits_in_a_slot r versions =
     let erts = version_short r.erts versions.erts in

@@ -23,7 +23,7 @@ module _ {D : Type 0} (v : Ghosts D) (old now : D) (read : HasOnlyRead v.seen v.
   not_begun : v.syncs now ≡ v.syncs old → (k : EventLog) → Begins v k old now
   not_begun unsynced k = inl (record { until = weakened v.moment v.left_since old now (v.may_leave old) (IsTornFrom (v.may_leave old) 0 1) (λ c left. inl left) read.any_moment; unsynced = unsynced })
 
-  -- so no node was made
+  -- Without a sync no node was made.
   pub not_made_of : v.syncs now ≡ v.syncs old → (source : Source) (path : List ℕ) (b : Brought) → Brings source path (Ok b) → (why e : HandlerError) → IsReportedAs (own_refusal b) why
       → IsExistingOr why (v.seen old) (v.failures old) (v.failures now) e → NodeCreationRefused v source path old now e
   not_made_of unsynced source path b brings why e of (inl (is, there)) = inr (inr (record {

@@ -137,13 +137,13 @@ module _ {D : Type 0} (failures : D → ℕ) (vsn : List ℕ) (h : NodeStore D) 
   no_upgrade n (MustReboot f) same barred = absurd barred
 
   module _ (mid : NodeStore D) (same : IsSame h mid) (u : UpgradeForm) (is : IsUpgrade vsn (list_in h) u) where
-    -- there is no room for its record
+    -- There is no room for the record of the installation.
     pub no_room_for : (n : NodeState) (why : HandlerError) → IsUntouched n n → HasNoRoom (extent_in h) (install_room vsn (list_in h)) why → InstallRefused failures vsn h mid n n (Command why)
     no_room_for n Full untouched lacks = (alive, (u, is), lacks, (same, untouched))
     no_room_for n NoMemory untouched lacks = (alive, inl refl, (same, untouched))
     no_room_for n why untouched lacks = absurd lacks
 
-    -- it isn't carried out to its end
+    -- The script isn't carried out to its end.
     pub not_run : (old new : NodeState) (error : InstallError) → HasSpace (extent_in h) (install_room vsn (list_in h)) → RunRefused u old new error
         → InstallRefused failures vsn h (record { store = mid.store; list = mid.list; dead = must_boot error }) old new error
     not_run old new (Command NoMemory) space (lacks, untouched) =

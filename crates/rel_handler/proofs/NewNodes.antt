@@ -41,7 +41,7 @@ first_record format p body fits spelled = record {
   alone = none_beside (entry p Permanent ∷ []) refl;
 }
 
--- and so it is in a new node
+-- In a new node, a slot with the start text of its only release has the start record of the permanent release.
 pub started_new : (p : Bundle) (start c : List ℕ) → HasVersions p.release → start ≡ start_text p.release → start_bytes c ≡ slot_with start → IsStarted (entry p Permanent ∷ []) c
 started_new p start c versions is slot =
     started_by_text (entry p Permanent ∷ []) p.release (start_of_release p.release) c (versions.erts, versions.own) refl refl (slot ∙ ap slot_with is)

@@ -59,7 +59,7 @@ module _ {D : Type 0} (v : Ghosts D) (h : NodeStore D) (ready : IsReady v.seen v
     far : extent_after (extent_in h) (length body) ≡ booted_extent (extent_in h) (list_in h)
     far = ap (extent_after (extent_in h)) long ∙ sym (extent_of_one (extent_in h) (list_in h) one)
 
-    -- there is space for it
+    -- There is space for the record of the boot.
     pub fits_reserved : store.Fits (store.end_in reserved) (length body)
     fits_reserved = subst (λ e. store.Fits e (length body)) (sym same.end) (subst (λ n. HasSpace (extent_in h) n) (sym long) (ready.room one))
 

@@ -44,13 +44,13 @@ none_permanent (e ∷ es) none = go (is_permanent e.status) (none_permanent es) 
     go true rest none = cc
     go false rest none = rest none
 
--- so a list with exactly one has a permanent release
+-- A list with exactly one permanent release has a permanent release.
 pub one_is_permanent : (es : Releases) → has_one_permanent es ≡ true → permanent es ≡ None → ⊥
 one_is_permanent es one none =
     let no_entry = none_permanent es none in
     true≢false (sym one ∙ ap (λ n. n == 1) no_entry)
 
--- its versions are texts of versions where those of all releases are
+-- The versions of the permanent release are texts of versions, where those of all releases are.
 pub permanent_versions : (es : Releases) (r : Release) → HaveVersions es → permanent es ≡ Some r → HasVersions r
 permanent_versions [] r all is = cc
 permanent_versions (e ∷ es) r all is = go (is_permanent e.status) (permanent_versions es r all.1) is
@@ -122,7 +122,7 @@ module _ {D : Type 0} (v : Ghosts D) (h mid : NodeStore D) (ready : IsReady v.se
             subst (λ bytes. LeavesOthers (IsInBootRecord bytes (list_in h)) bytes c) read.only_read.same
             (subst (λ es. LeavesOthers (IsInBootRecord (v.seen (disk_in mid)) es) (v.seen (disk_in mid)) c) read.list kept)
 
-    -- or why it isn't
+    -- Why a boot didn't come to its end, from before the start record was read, where that holds from after it.
     pub refused_then : (e : BootError) → FinishRefused v mid then e → FinishRefused v h then e
     refused_then boot.Device refused = failed_since _ _ _ read.counted leaves.counted refused
     refused_then boot.NoMemory refused = read_on v.seen v.may_leave v.moment v.left_since (disk_in h) (disk_in mid) (disk_in then) read.only_read refused

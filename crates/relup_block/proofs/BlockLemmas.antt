@@ -24,12 +24,12 @@ abbrev conversion : Direction → List ChangeForm → Instruction
 conversion d cs = code_change (record { mode = Some d; changes = cs })
 
 module _ {A : Type 0} (f : Instruction → List A) where
-  -- loads of which it makes nothing
+  -- The function makes nothing of a list of loads, where it makes nothing of each load.
   of_loads : ((p : PurgingForm) → f (load p) ≡ []) → (xs : List BlockItemForm) → flat_map f (loading xs) ≡ []
   of_loads none [] = refl
   of_loads none (x ∷ xs) = (λ j. none (purging x) j ++ of_loads none xs j)
 
-  -- and a single instruction
+  -- The function makes nothing of a single instruction over a list, where it makes nothing of each of this kind.
   of_none : {B : Type 0} (g : List B → Instruction) → ((bs : List B) → f (g bs) ≡ []) → (bs : List B) → flat_map f (over g bs) ≡ []
   of_none g none [] = refl
   of_none g none (b ∷ bs) = ap (λ (as' : List A). as' ++ []) (none (b ∷ bs))

@@ -91,13 +91,13 @@ none_idle rule before (x ∷ after) ahead n e =
         ap (λ (b : Bool). if b then Some (x, before ++ (after ++ ahead)) else first_free rule (before ++ (x ∷ [])) (after ++ ahead)) free
         ∙ (more q ∙ ap (λ (ys : List BlockItemForm). first_free rule ys ahead) (append_assoc before (x ∷ []) after))
 
--- What the others wait for, without one of them.
+-- How many of several items an item waits for: as many as without one of them, and one more where it waits for that one.
 waits_middle : (rule : ChoiceRule) (x : BlockItemForm) (us : List BlockItemForm) (y : BlockItemForm) (vs : List BlockItemForm)
     → waits_among rule x (us ++ (y ∷ vs)) ≡ one_if (must_wait_for rule x y) + waits_among rule x (us ++ vs)
 waits_middle rule x [] y vs = refl
 waits_middle rule x (u ∷ us) y vs = let more = waits_middle rule x us y vs in omega (arith, more)
 
--- without one before them,
+-- Items were counted with one item more before them: when that one has come, they are counted as without it.
 behind_it : (rule : ChoiceRule) (us : List BlockItemForm) (y : BlockItemForm) (vs xs ahead : List BlockItemForm)
     → map (after_item rule y) (counted_behind rule (us ++ (y ∷ vs)) xs ahead) ≡ counted_behind rule (us ++ vs) xs ahead
 behind_it rule us y vs [] ahead = refl
@@ -110,7 +110,7 @@ behind_it rule us y vs (x ∷ xs) ahead =
     ∙ (behind_it rule us y (vs ++ (x ∷ [])) xs ahead ∙ ap (λ (ws : List BlockItemForm). counted_behind rule ws xs ahead) (sym (append_assoc us vs (x ∷ [])))) in
     (λ j. record { item = x; waits = own j } ∷ rest j)
 
--- and without the first one ahead
+-- Items were counted with one item more ahead of them: when that one has come, they are counted as without it.
 before_it : (rule : ChoiceRule) (before xs : List BlockItemForm) (y : BlockItemForm) (ahead : List BlockItemForm)
     → map (after_item rule y) (counted_behind rule before xs (y ∷ ahead)) ≡ counted_behind rule before xs ahead
 before_it rule before [] y ahead = refl

@@ -53,7 +53,7 @@ first_free rule before (x ∷ after) =
     if is_free rule x before && is_free rule x after then Some (x, before ++ after)
     else first_free rule (before ++ (x ∷ [])) after
 
--- or the first of all, where none is free
+-- the item that is chosen, and what remains without it: the free one that was found, or the first of all where none is free
 abbrev pub or_first : BlockItemForm → List BlockItemForm → Option (BlockItemForm × List BlockItemForm) → BlockItemForm × List BlockItemForm
 or_first x xs (Some p) = p
 or_first x xs None = (x, xs)

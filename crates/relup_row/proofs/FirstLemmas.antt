@@ -57,14 +57,14 @@ more_seen key seen more k m ms is put =
         ∙ one_more _ _
         ∙ ap (λ b. not b && is_new key seen n) (is_eq-slice_cmp k.now (key n) ∙ ap (λ s. bytes_eq s (key n)) is)
 
--- a mention of something new
+-- A mention of something new is the first one of it.
 pub new_first : (key : MentionForm → List ℕ) (seen more : Seen) (k : Bor (List ℕ)) (m : MentionForm) (ms : List MentionForm) → k.now ≡ key m
     → is_new key seen m ≡ true
     → Updates (λ (x y : Bor (List ℕ)). slice_cmp nat_cmp x.now y.now) seen more k true
     → new_firsts key seen (m ∷ ms) ≡ m ∷ new_firsts key more ms
 new_first key seen more k m ms is new put = rw (new) (ap (λ ns. m ∷ ns) (more_seen key seen more k m (firsts key ms) is put))
 
--- and of something that was seen
+-- A mention of something that was seen is not the first one of it.
 pub no_first : (key : MentionForm → List ℕ) (seen more : Seen) (k : Bor (List ℕ)) (m : MentionForm) (ms : List MentionForm) → k.now ≡ key m
     → is_new key seen m ≡ false
     → Updates (λ (x y : Bor (List ℕ)). slice_cmp nat_cmp x.now y.now) seen more k true

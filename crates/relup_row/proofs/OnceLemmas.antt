@@ -48,7 +48,7 @@ module _ (key : MentionForm → List ℕ) where
       go true more = ap (λ ks. key n ∷ ks) more
       go false more = more
 
-  -- are distinct,
+  -- The keys of first mentions are distinct.
   distinct_keys : (ms : List MentionForm) → IsDistinct bytes_eq (keys ms)
   unfolding IsDistinct
   distinct_keys [] = tt
@@ -60,7 +60,7 @@ module _ (key : MentionForm → List ℕ) where
       (recursion_from_All (Apart (key m)) _ (λ k d within. not-true (bytes_eq (key m) _) (passes k d within)))
       (distinct_some others (keys ms) (distinct_keys ms)))
 
-  -- and are those of all mentions.
+  -- The keys of first mentions are those of all mentions.
   same_keys : (ms : List MentionForm) (name : List ℕ) → is_among name (keys ms) ≡ is_among name (map key ms)
   same_keys [] name = refl
   same_keys (m ∷ ms) name =
@@ -95,7 +95,7 @@ module _ (app : List ℕ) where
   abbrev is_of_another : MentionForm → Bool
   is_of_another m = is_another app (app_of m)
 
-  -- have all modules of another application,
+  -- The mentions of other applications than this one have all modules that are mentioned of each of these others.
   modules_of_another : (other : List ℕ) → Apart app other → (ms : List MentionForm) → modules_in other (filter is_of_another ms) ≡ modules_in other ms
   modules_of_another other apart ms =
       ap (map module_of) (filter_both is_of_another has ms ∙ filter_agree _ has (λ m. both m (has m) refl) ms)
@@ -111,7 +111,7 @@ module _ (app : List ℕ) where
   modules_of_others ms [] apart = refl
   modules_of_others ms (a ∷ apps) apart = λ i. modules_of_another (app_of a) apart.0 ms i ++ modules_of_others ms apps apart.1 i
 
-  -- and they are of these others.
+  -- Of the mentions of this application and of others, those that aren't of this one are of the others.
   are_of_others : (names : List (List ℕ)) (ms : List MentionForm) → All (IsOf (app ∷ names)) ms → All (IsOf names) (filter is_of_another ms)
   are_of_others names ms of k d within =
       other (bytes_eq app _) _ (All-filter is_of_another (IsOf (app ∷ names)) ms of k d within) (filter_passes is_of_another ms k d within)

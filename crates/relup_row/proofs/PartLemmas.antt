@@ -39,7 +39,7 @@ at_end : (w : WayForm) (xs : List BlockItemForm) → flat_map (part_script w) (u
 at_end w [] = sym (empty_block w.direction)
 at_end w (x ∷ xs) = append-nil (block w.direction (x ∷ xs))
 
--- One instruction further, the block has one item more,
+-- One instruction further, the block has one item more.
 pub item_more : (w : WayForm) (xs now : List BlockItemForm) (x : BlockItemForm) (i : AppupInstruction) (rest : List AppupInstruction) (made all : List Instruction)
     → block_item i ≡ Some x → now ≡ xs ++ (x ∷ []) → made ++ flat_map (part_script w) (unfinished xs (parts (i ∷ rest))) ≡ all
     → made ++ flat_map (part_script w) (unfinished now (parts rest)) ≡ all
@@ -48,7 +48,7 @@ item_more w xs now x i rest made all is grown so_far =
     ∙ (ap (λ ps. made ++ flat_map (part_script w) ps) (one_more xs x (parts rest))
     ∙ (ap (λ o. made ++ flat_map (part_script w) (unfinished xs (put i o (parts rest)))) (sym is) ∙ so_far))
 
--- or it ends before a single instruction;
+-- One instruction further, the block has ended, before an instruction outside a block.
 pub single_more : (w : WayForm) (xs now : List BlockItemForm) (i : AppupInstruction) (rest : List AppupInstruction) (made mid new all : List Instruction)
     → block_item i ≡ None → now ≡ [] → mid ≡ made ++ block w.direction xs → new ≡ mid ++ single w i
     → made ++ flat_map (part_script w) (unfinished xs (parts (i ∷ rest))) ≡ all → new ++ flat_map (part_script w) (unfinished now (parts rest)) ≡ all
@@ -61,7 +61,7 @@ single_more w xs now i rest made mid new all is none first second so_far =
     ∙ (ap (λ is'. made ++ is') (sym (then_single w xs i (parts rest)))
     ∙ (ap (λ o. made ++ flat_map (part_script w) (unfinished xs (put i o (parts rest)))) (sym is) ∙ so_far)))))
 
--- and with the row it ends as well.
+-- At the end of the row the block has ended.
 pub none_more : (w : WayForm) (xs : List BlockItemForm) (left : List AppupInstruction) (made all : List Instruction)
     → left ≡ [] → made ++ flat_map (part_script w) (unfinished xs (parts left)) ≡ all → made ++ block w.direction xs ≡ all
 none_more w xs left made all none so_far =

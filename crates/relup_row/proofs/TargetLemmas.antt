@@ -12,7 +12,7 @@ use Rattle.relup_row.specs.Laws.{IsFetchFrom, FetchesFromTarget}
 use Rattle.relup_row.proofs.ListLemmas.{of_map, of_parts, of_options, trivially}
 use Rattle.relup_row.proofs.OnceLemmas.{of_firsts}
 
--- Each application is found by its name,
+-- The application is found among these by its name.
 abbrev pub IsFoundIn : List RelupAppForm → RelupAppForm → Type 0
 IsFoundIn apps a = find (λ (b : RelupAppForm). bytes_eq b.name a.name) apps ≡ Some a
 
@@ -22,7 +22,7 @@ behind x all [] other h = tt
 behind x all (y ∷ ys) other h =
     (ap (λ (b : Bool). cond b (Some x) (find (λ (b : RelupAppForm). bytes_eq b.name y.name) all)) other.0 ∙ h.0, behind x all ys other.1 h.1)
 
--- where all have names of their own.
+-- Each application is found by its name, where all have names of their own.
 pub all_found : (apps : List RelupAppForm) → IsDistinct bytes_eq (map (λ (a : RelupAppForm). a.name) apps) → AllByRecursion (IsFoundIn apps) apps
 all_found [] h = tt
 all_found (x ∷ xs) h =

@@ -42,11 +42,11 @@ is_some_found test (x ∷ xs) = go (test x) (is_some_found test xs)
 
 -- The modules that are loaded on a way
 module _ (w : WayForm) where
-  -- have an application in the target:
+  -- A module has an application in the target.
   abbrev HasOwner : List ℕ → Type 0
   HasOwner name = IsTrue (is_some (owner name w.target))
 
-  -- those of its applications,
+  -- The modules of the target's applications have an application in the target.
   apps_have_owners : All (λ (a : RelupAppForm). AllByRecursion HasOwner a.modules) w.target.apps
   apps_have_owners k d within =
       recursion_from_All HasOwner _
@@ -62,7 +62,7 @@ module _ (w : WayForm) where
       go None h = tt
       go (Some a) h = h
 
-  -- and those that an instruction without a fault loads.
+  -- A module that an instruction without a fault loads has an application in the target.
   has_owner : (name : List ℕ) → target_has_module w name ≡ None → HasOwner name
   has_owner name e = go (is_some (owner name w.target)) e
     where
@@ -102,7 +102,7 @@ module _ (w : WayForm) where
       mentioned_parts (AllByRecursion LoadsHaveOwners) (mentions w) (flat_map (loaded_by w))
       (λ is. mentioned_parts LoadsHaveOwners (mentions_by w) (loaded_by w) (λ i. mentioned_names (loaded_by w i)) is) rs h
 
--- A script fetches the modules that its rows load,
+-- A script fetches the modules that its rows load.
 module _ (w : WayForm) (rs : List (List AppupInstruction)) where
   abbrev loaded_names : List (List ℕ)
   loaded_names = flat_map (flat_map (loaded_by w)) rs
@@ -127,7 +127,7 @@ module _ (w : WayForm) (rs : List (List AppupInstruction)) where
       recursion_from_All IsFetched loaded_names
       (All-weaker (λ name. IsTrue (is_among name loaded_names)) IsFetched (loaded_fetched h) loaded_names (among_themselves loaded_names))
 
-  -- and it loads no others, where its rows have no load themselves.
+  -- Of the instructions that are made for rows, a `load` of a fetched module loads a fetched one, and the others load none.
   of_loads : HoldsOfMade (LoadsAmong script_fetches) IsFetched
   of_loads = record {
     suspends = λ ss. tt;

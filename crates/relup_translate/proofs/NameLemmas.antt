@@ -192,13 +192,13 @@ is_item (remove_application app) h = tt
 is_item (restart_application app) h = tt
 is_item (low_level i) h = tt
 
--- Parts with one item more are such parts,
+-- Parts with one item more have names that are names, where the parts and the item have.
 of_put_item : (x : BlockItemForm) (ps : List PartForm) → IsItem x → AllByRecursion IsPart ps → AllByRecursion IsPart (put_item x ps)
 of_put_item x [] is h = ((is, tt), tt)
 of_put_item x (a_block xs ∷ ps) is h = ((is, h.0), h.1)
 of_put_item x (a_single i ∷ ps) is h = ((is, tt), h)
 
--- and with one instruction more.
+-- Parts with one instruction more have names that are names, where the parts and the instruction have.
 of_put : (i : AppupInstruction) (o : Option BlockItemForm) (ps : List PartForm) → IsAppupInstruction i → IfSome o IsItem
     → AllByRecursion IsPart ps → AllByRecursion IsPart (put i o ps)
 of_put i (Some x) ps is item h = of_put_item x ps item h

@@ -66,7 +66,7 @@ finds_more (not_booted s) found finds = doubt_more s.known.acknowledged s.known.
 finds_more (running events extent ps) found finds = ([], finds ∙ sym (append-nil events))
 finds_more (dead s) found finds = doubt_more s.known.acknowledged s.known.in_doubt found finds
 
--- so do those after a reply
+-- The acknowledged events after a reply begin with those before it.
 keeps_more : (p : DiskState) (a : Reply) → ReplyKeepsEvents p a → (between : Events) × (acknowledged_at a.after ≡ acknowledged_at p ++ (between ++ a.outcome.acknowledged))
 keeps_more p a keeps =
     let (more, is) = finds_more p keeps.found keeps.finds in
@@ -155,7 +155,7 @@ stands_for p s image finds known ran of =
       start = has_start_since (ran_at p) s.known.ran of.events image ran of.start;
     }
 
--- and within a command
+-- what a crash leaves within a command
 stands_for_reached : (p : DiskState) (a : Reply) (more : List Reply) (k : EventLog) (image : List ℕ) → ((found : Events) → IsPrefix k found → StartsFromEvents p found) → BeginWith (acknowledged_at p) k.acknowledged → BeginWith (ran_at p) k.ran
     → StandsForPrefix k (events_of a.outcome) image → StandsForAll p (a ∷ more) image
 stands_for_reached p a more k image finds known ran of = record {
@@ -170,7 +170,7 @@ stands_for_reached p a more k image finds known ran of = record {
 }
 
 module _ {D : Type 0} (v : Device D) (laws : IsDevice v) where
-  -- each image where the disk stands
+  -- Each image that a crash may leave where the disk stands is of events that the disk may have there.
   held_images : (p : DiskState) (disk : D) → IsKnown p → DiskIsIn v p disk → (c : List ℕ) → v.may_leave disk c → StandsForAll p [] c
   held_images (unknown_bytes bytes) disk known holds c now = absurd known
   held_images (not_booted s) disk known holds c now = stands_for (not_booted s) s c (λ found is. is) (with_themselves s.known.acknowledged) (with_themselves s.known.ran) (holds c now)
@@ -178,7 +178,7 @@ module _ {D : Type 0} (v : Device D) (laws : IsDevice v) where
       stands_for (running events extent ps) (store_without_doubt events extent) c (λ found. ⊎_elim (λ is. is) (λ is. is)) (with_themselves events) (with_themselves events) (holds c now)
   held_images (dead s) disk known holds c now = stands_for (dead s) s c (λ found is. is) (with_themselves s.known.acknowledged) (with_themselves s.known.ran) (holds c now)
 
-  -- and at each moment of a command
+  -- Each image that a crash may leave at a moment of a command is of the events of a moment of the replies.
   command_images : (p : DiskState) (a : Reply) (more : List Reply) (old new : D) → IsKnown p → CrashSafeDuring v p a.outcome old new → LeavesOnly v old new (StandsForAll p (a ∷ more))
   command_images (unknown_bytes bytes) a more old new known moments = absurd known
   command_images (not_booted s) a more old new known moments =
@@ -191,7 +191,7 @@ module _ {D : Type 0} (v : Device D) (laws : IsDevice v) where
       weakened v old new (StandsForPrefix s.known (events_of a.outcome)) (StandsForAll (dead s) (a ∷ more))
       (λ c. stands_for_reached (dead s) a more s.known c (prefix_is s.known) (with_themselves s.known.acknowledged) (with_themselves s.known.ran)) moments
 
-  -- and so at each moment of a session
+  -- Each image that a crash may leave at a moment of a session is of the events of a moment of its replies.
   pub session_images : (base : Source) (files : Files) (p : DiskState) (commands : Feed Command) (ending : Ending) (replies : List Reply) (old new : D) → AreReplies base files p commands ending replies
       → IsKnown p → DiskIsIn v p old → CommandsRun v p replies old new → LeavesOnly v old new (StandsForAll p replies)
   session_images base files p commands ending [] old new right known holds (leaves, then, counted) =

@@ -205,7 +205,7 @@ files_line : (o : Option Refusal) → OrNone ReportsLine o → ReportsFilesLine 
 files_line None good = tt
 files_line (Some why) good = reported_line why good
 
--- its name is within a line
+-- The name of the library is within a line.
 abbrev IsLineName : Library → Type 0
 IsLineName l = is_one_line l.app.name ≡ true
 

@@ -167,7 +167,7 @@ plain_list e es = go (commanded e es) (of_command e es)
     go (Err handler_error.Dead) of = absurd of
     go (Err handler_error.Exists) of = absurd of
 
--- nor an installation
+-- Where the list refuses an event, the answer reports that nothing was done.
 plain_listed : (why : ListError) → report_of (refusal_line (refusal_of (list_refusal why))) ≡ nothing_done
 plain_listed list_error.NoSuchRelease = refl
 plain_listed list_error.ExistingRelease = refl

@@ -69,7 +69,7 @@ pub record Has (P : Reply → Type 0) : Type 0 where
   pub fair : IsFair given.after
   pub compact : LeavesCompactStore given.outcome.acknowledged given.after
 
--- so it is where the store is as short, whatever the events
+-- A command has left a compact store where the store is compact, whatever its events.
 leaves_compact : (events : Events) (p : DiskState) → IsCompact p → LeavesCompactStore events p
 leaves_compact [] p compact = λ r. compact
 leaves_compact (made b ∷ events) p compact = λ r. compact
@@ -112,7 +112,7 @@ commits events extent ps list c size P after done = by_list (commanded c (releas
     by_list (Err why) e = reported_reply _ _ _ refl (runs events extent ps list after)
     by_list (Ok grown) e = by_room grown e (fits_or_not extent size)
 
--- so short it is after a commit
+-- After a commit a store that reaches as far as a compaction leaves it is compact.
 stays_compact : (events : Events) (extent : Extent) (e : Event) (size : ℕ) → reach events extent e size ≡ compacted_extent (reach events extent e size) (releases_after (events ++ e ∷ []))
 stays_compact events extent e size = compacted_twice (extent_after extent size) (releases_after (events ++ e ∷ []))
 

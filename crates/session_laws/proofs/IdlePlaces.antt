@@ -52,15 +52,15 @@ IsFound (dead s) f = IsFoundIn s f
 abbrev pub Works : Reply → Type 0
 Works a = (a.outcome.failed ≡ false) × (a.answer ≢ boot_line boot_error.NoMemory)
 
--- no reply in which the device did not fail
+-- A reply that works is none in which the device failed.
 pub failure : {T : Type 0} (a x : Reply) → a ≡ x → x.outcome.failed ≡ true → Works a → T
 failure a x is failed works = let lost : true ≡ false = sym failed ∙ ap (λ (r : Reply). r.outcome.failed) (sym is) ∙ works.0 in absurd cc
 
--- nor one that isn't a want of memory
+-- A reply that works doesn't say that memory was refused to a boot.
 pub wanting : {T : Type 0} (a x : Reply) → a ≡ x → x.answer ≡ boot_line boot_error.NoMemory → Works a → T
 wanting a x is lacks works = absurd (works.1 (ap (λ (r : Reply). r.answer) is ∙ lacks))
 
--- nor a boot that was not done
+-- A reply that works is not that of a boot which was not done.
 pub undone_boot : {T : Type 0} (a : Reply) (lack : Lack) (q : DiskState) → a ≡ boot_undone lack q → Works a → T
 undone_boot a device_failed q is works = failure a _ is refl works
 undone_boot a memory_refused q is works = wanting a _ is refl works
@@ -100,7 +100,7 @@ boots_listed laws bytes list x a works (es, image, leads, reaches) (inl (events,
 boots_listed laws bytes list x a works (es, image, leads, reaches) (inr (inl (why, reported, is))) = absurd (laws.never_both bytes es why image reported)
 boots_listed laws bytes list x a works found (inr (inr (lack, torn, left, is))) = undone_boot a lack (unknown_bytes torn) is works
 
--- or one line says what is wrong with them.
+-- All reasons why a boot refuses the same bytes give one line.
 refused_once : (x : List ℕ) (why other : BootError) → IsBootRefusal x why → IsBootRefusal x other → boot_line why ≡ boot_line other
 refused_once x boot_error.NotAStore boot_error.NotAStore p q = refl
 refused_once x boot_error.NotAStore (boot_error.Damaged at) p q = cc (p, q)

@@ -240,11 +240,11 @@ module _ (exact : Bool) (a b : Reply) (both : Fine a b) where
   boots laws p q (both_idle r s f g here there near) is also = boots_found r s f g (both_idle r s f g here there near) near (boots_as laws r f a both.0 here is) (boots_as laws s g b both.1 there also)
   boots laws p q (both_run events others extent stop ps qs same near one) is also = stores_alike events others extent stop same near is also
 
--- replies after an event
+-- Two replies that are the same are the same after an event.
 behind_same : (exact : Bool) (e : Event) (x y : Reply) → Same exact x y → Same exact (after_commit e x) (after_commit e y)
 behind_same exact e x y (reported, outcomes, then) = (reported, ap (λ (o : CommandOutcome). (after_commit e (record { answer = []; outcome = o; after = x.after })).outcome) outcomes, then)
 
--- and after a line
+-- Two replies that are the same are the same with a line in front.
 with_text_same : (exact : Bool) (line : List ℕ) (x y : Reply) → Same exact x y → Same exact (with_text line x) (with_text line y)
 with_text_same exact line x y (reported, outcomes, then) = (ap (λ t. line ++ t) reported, outcomes, then)
 
@@ -470,7 +470,7 @@ never_goes_on base files p (next c rest) a b r more whole (quitting, end) right 
     go (does, inl comes, is) = comes
     go (does, inr (line, reports, same), is) = never_reports p line reports
 
--- it is asked of each reply
+-- Each of the replies is as is asked of one.
 abbrev pub AreAsked : Bool → List Reply → Type 0
 AreAsked exact [] = Unit {0}
 AreAsked exact (a ∷ more) = Asks exact a × AreAsked exact more
@@ -489,7 +489,7 @@ one_run laws exact base single files p q (next c rest) a b (r ∷ first) (s ∷ 
     let (end, same) = one_run laws exact base single (files_behind files c) r.after s.after rest a b first second then not_a not_b all all_too others others_too behind behind_too in
     (end, (reported, outcomes, same))
 
--- so it is where memory is refused to no compaction
+-- Each of the replies is as is asked of one, where memory was refused to no compaction and none reports that it was refused.
 asked_compact : (replies : List Reply) → LeaveCompactStores replies → NoneLacksMemory replies → AreAsked true replies
 asked_compact [] small had = tt
 asked_compact (a ∷ more) (small, rest) (here, later) = ((λ sure. small, (λ (never : true ≡ false). absurd cc), here), asked_compact more rest later)

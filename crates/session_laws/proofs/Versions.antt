@@ -106,7 +106,7 @@ own_versions booting es end of all is = let same : booted es ≡ end = cc in sub
 step_versions : (e : Event) (es end : Releases) → OfEvent e → AreFromFiles es → step e es ≡ Some end → AreFromFiles end
 step_versions e es end of all is = own_versions e es end of all (own_of_step e es end is).1
 
--- one event more
+-- The releases of the list of these events are from files.
 abbrev pub OfList : Events → Type 0
 OfList events = (list : Releases) → list_after events ≡ Some list → AreFromFiles list
 
@@ -117,7 +117,7 @@ list_versions events e of all list is = go (list_after events) refl (sym (list_a
     go None after is = absurd cc
     go (Some es) after is = step_versions e es list of (all es after) is
 
--- and a store one of those of its list
+-- The releases of the list of events that a store holds are from files, where those of each list that it may have are.
 pub stored_versions : (s : StoreState) → HasVersionsAt (not_booted s) → (events : Events) (extent : Extent) → MayHoldEvents s events extent → OfList events
 stored_versions s all events extent has list is = all events list (may_have s events extent has) is
 

@@ -44,7 +44,7 @@ ReportsBootBehind why answer =
     (other : List ℕ) × (descr : Value) × (stale : List (List ℕ))
     × (answer ≡ installed_text other descr stale ++ boot_line why)
 
--- that a boot was refused so, by its line alone or after an installation's
+-- The answer reports that a boot was refused so, by the boot's line alone or after an installation's.
 abbrev pub ReportsBoot : BootError → List ℕ → Type 0
 ReportsBoot why answer = (answer ≡ boot_line why) ⊎ ReportsBootBehind why answer
 
@@ -61,7 +61,7 @@ IsMemoryLine line =
     ⊎ ((line ≡ boot_line boot_error.NoMemory)
     ⊎ ((n : ℕ) × (line ≡ refusal_line (must_reboot (failure n (fails no_memory)))))))
 
--- that memory was refused
+-- The answer reports that memory was refused.
 abbrev pub ReportsNoMemory : List ℕ → Type 0
 ReportsNoMemory answer = IsMemoryLine answer ⊎ ReportsBootBehind boot_error.NoMemory answer
 

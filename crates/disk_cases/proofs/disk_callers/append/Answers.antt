@@ -42,7 +42,7 @@ module _ {D : Type 0} (seen : D → List ℕ) (may_leave : D → List ℕ → Ty
     written : Elapses (moment old) (moment mid) (left_since old) (left_since mid) (may_leave mid) → Elapses (moment mid) (moment new) (left_since mid) (left_since new) (may_leave new) → LeavesOnly moment left_since old new Kept
     written first second = goes_on moment left_since old mid new Kept (may_leave new) (measured first) second kept
 
-    -- and synced
+    -- The bytes were written, or a part of them, and were synced after that.
     synced : (last : D) → Elapses (moment old) (moment mid) (left_since old) (left_since mid) (may_leave mid) → Elapses (moment mid) (moment new) (left_since mid) (left_since new) (may_leave new)
         → Within (may_leave new) (may_leave last) → Elapses (moment new) (moment last) (left_since new) (left_since last) (may_leave last) → LeavesOnly moment left_since old last Kept
     synced last first second within third = goes_on moment left_since old new last Kept (may_leave last) (written first second) third (λ c now. kept c (within c now))

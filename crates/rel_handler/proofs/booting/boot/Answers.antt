@@ -55,7 +55,7 @@ returns-in-Err-boot_record-clause-stored g c = λ s here.
     subst (KeepsStore g.D.Disk s c.args.disk) (sym c.into_disk.ensures)
     (inl (weakened g.D.Disk.moment g.D.Disk.left_since c.args.disk _ (g.D.Disk.may_leave c.args.disk) (IsCrashImageOf s) here c.in-Ok.ensures.opened.only_read.any_moment))
 
--- it can be finished
+-- The boot can be finished.
 pub finish-requires-clause-ready : goal.finish-requires-clause-ready
 finish-requires-clause-ready g c = ready_now g.D.Disk c.args.disk c.in-Ok.node c.in-Ok.ensures.opened c.in-Ok-boot_record.ensures.room
 

@@ -13,7 +13,7 @@ use Rattle.rel_handler.proofs.booting.boot_record.Goals as goal
 pub change_body-requires-clause-versions : goal.change_body-requires-clause-versions
 change_body-requires-clause-versions g c = make_versions c.args.node.now.store.format (records_in c.args.node.now.store) (list_in c.args.node.now) c.requires.makes
 
--- it doesn't fit
+-- The record of the boot doesn't fit.
 pub returns-then-not-fits-clause-refused : goal.returns-then-not-fits-clause-refused
 unfolding change_size
 returns-then-not-fits-clause-refused g c =
@@ -25,7 +25,7 @@ returns-then-not-fits-clause-refused g c =
       sym (length-map c.records.result.now _) ∙ ap (λ bodies. length bodies) c.records.ensures,
     )
 
--- it does
+-- The record of the boot fits.
 pub returns-clause-body : goal.returns-clause-body
 unfolding change_size
 returns-clause-body g c =

@@ -18,7 +18,7 @@ unreachable-requires g c =
     let h = c.args.node.now in
     one_is_permanent (list_in h) (sym (one-recorded (list_in h)) ∙ c.requires.ready.list.makes.1) (sym c.in_default.ensures)
 
--- there is no memory for its start
+-- There is no memory for the start of the permanent release.
 pub returns-in_err-start-clause-leaves : goal.returns-in_err-start-clause-leaves
 returns-in_err-start-clause-leaves g c = rests_so g.D.Disk c.args.node.now c.requires.ready (g.met.D.Disk.only_now _)
 
@@ -73,7 +73,7 @@ returns-then-right-clause-right g c = λ started.
     let t = c.in_ok-take_one_shot.ensures in
     alone_then g.D.Disk c.args.node.now c.starts.new.node c.requires.ready c.in_ok-right.ensures.read c.take_one_shot.new.node t.leaves g.met.D.Disk.counts_now (g.met.D.Disk.reads_an_image _) t.free t.others
 
--- it is another one, and is written
+-- The start record is another one, and is written.
 pub commit_start-requires-clause-versions : goal.commit_start-requires-clause-versions
 commit_start-requires-clause-versions g c =
     let h = c.args.node.now in

@@ -10,7 +10,7 @@ use Rattle.node_store.proofs.Commits.{failed_so, opened, read_nothing}
 use Rattle.rel_handler.proofs.OneShotLemmas.{booted_so, fits_reserved, leaves_others, taken, takes, takes_alone, takes_nothing}
 use Rattle.rel_handler.proofs.booting.take_one_shot.Goals as goal
 
--- there is none
+-- There is no one-shot.
 pub returns-in_default-clause-leaves : goal.returns-in_default-clause-leaves
 returns-in_default-clause-leaves g c =
     let h = c.args.node.now in
@@ -24,7 +24,7 @@ returns-in_default-clause-others g c =
 pub returns-in_default-clause-booted : goal.returns-in_default-clause-booted
 returns-in_default-clause-booted g c = booted_so g.D.Disk c.args.node.now c.requires.ready c.requires.recorded (rw c.in_default.is at c.requires.body)
 
--- there is no memory for its record
+-- There is no memory for the record of the boot.
 pub returns-then-is_err-clause-leaves : goal.returns-then-is_err-clause-leaves
 returns-then-is_err-clause-leaves g c = takes_nothing g.D.Disk c.args.node.now c.requires.ready (g.met.D.Disk.only_now _) (store.disk_in c.reserve.new.self) c.reserve.ensures.kept.disk
 

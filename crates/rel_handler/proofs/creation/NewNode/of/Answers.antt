@@ -26,7 +26,7 @@ made_body-requires-clause-libraries c =
     let own : map shared_of c.as_slice.result.now ≡ (brought_of c.args.brought).libraries = ap (map shared_of) c.as_slice.ensures.value ∙ ap (λ (q : Bundle). q.libraries) c.new_bundle-rel.ensures.bundle in
     subst CanBeCarried (sym own) c.requires.whole.carried
 
--- its record is that of what was brought
+-- The record of the new node is that of what was brought.
 pub returns-clause-body : goal.returns-clause-body
 returns-clause-body c =
     let b = brought_of c.args.brought in

@@ -63,7 +63,7 @@ of-requires-clause-versions g c = have_versions c.self.inside.node.store.format 
 pub make_room-requires-clause-works : goal.make_room-requires-clause-works
 make_room-requires-clause-works g c = ((rw (← c.self.view_is) at c.requires.sound).ready c.if-self.false).store.works
 
--- there is no room for its record and the next boot's
+-- There is no room for the record of the installation and that of the next boot.
 pub returns-in_err-make_room-clause-commits : goal.returns-in_err-make_room-clause-commits
 returns-in_err-make_room-clause-commits g c =
     rw (← c.self.view_is)
@@ -157,7 +157,7 @@ returns-in_err-commit_installation-clause-refused g c =
       c.in_err-commit_installation.ensures.lost,
     )))
 
--- it is done
+-- The installation is done.
 pub returns-clause-commits : goal.returns-clause-commits
 returns-clause-commits g c =
     rw (← c.self.view_is)

@@ -40,7 +40,7 @@ returns-in_err-vsn-clause-refused g c =
     (no_place g.D.Disk source c.args.path.now h b why c.if-self.false ((rw (← c.self.view_is) at c.requires).free c.if-self.false) c.in_ok-brought.ensures.small c.in_ok-brought.ensures.brought
     (unchanged g.D.Disk h (rw (← c.self.view_is) at c.requires) (g.met.D.Disk.only_now _) (unpacked (bundle_brought b)) (unpacked_size b h.list)) c.in_err-vsn.ensures.refused))
 
--- its files are refused
+-- The files of the release are refused.
 pub returns-in_err-brought-2-clause-refused : goal.returns-in_err-brought-2-clause-refused
 returns-in_err-brought-2-clause-refused g c =
     rw (← c.self.view_is)
@@ -103,7 +103,7 @@ returns-in_err-take_in-clause-refused g c =
       refused = c.in_err-take_in.ensures.refused;
     })))))
 
--- it was taken in
+-- The release was taken in.
 pub returns-clause-sound : goal.returns-clause-sound
 returns-clause-sound g c = c.in_ok-take_in.ensures.commits.sound
 
